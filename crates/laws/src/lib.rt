@@ -1,0 +1,1 @@
+// Facts that know nothing of this product stand in proofs/; this crate has no code of its own yet.

@@ -1,0 +1,48 @@
+-- Streams and the store (002, 1.2.1 and 1.2.2).
+-- The store is a list: a stream's id is its position, and executing a definition appends. So ids run up from 0 without gaps.
+use Prim.Native.Nat.{ℕ, zero, suc, _+_}
+use mathlib.Core.Bool.{Bool, true, false}
+use mathlib.Core.List.{List, [], _∷_, _++_, map}
+use mathlib.Core.Option.{Option}
+use lib.IntN.{ℤ, pos}
+use lib.ListN.{length, getElem?}
+
+-- a vector of integers, of booleans or of units
+pub data Stream : Type 0 where
+  ints : List ℤ → Stream
+  flags : List Bool → Stream
+  units : ℕ → Stream
+
+-- how many elements a stream has
+abbrev pub len : Stream → ℕ
+len (ints zs) = length zs
+len (flags bs) = length bs
+len (units n) = n
+
+-- 01, "Translation": F as 0, T as 1
+abbrev pub bit : Bool → ℤ
+bit false = pos 0
+bit true = pos 1
+
+-- how a stream stands in the stream buffer: a unit stream is only a length and takes no room
+abbrev pub elements : Stream → List ℤ
+elements (ints zs) = zs
+elements (flags bs) = map bit bs
+elements (units n) = []
+
+abbrev pub Store : Type 0
+Store = List Stream
+
+-- σ(s)
+infixl 60 _!_
+abbrev pub _!_ : Store → ℕ → Option Stream
+σ ! s = getElem? σ s
+
+-- the stream buffer's content: the streams one after another in id order
+unfoldable pub contents : Store → List ℤ
+contents [] = []
+contents (a ∷ σ) = elements a ++ contents σ
+
+-- 01, "Translation": room is the number of elements so held
+abbrev pub room : Store → ℕ
+room σ = length (contents σ)
