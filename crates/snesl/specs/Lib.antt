@@ -21,3 +21,5 @@ pub mod Listing
 pub mod Outcome
 pub mod Report
 pub mod Notation
+pub mod Formed
+pub mod Demands
