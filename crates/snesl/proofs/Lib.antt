@@ -1,1 +1,3 @@
+pub mod Compiled
+pub mod Bounded
 pub mod Table

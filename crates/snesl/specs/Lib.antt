@@ -8,6 +8,8 @@ pub mod Programs
 pub mod Machine
 pub mod Trees
 pub mod Translation
+pub mod Ids
+pub mod Bounded
 pub mod Charges
 pub mod Representation
 pub mod Limits

@@ -1,0 +1,6 @@
+-- What translation makes is well-formed code over known ids.
+pub mod Members
+pub mod Sequences
+pub mod Freshness
+pub mod WellFormed
+pub mod Scoped
