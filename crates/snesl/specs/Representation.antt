@@ -8,8 +8,8 @@ use lib.Dec.{eqb}
 use lib.IntN.{ℤ}
 use lib.ListN.{length, replicate, take, drop}
 use Rattle.snesl.specs.Values.{Val}
-use Rattle.snesl.specs.Streams.{Stream, ints, flags, Store, _!_}
-use Rattle.snesl.specs.Trees.{Tree, leaf, node, order, grow}
+use Rattle.snesl.specs.Streams.{Stream, ints, flags, elements, Store, _!_}
+use Rattle.snesl.specs.Trees.{Tree, leaf, node, order, mapTree, grow}
 use Rattle.snesl.specs.Transducers.{flagOf, misfit, countF, alone}
 
 unfoldable pub concat : {A : Type 0} → List (List A) → List A
@@ -25,6 +25,14 @@ segments (l ∷ ls) = replicate (length l) false ++ true ∷ segments ls
 unfoldable pub represent : (d : ℕ) → List (Val d) → Tree Stream d
 represent zero vs = leaf (ints vs)
 represent (suc d) vs = node (represent d (concat vs)) (flags (segments vs))
+
+-- a tree of streams as it stands in a stream buffer
+abbrev pub laid : {d : ℕ} → Tree Stream d → Tree (List ℤ) d
+laid t = mapTree elements t
+
+-- the d + 1 streams of one value, in tree order, as they stand in a stream buffer
+abbrev pub streamsOf : (d : ℕ) → Val d → List (List ℤ)
+streamsOf d v = order (laid (represent d (v ∷ [])))
 
 -- the streams that a tree names in a store are those of these values: vs ▷ σ(st)
 pub data Holds (σ : Store) : (d : ℕ) → Tree ℕ d → List (Val d) → Type 0 where

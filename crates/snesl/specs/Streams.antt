@@ -13,6 +13,19 @@ pub data Stream : Type 0 where
   flags : List Bool → Stream
   units : ℕ → Stream
 
+-- Notation 1.4, on streams of one kind. Where the kinds differ, which no rule of the paper meets, it is the first.
+infixr 45 _then_
+abbrev pub _then_ : Stream → Stream → Stream
+ints xs then ints ys = ints (xs ++ ys)
+ints xs then flags cs = ints xs
+ints xs then units m = ints xs
+flags bs then ints ys = flags bs
+flags bs then flags cs = flags (bs ++ cs)
+flags bs then units m = flags bs
+units n then ints ys = units n
+units n then flags cs = units n
+units n then units m = units (n + m)
+
 -- how many elements a stream has
 abbrev pub len : Stream → ℕ
 len (ints zs) = length zs

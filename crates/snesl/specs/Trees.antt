@@ -32,3 +32,8 @@ grow other zero [] = leaf other
 grow other zero (a ∷ l) = leaf a
 grow other (suc d) [] = node (grow other d []) other
 grow other (suc d) (a ∷ l) = node (grow other d l) a
+
+-- two trees of one depth, place by place
+unfoldable pub zipTree : {A B C : Type 0} {d : ℕ} → (A → B → C) → Tree A d → Tree B d → Tree C d
+zipTree f (leaf a) (leaf b) = leaf (f a b)
+zipTree f (node t a) (node u b) = node (zipTree f t u) (f a b)

@@ -1,0 +1,5 @@
+-- Values as streams and back.
+pub mod Segments
+pub mod Trees
+pub mod Representation
+pub mod StreamRows
