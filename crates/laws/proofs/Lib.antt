@@ -1,3 +1,3 @@
-pub mod Lists
 pub mod Options
+pub mod Lists
 pub mod Tests

@@ -1,10 +1,13 @@
--- Facts on lists that know nothing of the product and that the kit does not have.
+-- Facts about lists that the kit does not have: reading at a place, places of two lists joined, and maps.
 use Prim.Native.Nat.{ℕ, zero, suc, _+_}
+use native.Mathlib.Nat.{zero-add, suc-add}
 use native.Mathlib.Omega.{arith}
-use mathlib.Core.List.{List, [], _∷_, _++_}
-use mathlib.Core.Path.{_≡_, sym, ap, _∙_}
-use lib.ListN.{length, getD, drop}
+use mathlib.Core.List.{List, [], _∷_, _++_, map}
+use mathlib.Core.Option.{some}
+use mathlib.Core.Path.{_≡_, refl, sym, ap, _∙_}
+use lib.ListN.{length, getD, drop, getElem?, replicate}
 use lib.Seq.{drop-drop, drop-append-seam, getD-drop}
+use Rattle.laws.proofs.Options.{none-some}
 
 module _ {A : Type 0} where
   -- A read that does not give the default has met an element: the rest of the list begins with it.
@@ -19,3 +22,28 @@ module _ {A : Type 0} where
 
   pub drop-behind : (l : List A) (j : ℕ) (s u : List A) → drop j l ≡ s ++ u → drop (j + length s) l ≡ u
   drop-behind l j s u h = sym (drop-drop (length s) j l) ∙ ap (drop (length s)) h ∙ drop-append-seam s u
+
+  -- what the first list has at a place, the joined list has there too
+  pub getElem?-append-left : (l r : List A) (i : ℕ) {a : A} → getElem? l i ≡ some a → getElem? (l ++ r) i ≡ some a
+  getElem?-append-left [] r i h = none-some h
+  getElem?-append-left (x ∷ l) r zero h = h
+  getElem?-append-left (x ∷ l) r (suc i) h = getElem?-append-left l r i h
+
+  -- past the first list, the joined list has what the second has
+  pub getElem?-append-add : (l r : List A) (i : ℕ) → getElem? (l ++ r) (length l + i) ≡ getElem? r i
+  getElem?-append-add [] r i = rw zero-add
+  getElem?-append-add (x ∷ l) r i = rw suc-add (getElem?-append-add l r i)
+
+  -- at the seam stands the second list's first
+  pub getElem?-append-seam : (l : List A) (a : A) (r : List A) → getElem? (l ++ a ∷ r) (length l) ≡ some a
+  getElem?-append-seam [] a r = refl
+  getElem?-append-seam (x ∷ l) a r = getElem?-append-seam l a r
+
+  pub map-append : {B : Type 0} (f : A → B) (l r : List A) → map f (l ++ r) ≡ map f l ++ map f r
+  map-append f [] r = refl
+  map-append f (x ∷ l) r = ap (λ t. f x ∷ t) (map-append f l r)
+
+  -- one value at each place
+  pub map-const : {B : Type 0} (b : B) (l : List A) → map (λ (x : A). b) l ≡ replicate (length l) b
+  map-const b [] = refl
+  map-const b (x ∷ l) = ap (λ t. b ∷ t) (map-const b l)

@@ -1,7 +1,9 @@
 -- The theorems about the definitions; Statements has what each says.
 pub mod Compiled
 pub mod Bounded
+pub mod Correctness
 pub mod Representing
 pub mod Texts
+pub mod Formed
 pub mod Table
 pub mod Statements

@@ -1,2 +1,4 @@
--- Every theorem about the definitions, by its statement: open this first.
+-- Every theorem about the definitions, by its statement and in words: open these first.
+pub mod Correctness
+pub mod Compiled
 pub mod Representation

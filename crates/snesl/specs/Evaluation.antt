@@ -21,15 +21,15 @@ unfoldable pub counting : ℕ → ℕ → List ℤ
 counting k zero = []
 counting k (suc n) = pos k ∷ counting (suc k) n
 
--- iota(n) ↓ {0, 1, .., n-1} for n ≥ 0
-abbrev pub upTo : ℤ → Option (List ℤ)
-upTo (pos n) = some (counting 0 n)
-upTo (negsuc n) = none
-
 -- the values of all items, if each has one
 unfoldable pub allOf : {A B : Type 0} → (A → Option B) → List A → Option (List B)
 allOf f [] = some []
 allOf f (x ∷ xs) = andThen (f x) (λ b. andThen (allOf f xs) (λ bs. some (b ∷ bs)))
+
+-- iota(n) ↓ {0, 1, .., n-1} for n ≥ 0, each in range: for an n in range they all are
+abbrev pub upTo : ℤ → Option (List ℤ)
+upTo (pos n) = allOf within (counting 0 n)
+upTo (negsuc n) = none
 
 -- ρ ⊢ e ↓ v
 unfoldable pub eval : {Γ : List ℕ} {d : ℕ} → Term Γ d → All Val Γ → Option (Val d)

@@ -12,6 +12,8 @@ pub mod Ids
 pub mod Bounded
 pub mod Charges
 pub mod Representation
+pub mod Agreement
+pub mod SideCondition
 pub mod Limits
 pub mod Refusals
 pub mod Text

@@ -1,0 +1,20 @@
+-- Running a term's code gives what the rules give, for a list of environments at once, at the charges of document 01.
+pub mod Segments
+pub mod AllOf
+pub mod Exact
+pub mod Environments
+pub mod Reached
+pub mod Charged
+pub mod RunParts
+pub mod Grown
+pub mod Applied
+pub mod Leaves
+pub mod Iota
+pub mod Inside
+pub mod Skipping
+pub mod Comprehension
+pub mod Correct
+pub mod OneEnvironment
+pub mod Costs
+pub mod EmptyInputs
+pub mod Taken

@@ -1,0 +1,79 @@
+-- What each transducer answers in a store that holds its operands, and what it is charged.
+use Prim.Native.Nat.{ℕ, _+_}
+use native.Mathlib.Omega.{arith}
+use mathlib.Core.Path.{_≡_, refl}
+use mathlib.Core.List.{List, [], _∷_, map}
+use mathlib.Core.Option.{some, none}
+use lib.IntN.{ℤ, pos}
+use lib.ListN.{length}
+use borrow.Author.Tests.{eq-eqb}
+use Rattle.snesl.specs.declared.code.Transducer.the-variants.{ToFlags, Usum, MapTwoPlus, ScanPlus, Distr, SumPlus}
+use Rattle.snesl.specs.Streams.{Stream, ints, flags, units, len, Store, _!_}
+use Rattle.snesl.specs.Transducers.{apply, made, negative, unless, exact, firstNegative, unary, lengthMisfit, pluses, scans, sums}
+use Rattle.snesl.specs.Translation.{id}
+use Rattle.snesl.specs.Machine.{sumOf, workOf, fetch}
+use Rattle.snesl.specs.Representation.{concat, segments}
+use Rattle.snesl.proofs.Correctness.Segments.{segments-fit-alone, segments-fit-items, segments-fit-one, countF-segments, spread-segments}
+
+one-for-each : (n l m : ℕ) → l ≡ n → m ≡ n → lengthMisfit n l m ≡ none
+one-for-each n l m p q = rw (eq-eqb l n p, eq-eqb m n q, lengthMisfit)
+
+module _ (σ : Store) where
+  pub apply-usum : {A : Type 0} (ls : List (List A)) (n b : ℕ)
+      → length ls ≡ n
+      → σ ! b ≡ some (flags (segments ls))
+      → apply (Usum (id b)) n σ ≡ made (units (length (concat ls)))
+  unfolding apply
+  apply-usum ls n b p h = rw (h, ← p, segments-fit-alone ls 0, countF-segments ls)
+
+  pub apply-distr : {R A : Type 0} (f : R → List A) (g : R → ℤ) (rs : List R) (b u : ℕ)
+      → σ ! b ≡ some (flags (segments (map f rs)))
+      → σ ! u ≡ some (ints (map g rs))
+      → apply (Distr (id b) (id u)) (length rs) σ ≡ made (ints (concat (map (λ r. map (λ v. g r) (f r)) rs)))
+  unfolding apply
+  apply-distr f g rs b u h k = rw (h, k, segments-fit-one f g rs 0, spread-segments f g rs)
+
+  pub apply-plus : (xs ys : List ℤ) (n s t : ℕ)
+      → length xs ≡ n
+      → length ys ≡ n
+      → σ ! s ≡ some (ints xs)
+      → σ ! t ≡ some (ints ys)
+      → apply (MapTwoPlus (id s) (id t)) n σ ≡ exact (pluses 0 xs ys)
+  unfolding apply
+  apply-plus xs ys n s t p q h k = rw (h, k, one-for-each n (length xs) (length ys) p q)
+
+  pub apply-sum : (ls : List (List ℤ)) (n b s : ℕ)
+      → length ls ≡ n
+      → σ ! b ≡ some (flags (segments ls))
+      → σ ! s ≡ some (ints (concat ls))
+      → apply (SumPlus (id b) (id s)) n σ ≡ exact (sums some 0 (pos 0) (segments ls) (concat ls))
+  unfolding apply
+  apply-sum ls n b s p h k = rw (h, k, ← p, segments-fit-items ls (concat ls) 0 refl)
+
+  pub apply-scan : (ls : List (List ℤ)) (xs : List ℤ) (z : ℤ) (n b s : ℕ)
+      → length ls ≡ n
+      → length xs ≡ length (concat ls)
+      → σ ! b ≡ some (flags (segments ls))
+      → σ ! s ≡ some (ints xs)
+      → apply (ScanPlus z (id b) (id s)) n σ ≡ exact (scans some z 0 z (segments ls) xs)
+  unfolding apply
+  apply-scan ls xs z n b s p q h k = rw (h, k, ← p, segments-fit-items ls xs 0 q)
+
+  pub apply-toFlags : (zs : List ℤ) (n s : ℕ)
+      → length zs ≡ n
+      → σ ! s ≡ some (ints zs)
+      → apply (ToFlags (id s)) n σ ≡ unless (firstNegative 0 zs) negative (made (flags (unary zs)))
+  unfolding apply
+  apply-toFlags zs n s p h = rw (h, one-for-each n (length zs) (length zs) p p)
+
+  -- the elements read and the elements written
+  pub work-one : (s n : ℕ) {a : Stream} (o : Stream) → σ ! s ≡ some a → workOf n (fetch σ (s ∷ [])) o ≡ len a + len o
+  unfolding sumOf
+  work-one s n {a} o h = rw h (omega arith)
+
+  pub work-two : (s t n : ℕ) {a b : Stream} (o : Stream)
+      → σ ! s ≡ some a
+      → σ ! t ≡ some b
+      → workOf n (fetch σ (s ∷ t ∷ [])) o ≡ len a + len b + len o
+  unfolding sumOf
+  work-two s t n {a} {b} o h k = rw (h, k) (omega arith)
