@@ -1,1 +1,2 @@
-// Facts that know nothing of this product stand in proofs/; this crate has no code of its own yet.
+// What knows nothing of this product: leaf functions on single numbers. Laws on lists, parts of a buffer and whole numbers stand in proofs/.
+pub mod range;

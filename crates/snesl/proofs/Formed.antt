@@ -113,7 +113,7 @@ module _ (t : List ℕ) {l k : ℕ} {Γ : List ℕ} (scope : All Name Γ) where
     where
       go : (f : Found Γ) → find x scope ≡ f
           → Spelt t (suc l) k scope (k + 3)
-            (elim f [ missing ↦ Typed.refused (Unbound k) | found d v ↦ typed d (terms.var v) ])
+          (elim f [ missing ↦ Typed.refused (Unbound k) | found d v ↦ typed d (terms.var v) ])
       go missing e = record { told = tt }
       go (found d v) e = record { told = formed-var h e }
 
@@ -166,9 +166,9 @@ module _ (t : List ℕ) {l k : ℕ} {Γ : List ℕ} (scope : All Name Γ) where
   spelt-each {x = x} {y = y} {us = us} e h s =
       let Listing = List (Variable × (Γ ∋ 0)) in
       let shut : (c : ℕ) → (Γ ∋ suc c) → (ls : Listing) → (d : ℕ) → Term (c ∷ listedTypes (pointers ls)) d → Typed Γ =
-              λ c v ls d f. typed (suc d) (terms.each v (pointers ls) f) in
+      λ c v ls d f. typed (suc d) (terms.each v (pointers ls) f) in
       let whole : (c : ℕ) → (Γ ∋ suc c) → (ls : Listing) → (d : ℕ) → Term (c ∷ listedTypes (pointers ls)) d → Typed Γ =
-              λ c v ls d f. demand (ltb d mostDepth) (WrongType k) (shut c v ls d f) in
+      λ c v ls d f. demand (ltb d mostDepth) (WrongType k) (shut c v ls d f) in
       let body : (c : ℕ) → (Γ ∋ suc c) → Listing → Typed Γ = λ c v ls. typedThen (check (x ▹ listedNames ls) e) (whole c v ls) in
       let over : (c : ℕ) → (Γ ∋ suc c) → Typed Γ = λ c v. typedIf k (listedInts scope us) (body c v) in
       demanded (isBound (find y scope) && usable scope x us) (Unbound k) (typedSequence k (asSequence (find y scope)) over)
@@ -256,6 +256,7 @@ module _ (t : List ℕ) (l : ℕ) (ih : Reads t l) (k n : ℕ) {Γ : List ℕ} (
           → Spelt t (suc l) k scope next (check scope e)
       go₂ e₁ k₁ n₁ q₁ (onward e₂ k₂ n₂ q₂ z) =
           moved (cc) (cc) (spelt-bind t scope e₁ e₂ h (ih .reads (k + 3) (n + 1) scope q₁) (λ c. ih .reads k₁ n₁ (x ▹ scope) q₂))
+
       go₁ : Onward (scan l t (k + 3) (n + 1)) (λ e₁ k₁ n₁. thenScan (scan l t k₁ n₁) (λ e₂ k₂ n₂. scanned (bind k x e₁ e₂) k₂ n₂)) (scanned e next m)
           → Spelt t (suc l) k scope next (check scope e)
       go₁ (onward e₁ k₁ n₁ q₁ z) = go₂ e₁ k₁ n₁ q₁ (scannedThen (scan l t k₁ n₁) (λ e₂ k₂ n₂. scanned (bind k x e₁ e₂) k₂ n₂) z)
@@ -358,9 +359,11 @@ module _ (t : List ℕ) {is : List Input} {k : ℕ} {e : Raw} {next : ℕ} where
       scans is′ k′ (scanned e′ next′ n) short qi qs q =
           let same : k′ ≡ k = cc in
           record { short = short; inputs = cc; records = n; expression = ap (λ j. scan (suc mostNesting) t j 0) (sym same) ∙ cc }
+
       declares : (ds : Declared) → length t ≤ mostBytes → inputsAt mostInputs t 0 ≡ ds → inputsThen t ds ≡ front is k e next → FrontRead t is k e next
       declares (Declared.refused r) short qi q = let z : _≡_ {A = ℕ} 0 1 = cc in absurd (omega arith)
       declares (declared is′ k′) short qi q = scans is′ k′ (scan (suc mostNesting) t k′ 0) short qi refl q
+
       go : (b : Bool) → leb (length t) mostBytes ≡ b
           → elim b [ true ↦ inputsThen t (inputsAt mostInputs t 0) | false ↦ Front.refused TooLong ] ≡ front is k e next
           → FrontRead t is k e next
@@ -383,6 +386,7 @@ module _ (t : List ℕ) {is : List Input} {k : ℕ} {e : Raw} {next : ℕ} where
           let same : next′ ≡ next = cc in
           record { read = front-read t (qf ∙ q); end = sym same ∙ eqb-true next′ (length t) qb }
       ends is′ k′ e′ next′ false qf qb q = let z : _≡_ {A = ℕ} 0 1 = cc in absurd (omega arith)
+
       fronts : (f : Front) → frontOf t ≡ f → formulaEnd t f ≡ front is k e next → FormulaRead t is k e next
       fronts (Front.refused r) qf q = let z : _≡_ {A = ℕ} 0 1 = cc in absurd (omega arith)
       fronts (front is′ k′ e′ next′) qf q = ends is′ k′ e′ next′ (eqb next′ (length t)) qf refl q
@@ -400,11 +404,13 @@ module _ (t : List ℕ) {is : List Input} {k : ℕ} {e : Raw} {next : ℕ} where
           let d : next′ ≡ next = cc in
           front-read t (qf ∙ (λ i. front (a i) (b i) (c i) (d i)))
       ends is′ k′ e′ next′ end ss′ false qf q = let z : _≡_ {A = ℕ} 0 1 = cc in absurd (omega arith)
+
       spelled : (is′ : List Input) (k′ : ℕ) (e′ : Raw) (next′ : ℕ) (x : Texts) → frontOf t ≡ front is′ k′ e′ next′
           → textsThen t is′ k′ e′ next′ x ≡ job is k e next ss
           → FrontRead t is k e next
       spelled is′ k′ e′ next′ (Texts.refused r) qf q = let z : _≡_ {A = ℕ} 0 1 = cc in absurd (omega arith)
       spelled is′ k′ e′ next′ (texts ss′ end) qf q = ends is′ k′ e′ next′ end ss′ (eqb end (length t)) qf q
+
       fronts : (f : Front) → frontOf t ≡ f → jobEnd t f ≡ job is k e next ss → FrontRead t is k e next
       fronts (Front.refused r) qf q = let z : _≡_ {A = ℕ} 0 1 = cc in absurd (omega arith)
       fronts (front is′ k′ e′ next′) qf q = spelled is′ k′ e′ next′ (textsAt (length is′) t next′) qf q
