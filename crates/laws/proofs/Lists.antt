@@ -39,10 +39,6 @@ module _ {A : Type 0} where
   getElem?-append-seam [] a r = refl
   getElem?-append-seam (x ∷ l) a r = getElem?-append-seam l a r
 
-  pub map-append : {B : Type 0} (f : A → B) (l r : List A) → map f (l ++ r) ≡ map f l ++ map f r
-  map-append f [] r = refl
-  map-append f (x ∷ l) r = ap (λ t. f x ∷ t) (map-append f l r)
-
   -- one value at each place
   pub map-const : {B : Type 0} (b : B) (l : List A) → map (λ (x : A). b) l ≡ replicate (length l) b
   map-const b [] = refl

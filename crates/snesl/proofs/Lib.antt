@@ -5,5 +5,6 @@ pub mod Correctness
 pub mod Representing
 pub mod Texts
 pub mod Formed
+pub mod Jobs
 pub mod Table
 pub mod Statements

@@ -2,3 +2,4 @@
 pub mod Correctness
 pub mod Compiled
 pub mod Representation
+pub mod Jobs

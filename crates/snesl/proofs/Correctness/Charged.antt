@@ -2,11 +2,10 @@
 use Prim.Native.Nat.{ℕ, suc, _+_, _*_}
 use native.Mathlib.Omega.{arith}
 use mathlib.Core.Path.{_≡_, refl, ap, _∙_, sym}
-use mathlib.Core.List.{List, [], _∷_, _++_, map, map-map, zipWith}
+use mathlib.Core.List.{List, [], _∷_, _++_, map, map-map, zipWith, map-append}
 use mathlib.Core.Option.{some}
 use lib.IntN.{ℤ}
 use lib.ListN.{length, length-append}
-use Rattle.laws.proofs.Lists.{map-append}
 use Rattle.snesl.specs.Values.{Val}
 use Rattle.snesl.specs.Terms.{_∋_, Term, var, bind, const, iota, plus, sum, each, listedTypes, All, _▹_, lookup, listed}
 use Rattle.snesl.specs.Evaluation.{eval}

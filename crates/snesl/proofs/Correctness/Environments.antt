@@ -2,9 +2,8 @@
 -- for each item. A list of environments stays a list of environments: the items' environments stand one after another, over all lists.
 use Prim.Native.Nat.{ℕ, suc}
 use mathlib.Core.Path.{_≡_, refl, ap, ap₂, _∙_, sym}
-use mathlib.Core.List.{List, [], _∷_, _++_, map, zipWith, map-map}
+use mathlib.Core.List.{List, [], _∷_, _++_, map, zipWith, map-map, map-append}
 use lib.ListN.{length, length-map}
-use Rattle.laws.proofs.Lists.{map-append}
 use Rattle.snesl.specs.Values.{Val}
 use Rattle.snesl.specs.Terms.{_∋_, Term, listedTypes, All, _▹_, lookup, listed, here, there}
 use Rattle.snesl.specs.Evaluation.{eval}

@@ -1,0 +1,104 @@
+-- What is proved of a whole job: where its inputs stand, what each outcome promises, and which outcome it has.
+use Prim.Native.Nat.{ℕ, suc, _+_, _≤_, _<_}
+use mathlib.Core.List.{List, [], _∷_}
+use mathlib.Core.Logic.{_⊎_, _↔_}
+use mathlib.Core.Option.{some, none}
+use mathlib.Core.Path.{_≡_}
+use lib.IntN.{ℤ}
+use lib.ListN.{length, take}
+use Rattle.snesl.specs.declared.refusal.Refusal.the-variants.{NoValue, NoRoom, NoAnswerRoom}
+use Rattle.snesl.specs.Limits.{usedOf}
+use Rattle.snesl.specs.Values.{Val}
+use Rattle.snesl.specs.Terms.{Term, All, ∅}
+use Rattle.snesl.specs.Evaluation.{eval}
+use Rattle.snesl.specs.Charges.{charge, reached, countTrue}
+use Rattle.snesl.specs.Streams.{Store, room}
+use Rattle.snesl.specs.Programs.{WellFormed, Scoped}
+use Rattle.snesl.specs.Translation.{code}
+use Rattle.snesl.specs.Agreement.{Agrees}
+use Rattle.snesl.specs.Ids.{idsOf, Below}
+use Rattle.snesl.specs.Bounded.{Passes}
+use Rattle.snesl.specs.Text.{show}
+use Rattle.snesl.specs.Checking.{turnedOnto, turned, depths}
+use Rattle.snesl.specs.Inputs.{inputTrees, inputStart, inputStreams, inputOver}
+use Rattle.snesl.specs.Outcome.{refusal, value, loaded, outcome}
+use Rattle.snesl.specs.Demands.{Accepted, environment, Demands}
+use Rattle.snesl.proofs.Jobs.InputStreams as InputStreams
+use Rattle.snesl.proofs.Jobs.InputRoom as InputRoom
+use Rattle.snesl.proofs.Jobs.Demands as Keeping
+use Rattle.snesl.proofs.Jobs.Exactly as Exactly
+
+-- 1. The inputs. Their streams are those of the ids below the code's first one, and in them each input's tree holds its value: so correctness holds of a
+-- job's code behind its inputs.
+pub inputs-take-the-first-ids : {ds : List ℕ} (vs : All Val ds) → length (inputStreams vs) ≡ inputStart ds
+inputs-take-the-first-ids = InputStreams.length-inputs
+
+pub inputs-hold-their-values : {ds : List ℕ} (vs : All Val ds) → Agrees (inputStreams vs) (turned ∅ (inputTrees 0 ds)) (turned ∅ vs ∷ [])
+inputs-hold-their-values = InputStreams.inputs-agree
+
+pub input-ids-lie-below : (ds : List ℕ) → Below (inputStart ds) (idsOf (turned ∅ (inputTrees 0 ds)))
+input-ids-lie-below = InputStreams.inputs-below
+
+-- A job's code is well-formed, and every id that it uses is known where it is used.
+pub job-code-is-well-formed : {d : ℕ} (ds : List ℕ) (e : Term (turnedOnto [] ds) d)
+    → WellFormed (inputStart ds) (code e (turned ∅ (inputTrees 0 ds)) (inputStart ds))
+job-code-is-well-formed = InputStreams.job-well-formed
+
+pub job-ids-are-known : {d : ℕ} (ds : List ℕ) (e : Term (turnedOnto [] ds) d)
+    → Scoped (idsOf (turned ∅ (inputTrees 0 ds))) (inputStart ds) (code e (turned ∅ (inputTrees 0 ds)) (inputStart ds))
+job-ids-are-known = InputStreams.job-scoped
+
+-- 2. Their room. No input is over exactly if all fit in the buffer;
+pub no-input-is-over-if-all-fit : {ds : List ℕ} (cap : ℕ) (vs : All Val ds) → (inputOver cap 0 0 vs ≡ none) ↔ (room (inputStreams vs) ≤ cap)
+no-input-is-over-if-all-fit = InputRoom.none-over
+
+-- and s is told exactly if it is the first id of an input, number i, with which the room passes the buffer, and with those before it does not.
+pub the-first-input-over : {ds : List ℕ} (cap s : ℕ) (vs : All Val ds)
+    → (inputOver cap 0 0 vs ≡ some s)
+    ↔ ((i : ℕ)
+    × (i < length ds)
+    × (s ≡ inputStart (take i ds))
+    × (room (take s (inputStreams vs)) ≤ cap)
+    × (cap < room (take (inputStart (take (suc i) ds)) (inputStreams vs))))
+the-first-input-over = InputRoom.some-over
+
+-- 3. The demands (specs/Demands.antt), for every job and whatever is lent. A value is the one that the rules give, its text is the answer, the streams held
+-- represent it, work and steps are the charges; 8 is given only where the rules give no value, and 10 only where the value's text is too long.
+pub every-outcome-keeps-the-demands : (t : List ℕ) (lent answerLent : ℕ) → Demands t answerLent (outcome t lent answerLent)
+every-outcome-keeps-the-demands = Keeping.demands
+
+-- 4. A job that meets none of 1 to 7 and no 9 is refused by 8 exactly if the rules give it no value;
+module _ {t : List ℕ} (a : Accepted t) (lent answerLent : ℕ) where
+  pub eight-exactly-without-a-value : ((s : ℕ) → outcome t lent answerLent ≡ refusal (NoRoom s) → ⊥)
+      → ((s : ℕ) × (outcome t lent answerLent ≡ refusal (NoValue s))) ↔ (eval (a .term) (environment a) ≡ none)
+  eight-exactly-without-a-value = Exactly.eight-exactly a lent answerLent
+
+  -- and where they give one, it is answered with its text and its charges, or refused by 10 with the text's length where that is more than is lent.
+  pub a-value-is-answered : {v : Val (a .depth)} → ((s : ℕ) → outcome t lent answerLent ≡ refusal (NoRoom s) → ⊥)
+      → eval (a .term) (environment a) ≡ some v
+      → ((length (show (a .depth) v) ≤ answerLent)
+      × (r : ℕ)
+      × (held : List ℤ)
+      × (outcome t lent answerLent
+      ≡ value (show (a .depth) v) (charge (a .term) (environment a)) (countTrue (reached (a .term) (environment a))) r held))
+      ⊎ ((answerLent < length (show (a .depth) v)) × (outcome t lent answerLent ≡ refusal (NoAnswerRoom (length (show (a .depth) v)))))
+  a-value-is-answered = Exactly.value-exactly a lent answerLent
+
+  -- 5. It is refused by 9 at s exactly if s is told of its inputs; or none is, and its boundless run passes a store whose last stream is s and whose room is
+  -- above the used part of the buffer, with the room before within it.
+  pub nine-exactly-where-room-passes : (s : ℕ)
+      → (outcome t lent answerLent ≡ refusal (NoRoom s))
+      ↔ ((inputOver (usedOf lent) 0 0 (a .given) ≡ some s)
+      ⊎ ((inputOver (usedOf lent) 0 0 (a .given) ≡ none)
+      × ((τ : Store)
+      × Passes (code (a .term) (turned ∅ (inputTrees 0 (depths (a .inputs)))) (inputStart (depths (a .inputs)))) 1 (loaded (a .given)) τ
+      × (length τ ≡ s + 1)
+      × (usedOf lent < room τ)
+      × (room (take s τ) ≤ usedOf lent))))
+  nine-exactly-where-room-passes = Exactly.nine-exactly a lent answerLent
+
+-- A value's room is how much is held, and lies within the used part of the buffer.
+pub a-value's-room-fits : (t : List ℕ) (lent answerLent : ℕ) {text : List ℕ} {work steps r : ℕ} {held : List ℤ}
+    → outcome t lent answerLent ≡ value text work steps r held
+    → (r ≤ usedOf lent) × (length held ≡ r)
+a-value's-room-fits = Exactly.value-fits
