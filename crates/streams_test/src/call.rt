@@ -49,12 +49,12 @@ fn call(
 {
     match kind {
         0 => streams::constant(buf, out, n, z),
-        1 => streams::to_flags(buf, out, n, at1, len1),
+        1 => itemwise::to_flags(buf, out, n, at1, len1),
         2 => streams::usum(buf, n, at1, len1),
-        3 => streams::map_two_plus(buf, out, n, at1, len1, at2, len2),
-        4 => streams::scan_plus(buf, out, n, z, at1, len1, at2, len2),
-        5 => streams::distr(buf, out, n, at1, len1, at2, len2),
-        _ => streams::sum_plus(buf, out, n, at1, len1, at2, len2),
+        3 => itemwise::map_two_plus(buf, out, n, at1, len1, at2, len2),
+        4 => segmentwise::scan_plus(buf, out, n, z, at1, len1, at2, len2),
+        5 => segmentwise::distr(buf, out, n, at1, len1, at2, len2),
+        _ => segmentwise::sum_plus(buf, out, n, at1, len1, at2, len2),
     }
 }
 

@@ -1,0 +1,2 @@
+-- What both share: one item for each unit.
+pub mod Lengths
