@@ -1,0 +1,8 @@
+pub mod Scopes
+pub mod Listing
+pub mod Turning
+pub mod Walking
+pub mod Walks
+pub mod Judging
+pub mod Entering
+pub mod Checks

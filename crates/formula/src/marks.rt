@@ -1,0 +1,19 @@
+// The two-byte mark that starts each record (document 01, "The formula and the job"), as one number: its first letter times 256 plus its second.
+// specs/ compares with snesl's marks, so a wrong number here is refused where it is used.
+pub const IN: u16 = 18_766;
+
+pub const VA: u16 = 22_081;
+
+pub const VR: u16 = 22_098;
+
+pub const LT: u16 = 19_540;
+
+pub const KN: u16 = 19_278;
+
+pub const IO: u16 = 18_767;
+
+pub const PL: u16 = 20_556;
+
+pub const SM: u16 = 21_325;
+
+pub const EA: u16 = 17_729;

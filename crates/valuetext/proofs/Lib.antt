@@ -1,0 +1,17 @@
+pub mod Parts
+pub mod Stores
+pub mod NumberText
+pub mod NumberWriting
+pub mod IntText
+pub mod Laying
+pub mod ReadingSteps
+pub mod ReadingAt
+pub mod Counting
+pub mod Represented
+pub mod StoringSteps
+pub mod FittingSteps
+pub mod Standing
+pub mod TextLength
+pub mod WritingSteps
+pub mod WritingAt
+pub mod RenderingSteps

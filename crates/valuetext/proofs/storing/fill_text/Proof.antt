@@ -1,0 +1,39 @@
+-- The cursors start where the streams do.
+use native.Mathlib.Omega.{arith}
+use Rattle.valuetext.proofs.StoringSteps.{fill-starts, fill-ready, filled}
+use borrow.Author.Needs.{needs}
+use Rattle.valuetext.proofs.storing.fill_text.Statement.{statement}
+use Rattle.valuetext.proofs.storing.fill_text.Tie as tie
+
+add-starts : tie.Need-add-starts
+add-starts c = search needs
+
+slice-aggregate-starts : tie.Need-slice-aggregate-starts
+slice-aggregate-starts c = search needs
+
+starts-requires : tie.Need-starts-requires
+starts-requires c κs = fill-starts (c .before .before .before .pre) (omega (arith, c .before .before .before .good .1 .1 .1 .1 .0 .1))
+
+slice-aggregate-read-item : tie.Need-slice-aggregate-read-item
+slice-aggregate-read-item c = search needs
+
+read-item-requires : tie.Need-read-item-requires
+read-item-requires c κs = fill-ready (c .before .before .before .before .before .before .before .pre) (c .before .before .before .starts .last .1 .1 .1 .0) (c .before .before .before .starts .ensures) (c .before .before .before .starts .kept .1 .1 .1 .0) (omega (arith, c .before .before .before .before .before .before .before .good .0 .1)) (omega (arith, c .before .before .before .before .before .before .before .good .1 .1 .1 .1 .0 .1))
+
+same-length : tie.Need-same-length
+same-length c = search needs
+
+returns : tie.Need-returns
+returns c = filled (c .before .before .before .before .before .before .before .before .before .before .pre) (c .before .before .before .before .before .before .starts .last .1 .1 .1 .0) (c .before .before .before .before .before .before .starts .ensures) (c .before .before .read-item .ensures)
+
+pub fill-text-spec : {M : Type 1} → statement M
+fill-text-spec =
+    tie.close
+    (tie.spec
+    add-starts
+    slice-aggregate-starts
+    starts-requires
+    slice-aggregate-read-item
+    read-item-requires
+    same-length
+    returns)

@@ -1,0 +1,85 @@
+-- Measured, then filled and its lengths copied, or refused in the order of the document.
+use mathlib.Core.Path.{sym, _∙_}
+use native.Mathlib.Omega.{arith}
+use lib.ListN.{replicate}
+use Rattle.valuetext.proofs.StoringSteps.{over-limit, no-value, over-all, no-elements, no-lengths, fillable, stored}
+use borrow.Author.Needs.{needs}
+use Rattle.valuetext.proofs.storing.text_to_streams.Statement.{statement}
+use Rattle.valuetext.proofs.storing.text_to_streams.Tie as tie
+
+returns : tie.Need-returns
+returns c = over-limit (c .before .before .before .args .text .now) (c .before .before .before .args .depth) (c .before .before .before .args .elements .now) (c .before .before .before .args .lengths .now) (c .if1 .taken) .meets
+
+slice-aggregate-measure-text : tie.Need-slice-aggregate-measure-text
+slice-aggregate-measure-text c = search needs
+
+measure-text-requires : tie.Need-measure-text-requires
+measure-text-requires c κs = search needs
+
+enum-known-sum : tie.Need-enum-known-sum
+enum-known-sum c = search needs
+
+add-levels : tie.Need-add-levels
+add-levels c = search needs
+
+returns-2 : tie.Need-returns-2
+returns-2 c = no-elements (c .before .before .before .before .before .before .before .before .before .before .args .text .now) (c .before .before .before .before .before .before .before .before .before .before .args .depth) (c .before .before .before .before .before .before .before .before .before .before .args .elements .now) (c .before .before .before .before .before .before .before .before .before .before .args .lengths .now) (c .before .before .before .before .before .before .before .if1 .left) (sym (c .before .before .sum .given .1) ∙ c .before .before .before .before .before .measure-text .ensures .0) (c .if2 .taken) .meets
+
+returns-3 : tie.Need-returns-3
+returns-3 c = no-lengths (c .before .before .before .before .before .before .before .before .before .before .before .args .text .now) (c .before .before .before .before .before .before .before .before .before .before .before .args .depth) (c .before .before .before .before .before .before .before .before .before .before .before .args .elements .now) (c .before .before .before .before .before .before .before .before .before .before .before .args .lengths .now) (c .before .before .before .before .before .before .before .before .if1 .left) (sym (c .before .before .before .sum .given .1) ∙ c .before .before .before .before .before .before .measure-text .ensures .0) (c .if3 .taken) .meets
+
+slice-aggregate-fill-text : tie.Need-slice-aggregate-fill-text
+slice-aggregate-fill-text c = search needs
+
+fill-text-requires : tie.Need-fill-text-requires
+fill-text-requires c κs = fillable (c .before .before .before .before .before .before .before .before .before .before .before .before .before .args .text .now) (c .before .before .before .before .before .before .before .before .before .before .before .before .before .args .depth) (c .before .before .before .before .before .before .before .before .before .before .before .before .before .args .elements .now) (c .before .before .before .before .before .before .before .before .before .before .before .before .before .args .lengths .now) (c .before .before .before .before .before .before .before .before .before .before .if1 .left) (sym (c .before .before .before .before .before .sum .given .1) ∙ c .before .before .before .before .before .before .before .before .measure-text .ensures .0) (replicate 9 0) (c .before .before .before .before .before .before .before .before .measure-text .ensures .1) (c .before .before .before .if2 .left)
+
+slice-aggregate-copy : tie.Need-slice-aggregate-copy
+slice-aggregate-copy c = search needs
+
+copy-requires : tie.Need-copy-requires
+copy-requires c κs = search needs
+
+enum-told : tie.Need-enum-told
+enum-told c = search needs
+
+enum-told-2 : tie.Need-enum-told-2
+enum-told-2 c = search needs
+
+same-length : tie.Need-same-length
+same-length c = search needs
+
+same-length-2 : tie.Need-same-length-2
+same-length-2 c = search needs
+
+returns-4 : tie.Need-returns-4
+returns-4 c = stored (c .before .before .before .before .before .before .before .before .before .before .before .before .before .before .before .before .before .before .before .before .args .text .now) (c .before .before .before .before .before .before .before .before .before .before .before .before .before .before .before .before .before .before .before .before .args .depth) (c .before .before .before .before .before .before .before .before .before .before .before .before .before .before .before .before .before .before .before .before .args .elements .now) (c .before .before .before .before .before .before .before .before .before .before .before .before .before .before .before .before .before .before .before .before .args .lengths .now) (c .before .before .before .before .before .before .before .before .before .before .before .before .before .before .before .before .before .if1 .left) (sym (c .before .before .before .before .before .before .before .before .before .before .before .before .sum .given .1) ∙ c .before .before .before .before .before .before .before .before .before .before .before .before .before .before .before .measure-text .ensures .0) (replicate 9 0) (c .before .before .before .before .before .before .before .before .before .before .before .before .before .before .before .measure-text .ensures .1) (c .before .before .before .before .before .before .before .before .before .before .if2 .left) (c .before .before .before .before .before .before .before .before .before .if3 .left) (c .before .before .before .before .before .before .fill-text .ensures) (c .before .before .copy .ensures) .meets
+
+returns-5 : tie.Need-returns-5
+returns-5 c = over-all (c .before .before .before .before .before .before .before .before .args .text .now) (c .before .before .before .before .before .before .before .before .args .depth) (c .before .before .before .before .before .before .before .before .args .elements .now) (c .before .before .before .before .before .before .before .before .args .lengths .now) (c .before .before .before .before .before .if1 .left) (sym (c .enum-told .given .1) ∙ c .before .before .before .measure-text .ensures .0) .meets
+
+returns-6 : tie.Need-returns-6
+returns-6 c = no-value (c .before .before .before .before .before .before .before .before .args .text .now) (c .before .before .before .before .before .before .before .before .args .depth) (c .before .before .before .before .before .before .before .before .args .elements .now) (c .before .before .before .before .before .before .before .before .args .lengths .now) (c .before .before .before .before .before .if1 .left) (sym (c .enum-told2 .given .1) ∙ c .before .before .before .measure-text .ensures .0) .meets
+
+pub text-to-streams-spec : {M : Type 1} → statement M
+text-to-streams-spec =
+    tie.close
+    (tie.spec
+    returns
+    slice-aggregate-measure-text
+    measure-text-requires
+    enum-known-sum
+    add-levels
+    returns-2
+    returns-3
+    slice-aggregate-fill-text
+    fill-text-requires
+    slice-aggregate-copy
+    copy-requires
+    enum-told
+    enum-told-2
+    same-length
+    same-length-2
+    returns-4
+    returns-5
+    returns-6)

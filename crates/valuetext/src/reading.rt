@@ -1,0 +1,130 @@
+// Reading a value's text: whether it is one, how many elements each of its streams has, and, where elements are lent, the streams themselves.
+// Each level of the value has a cursor, at which its stream grows: 0 is the data, and the depth is the outermost flags.
+use crate::numbers::ReadInt;
+use crate::numbers::byte_at;
+use crate::numbers::read_int;
+ghost use Prim.Native.Nat.{_+_, _≤_, _<_, _^_};
+ghost use mathlib.Core.Path.{_≡_};
+ghost use lib.ListN.{length, getD, set};
+ghost use Rattle.valuetext.specs.Reading.{openingAt, afterAt, Ready, ReadAs};
+
+// What a reader took of the text, from its first byte on.
+pub enum Taken {
+    Bytes(usize),
+    No,
+}
+
+// How a text begins: with an empty list, with a list that has items, or with none.
+pub enum Opening {
+    Empty,
+    Items,
+    No,
+}
+
+// What stands behind an item.
+pub enum After {
+    Comma,
+    Close,
+    Else,
+}
+
+// One element more for a level's stream. A place past the lent elements is only counted.
+fn append(elements: &mut [i32], cursors: &mut [usize], level: usize, z: i32)
+    requires { ⌜ (level < length (now cursors)) × (getD (now cursors) level 0 + 1 < 2 ^ 64) ⌝ }
+    ensures { λ r. ⌜ now (elements .exit) ≡ set (now (elements .entry)) (getD (now (cursors .entry)) level 0) z ⌝ }
+    ensures { λ r. ⌜ now (cursors .exit) ≡ set (now (cursors .entry)) level (getD (now (cursors .entry)) level 0 + 1) ⌝ }
+{
+    let at = cursors[level];
+    cursors[level] = at + 1;
+    if at >= elements.len() {
+        return;
+    }
+    elements[at] = z;
+}
+
+fn opening_of(text: &[u8]) -> Opening
+    ensures { λ r. ⌜ r ≡ openingAt (now (text .entry)) ⌝ }
+{
+    if byte_at(text, 0) != 123 {
+        return Opening::No;
+    }
+    if byte_at(text, 1) == 125 {
+        return Opening::Empty;
+    }
+    Opening::Items
+}
+
+fn what_follows(text: &[u8], at: usize) -> After
+    ensures { λ r. ⌜ r ≡ afterAt (now (text .entry)) at ⌝ }
+{
+    let b = byte_at(text, at);
+    if b == 44 {
+        return After::Comma;
+    }
+    if b == 125 {
+        return After::Close;
+    }
+    After::Else
+}
+
+fn read_leaf(text: &[u8], elements: &mut [i32], cursors: &mut [usize]) -> Taken
+    requires { ⌜ Ready 0 (now text) (now elements) (now cursors) ⌝ }
+    ensures { λ r. ⌜ ReadAs 0 (now (text .entry)) (now (elements .entry)) (now (elements .exit)) (now (cursors .entry)) (now (cursors .exit)) r ⌝ }
+{
+    match read_int(text) {
+        ReadInt::Int(z, k) => {
+            append(elements, cursors, 0, z);
+            Taken::Bytes(k)
+        }
+        ReadInt::No => Taken::No,
+    }
+}
+
+// An item, from the text's first byte on: an int, or a list.
+pub fn read_item(text: &[u8], depth: u8, elements: &mut [i32], cursors: &mut [usize]) -> Taken
+    requires { ⌜ Ready depth (now text) (now elements) (now cursors) ⌝ }
+    ensures { λ r. ⌜ ReadAs depth (now (text .entry)) (now (elements .entry)) (now (elements .exit)) (now (cursors .entry)) (now (cursors .exit)) r ⌝ }
+{
+    if depth == 0 {
+        return read_leaf(text, elements, cursors);
+    }
+    match opening_of(text) {
+        Opening::Empty => {
+            append(elements, cursors, depth as usize, 1);
+            Taken::Bytes(2)
+        }
+        Opening::Items => read_list(text, depth, elements, cursors),
+        Opening::No => Taken::No,
+    }
+}
+
+// A list's items, behind its brace, up to and with its closing one. Each is F in the list's flags, and the end is T.
+fn read_list(text: &[u8], depth: u8, elements: &mut [i32], cursors: &mut [usize]) -> Taken
+    requires { ⌜ Ready depth (now text) (now elements) (now cursors) ⌝ }
+    requires { ⌜ (0 < depth) × (Opening.Items ≡ openingAt (now text)) ⌝ }
+    ensures { λ r. ⌜ ReadAs depth (now (text .entry)) (now (elements .entry)) (now (elements .exit)) (now (cursors .entry)) (now (cursors .exit)) r ⌝ }
+{
+    let mut k: usize = 1;
+    loop {
+        match read_item(&text[k..], depth - 1, elements, cursors) {
+            Taken::Bytes(n) => {
+                append(elements, cursors, depth as usize, 0);
+                match what_follows(text, k + n) {
+                    After::Comma => {
+                        k = k + n + 1;
+                    }
+                    After::Close => {
+                        append(elements, cursors, depth as usize, 1);
+                        return Taken::Bytes(k + n + 1);
+                    }
+                    After::Else => {
+                        return Taken::No;
+                    }
+                }
+            }
+            Taken::No => {
+                return Taken::No;
+            }
+        }
+    }
+}
