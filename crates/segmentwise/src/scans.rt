@@ -51,7 +51,8 @@ fn scan(
     let mut i = 0;
     let mut j = 0;
     let mut k = 0;
-    let mut total = start as i64;
+    let first = start as i64;
+    let mut total = first;
     while i < flags_len {
         let z = buf[flags_at + i];
         match step(z, k < n, j < len, true) {
@@ -66,7 +67,7 @@ fn scan(
                 Sum::Out => return refuse(from(buf, n, flags_at, flags_len, i, len - j, k), k),
             },
             Turn::True => {
-                total = start as i64;
+                total = first;
                 i += 1;
                 k += 1;
             }

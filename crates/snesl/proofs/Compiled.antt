@@ -4,3 +4,4 @@ pub mod Sequences
 pub mod Freshness
 pub mod WellFormed
 pub mod Scoped
+pub mod Ascending

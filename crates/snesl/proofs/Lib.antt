@@ -5,6 +5,7 @@ pub mod Correctness
 pub mod Representing
 pub mod Texts
 pub mod Formed
+pub mod Views
 pub mod Jobs
 pub mod Table
 pub mod Statements

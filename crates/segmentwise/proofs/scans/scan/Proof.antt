@@ -6,18 +6,18 @@ use borrow.Author.Needs.{needs}
 use mir.Syntax.{w32, w64}
 use mir.Val.{toZ}
 use Rattle.laws.proofs.Whole.{fits-wide}
-use Turn.{Head, begin, given, cast, cast-start, ready, sum-fits, turn-false, turn-true, stop, stop-outside, stop-due, stop-left, finish}
+use Turn.{Head, begin, given, cast, ready, sum-fits, turn-false, turn-true, stop, stop-outside, stop-due, stop-left, finish}
 use Rattle.segmentwise.proofs.scans.scan.Statement.{statement}
 use Rattle.segmentwise.proofs.scans.scan.Tie as tie
 
 abbrev Inv-loop : tie.InvT-loop
-Inv-loop buf₀ out n start flags-at flags-len at len i₀ j₀ k₀ total₀ buf i j k total = Head buf₀ out n (toZ w32 start) flags-at flags-len at len buf i j k (toZ w64 total)
+Inv-loop buf₀ out n start flags-at flags-len at len i₀ j₀ k₀ first total₀ buf i j k total = Head buf₀ out n (toZ w32 start) (toZ w64 first) flags-at flags-len at len buf i j k (toZ w64 total)
 
 abbrev μ-loop : tie.MeasureT-loop
-μ-loop buf₀ out n start flags-at flags-len at len i₀ j₀ k₀ total₀ buf i j k total = flags-len - i
+μ-loop buf₀ out n start flags-at flags-len at len i₀ j₀ k₀ first total₀ buf i j k total = flags-len - i
 
-cast-total : tie.Need-cast-total Inv-loop μ-loop
-cast-total c = fits-wide (c .args .start) (c .fits .start .sfits)
+cast-first : tie.Need-cast-first Inv-loop μ-loop
+cast-first c = fits-wide (c .args .start) (c .fits .start .sfits)
 
 loop-holds : tie.Need-loop-holds Inv-loop μ-loop
 loop-holds c = begin _ (c .fits .start) (c .pre)
@@ -58,8 +58,8 @@ add-put c = omega arith
 put-requires : tie.Need-put-requires Inv-loop μ-loop
 put-requires c κs = tt
 
-cast-total-2 : tie.Need-cast-total-2 Inv-loop μ-loop
-cast-total-2 c = cast (c .before .before .before .before .before .before .before .before .before .before .before .before .before .loop .inv) (c .before .before .before .before .before .before .before .before .before .before .before .before .loop-test .taken) (c .before .before .before .before .before .before .before .before .before .before .before .z .given) (c .before .before .before .before .before .before .before .before .before .before .step .ensures) (c .before .before .before .before .before .before .before .before .enum-told .given .1) (c .before .before .before .before .before .before .before .narrow .ensures) _ (c .before .before .before .before .before .v .given .1) (c .before .before .before .x .given)
+cast-total : tie.Need-cast-total Inv-loop μ-loop
+cast-total c = cast (c .before .before .before .before .before .before .before .before .before .before .before .before .before .loop .inv) (c .before .before .before .before .before .before .before .before .before .before .before .before .loop-test .taken) (c .before .before .before .before .before .before .before .before .before .before .before .z .given) (c .before .before .before .before .before .before .before .before .before .before .step .ensures) (c .before .before .before .before .before .before .before .before .enum-told .given .1) (c .before .before .before .before .before .before .before .narrow .ensures) _ (c .before .before .before .before .before .v .given .1) (c .before .before .before .x .given)
 
 add-total : tie.Need-add-total Inv-loop μ-loop
 add-total c = sum-fits (c .before .before .before .before .before .before .before .before .before .before .before .before .before .loop .inv) (c .before .before .before .before .before .before .before .before .before .before .before .before .loop-test .taken) (c .before .before .before .before .before .before .before .before .before .before .before .z .given) (c .before .before .before .before .before .before .before .before .before .before .step .ensures) (c .before .before .before .before .before .before .before .before .enum-told .given .1) (c .before .before .before .before .before .before .before .narrow .ensures) _ (c .before .before .before .before .before .v .given .1) (c .before .before .before .x .given)
@@ -96,9 +96,6 @@ returns c = given _ (c .before .before .before .before .before .before .before .
 
 enum-told-3 : tie.Need-enum-told-3 Inv-loop μ-loop
 enum-told-3 c = search needs
-
-cast-total-3 : tie.Need-cast-total-3 Inv-loop μ-loop
-cast-total-3 c = cast-start (c .before .before .before .before .before .loop .inv)
 
 add-i-2 : tie.Need-add-i-2 Inv-loop μ-loop
 add-i-2 c = omega arith
@@ -151,7 +148,7 @@ scan-spec =
     (tie.spec
     Inv-loop
     μ-loop
-    cast-total
+    cast-first
     loop-holds
     add-z
     mul-z
@@ -165,7 +162,7 @@ scan-spec =
     slice-copy-out-x
     add-put
     put-requires
-    cast-total-2
+    cast-total
     add-total
     add-i
     add-j
@@ -178,7 +175,6 @@ scan-spec =
     same-length
     returns
     enum-told-3
-    cast-total-3
     add-i-2
     add-k
     loop-less-2

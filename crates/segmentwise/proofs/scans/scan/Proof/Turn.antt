@@ -32,9 +32,9 @@ use Rattle.streams.proofs.Running as R
 use Rattle.streams.proofs.Running.{Running, Operands}
 use Rattle.streams.proofs.Turns.{stepped, steps-false, steps-true, misfit-false, misfit-true, stop-eachF, end-due, end-left, end-fits, scans-false, scans-true, scans-end, outside-not, outside-here, outside-none, values}
 
-pub record Head (old : List ℤ) (out n : ℕ) (start : ℤ) (fat flen at len : ℕ) (buf : List ℤ) (i j k : ℕ) (t : ℤ) : Type 0 where
+pub record Head (old : List ℤ) (out n : ℕ) (start first : ℤ) (fat flen at len : ℕ) (buf : List ℤ) (i j k : ℕ) (t : ℤ) : Type 0 where
   pub operands : Operands old out fat flen at len
-  pub begins : mag start < 2 ^ 31
+  pub begins : first ≡ start
   pub same : length buf ≡ length old
   pub flags : i ≤ flen
   pub items : j ≤ len
@@ -46,13 +46,14 @@ pub record Head (old : List ℤ) (out n : ℕ) (start : ℤ) (fat flen at len : 
       (values (scans flagOf start k t (drop i (part fat flen old)) (drop j (part at len old)))) j
 
 pub begin : {old : List ℤ} {out n fat flen at len : ℕ} (start : ℤ) → SFits w32 start → (fat + flen ≤ out) × (at + len ≤ out) × (out ≤ length old) →
-    Head old out n (toZ w32 (ofZ w32 start)) fat flen at len old 0 0 0 (toZ w64 (ofZ w64 (toZ w32 (ofZ w32 start))))
+    Head old out n (toZ w32 (ofZ w32 start)) (toZ w64 (ofZ w64 (toZ w32 (ofZ w32 start)))) fat flen at len old 0 0 0
+    (toZ w64 (ofZ w64 (toZ w32 (ofZ w32 start))))
 begin {old} {out} {n} {fat} {flen} {at} {len} start s p =
     let e : n ≡ n - 0 = omega arith in
     rw (wide start (s .sfits), read start (s .sfits))
     (record {
       operands = record { flags = p .0; items = p .1; room = p .2 };
-      begins = s .sfits;
+      begins = refl;
       same = refl;
       flags = omega arith;
       items = omega arith;
@@ -64,14 +65,14 @@ begin {old} {out} {n} {fat} {flen} {at} {len} start s p =
     })
 
 -- the start as the caller gave it
-pub given : {old : List ℤ} {out n fat flen at len : ℕ} {buf : List ℤ} {i j k : ℕ} {t : ℤ} (start : ℤ) → SFits w32 start →
-    Head old out n (toZ w32 (ofZ w32 start)) fat flen at len buf i j k t → (o : Output) →
+pub given : {old : List ℤ} {out n fat flen at len : ℕ} {buf : List ℤ} {i j k : ℕ} {first t : ℤ} (start : ℤ) → SFits w32 start →
+    Head old out n (toZ w32 (ofZ w32 start)) first fat flen at len buf i j k t → (o : Output) →
     Walked out old (scanPlus flagOf (toZ w32 (ofZ w32 start)) n (part fat flen old) (part at len old)) o buf →
     Walked out old (scanPlus flagOf start n (part fat flen old) (part at len old)) o buf
 given {old} {out} {n} {fat} {flen} {at} {len} {buf} start s a o w =
     subst (λ z. Walked out old (scanPlus flagOf z n (part fat flen old) (part at len old)) o buf) (read start (s .sfits)) w
 
-module _ {old : List ℤ} {out n : ℕ} {start : ℤ} {fat flen at len : ℕ} {buf : List ℤ} {i j k : ℕ} {t : ℤ} (a : Head old out n start fat flen at len buf i j k t) where
+module _ {old : List ℤ} {out n : ℕ} {start first : ℤ} {fat flen at len : ℕ} {buf : List ℤ} {i j k : ℕ} {t : ℤ} (a : Head old out n start first fat flen at len buf i j k t) where
   -- the items that are left
   left : j + length (drop j (part at len old)) ≡ len
   left =
@@ -117,7 +118,7 @@ module _ {old : List ℤ} {out n : ℕ} {start : ℤ} {fat flen at len : ℕ} {b
         sum-fits = rw (wide (getD buf (at + j) (pos 0)) hx) fits
 
         pub turn-false : {new : List ℤ} → new ≡ set buf (out + j) (toZ w32 (ofZ w32 v)) →
-            Head old out n start fat flen at len new (i + 1) (j + 1) k
+            Head old out n start first fat flen at len new (i + 1) (j + 1) k
             (toZ w64 (ofZ w64 (t +ℤ toZ w64 (ofZ w64 (toZ w32 (ofZ w32 (getD buf (at + j) (pos 0))))))))
         turn-false {new} stored =
             let f = steps-false (flagOf (getD buf (fat + i) (pos 0))) (ltb k n) (ltb j len) true (step e) in
@@ -151,16 +152,16 @@ module _ {old : List ℤ} {out n : ℕ} {start : ℤ} {fat flen at len : ℕ} {b
           (rest (drop j (part at len old)) (omega (arith, left))
           ∙ ap (λ bs. told (misfit flagOf eachF k (n - k) (drop i bs) (drop j (part at len old)))) (E.operand (a .run .emits) fat flen (a .operands .flags))))
 
-    pub turn-true : r ≡ S.True → Head old out n start fat flen at len buf (i + 1) j (k + 1) (toZ w64 (ofZ w64 start))
+    pub turn-true : r ≡ S.True → Head old out n start first fat flen at len buf (i + 1) j (k + 1) first
     turn-true e =
         let f = steps-true (flagOf (getD buf (fat + i) (pos 0))) (ltb k n) (ltb j len) true (step e) in
         let due : k < n = ltb-true k n (f .1) in
-        let fits : SFits w64 start = record { sfits = omega (arith, a .begins) } in
         let same-scans : scans flagOf start k t (drop i (part fat flen old)) (drop j (part at len old))
-        ≡ scans flagOf start (k + 1) start (drop (i + 1) (part fat flen old)) (drop j (part at len old)) =
-        ap (λ bs. scans flagOf start k t bs (drop j (part at len old))) next ∙ scans-true flagOf _ _ start k t _ (f .0) in
-        rw (toZ-ofZ fits)
-        (record {
+        ≡ scans flagOf start (k + 1) first (drop (i + 1) (part fat flen old)) (drop j (part at len old)) =
+        ap (λ bs. scans flagOf start k t bs (drop j (part at len old))) next
+        ∙ scans-true flagOf _ _ start k t _ (f .0)
+        ∙ ap (λ z. scans flagOf start (k + 1) z (drop (i + 1) (part fat flen old)) (drop j (part at len old))) (sym (a .begins)) in
+        record {
           operands = a .operands;
           begins = a .begins;
           same = a .same;
@@ -172,16 +173,12 @@ module _ {old : List ℤ} {out n : ℕ} {start : ℤ} {fat flen at len : ℕ} {b
               (ap (λ bs. misfit flagOf eachF k (n - k) bs (drop j (part at len old))) next ∙ misfit-true flagOf eachF k n _ _ _ due (f .0) refl)
               (ap firstOutside same-scans)
               (ap values same-scans);
-        })
+        }
 
     pub stop : r ≡ S.Misfit → Walked out old (scanPlus flagOf start n (part fat flen old) (part at len old)) (Unfit k) buf
     stop e =
         R.stop-unfit (a .run) k
         (ap (λ bs. misfit flagOf eachF k (n - k) bs (drop j (part at len old))) next ∙ stop-eachF flagOf k n j len _ _ _ left (step e))
-
-  -- a start fits 64 bits
-  pub cast-start : SFits w64 start
-  cast-start = record { sfits = omega (arith, a .begins) }
 
   module _ (end : flen ≤ i) where
     over : drop i (part fat flen old) ≡ []

@@ -1,0 +1,4 @@
+pub mod Stack
+pub mod Finding
+pub mod Moving
+pub mod Entries

@@ -1,0 +1,7 @@
+pub mod Stores
+pub mod Walking
+pub mod Stepping
+pub mod Applying
+pub mod Counting
+pub mod Executing
+pub mod Performing
