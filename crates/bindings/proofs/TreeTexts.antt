@@ -8,8 +8,8 @@ use Rattle.laws.specs.Parts.{part}
 use Rattle.snesl.specs.Ascii.{ascii, pieces}
 use Rattle.snesl.specs.Trees.{Tree, leaf, node, order, mapTree}
 use Rattle.snesl.specs.Listing.{idText, treeText}
-use Rattle.valuetext.specs.Writing.{Writes}
-use Rattle.valuetext.proofs.Stores.{writes-then}
+use Rattle.decimals.specs.Writing.{Writes}
+use Rattle.decimals.proofs.Stores.{writes-then}
 use Rattle.lines.specs.Counting.{Countable}
 use Rattle.lines.proofs.Writing.{countable-is, countable-first, countable-next, writes-is}
 use Rattle.environment.specs.Words.{placeWords, treeWords, treeSize}

@@ -1,14 +1,14 @@
 // The ids of a tree on the stack, as text.
+use decimals::numbers::put;
 use lines::pieces::put_id;
 use lines::pieces::put_next;
 use snesl::code::StreamId;
 use telling::lesser;
-use valuetext::numbers::put;
 ghost use mathlib.Core.Bool.{true};
 ghost use mathlib.Core.Path.{_≡_};
 ghost use Rattle.snesl.specs.Programs.{ascending};
 ghost use Rattle.snesl.specs.Listing.{treeText};
-ghost use Rattle.valuetext.specs.Writing.{Writes};
+ghost use Rattle.decimals.specs.Writing.{Writes};
 ghost use Rattle.lines.specs.Pieces.{restText};
 ghost use Rattle.telling.specs.Telling.{least};
 ghost use Rattle.telling.specs.Between.{between};

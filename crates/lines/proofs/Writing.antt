@@ -14,8 +14,8 @@ use Rattle.snesl.specs.declared.code.Transducer.{Transducer}
 use Rattle.snesl.specs.Text.{showInt}
 use Rattle.snesl.specs.Transducers.{operands}
 use Rattle.snesl.specs.Listing.{idsText}
-use Rattle.valuetext.specs.Writing.{Writes}
-use Rattle.valuetext.proofs.Stores.{writes-then}
+use Rattle.decimals.specs.Writing.{Writes}
+use Rattle.decimals.proofs.Stores.{writes-then}
 use Rattle.lines.specs.Counting.{Countable}
 
 pub countable-first : {at : ℕ} (u v : List ℕ) → Countable at (u ++ v) → Countable at u

@@ -1,15 +1,15 @@
 // The line of an instruction, from its value.
 use crate::pieces::put_bytes;
 use crate::pieces::put_id;
+use decimals::numbers;
 use snesl::code::Instruction;
 use snesl::code::StreamId;
 use snesl::code::Transducer;
-use valuetext::numbers;
 ghost use mathlib.Core.List.{[], _∷_};
 ghost use Rattle.snesl.specs.Transducers.{operands};
 ghost use Rattle.snesl.specs.Ascii.{ascii};
 ghost use Rattle.snesl.specs.Listing.{idText, idsText, nameText, defineLine};
-ghost use Rattle.valuetext.specs.Writing.{Writes};
+ghost use Rattle.decimals.specs.Writing.{Writes};
 ghost use Rattle.lines.specs.Counting.{Countable};
 ghost use Rattle.lines.specs.Pieces.{controlText, instructionText};
 

@@ -1,9 +1,9 @@
 // The pieces that lines are made of: bytes as they are, and the id of a stream.
+use decimals::numbers;
 use snesl::code::StreamId;
-use valuetext::numbers;
 ghost use lib.ListN.{length};
 ghost use Rattle.snesl.specs.Listing.{idText};
-ghost use Rattle.valuetext.specs.Writing.{Writes};
+ghost use Rattle.decimals.specs.Writing.{Writes};
 ghost use Rattle.lines.specs.Counting.{Countable};
 ghost use Rattle.lines.specs.Pieces.{nextText};
 

@@ -6,8 +6,8 @@ use mathlib.Core.List.{List, [], _∷_, _++_, append-assoc, append-nil}
 use mathlib.Core.Logic.{⊎-elim}
 use mathlib.Core.Path.{_≡_, refl, sym, ap, _∙_, subst}
 use Rattle.snesl.specs.Programs.{ascending}
-use Rattle.valuetext.specs.Writing.{Writes}
-use Rattle.valuetext.proofs.Stores.{writes-nothing, writes-then}
+use Rattle.decimals.specs.Writing.{Writes}
+use Rattle.decimals.proofs.Stores.{writes-nothing, writes-then}
 use Rattle.lines.specs.Counting.{Countable}
 use Rattle.lines.specs.Pieces.{nextText, restText}
 use Rattle.lines.proofs.Writing.{countable-first, countable-next}

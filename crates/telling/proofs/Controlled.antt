@@ -11,8 +11,8 @@ use Rattle.snesl.specs.Ascii.{ascii, pieces}
 use Rattle.snesl.specs.Trees.{leaf, order}
 use Rattle.snesl.specs.Programs.{Program, done, define, withCtrl, _⨾_, count, member, without, among, dv, fv, insert, ascending}
 use Rattle.snesl.specs.Listing.{linesOf, idText, withCtrlLine}
-use Rattle.valuetext.specs.Writing.{Writes}
-use Rattle.valuetext.proofs.Stores.{writes-then}
+use Rattle.decimals.specs.Writing.{Writes}
+use Rattle.decimals.proofs.Stores.{writes-then}
 use Rattle.lines.specs.Counting.{Countable}
 use Rattle.lines.specs.Pieces.{restText, controlText}
 use Rattle.lines.proofs.Writing.{countable-first, countable-next}

@@ -14,8 +14,8 @@ use Rattle.snesl.specs.Transducers.{operands}
 use Rattle.snesl.specs.Programs.{Program, done, define, withCtrl, _⨾_, count}
 use Rattle.snesl.specs.Listing.{linesOf, defineLine, withCtrlLine, closeLine}
 use Rattle.snesl.proofs.Compiled.Sequences.{count-seq}
-use Rattle.valuetext.specs.Writing.{Writes}
-use Rattle.valuetext.proofs.Stores.{writes-nothing, writes-then}
+use Rattle.decimals.specs.Writing.{Writes}
+use Rattle.decimals.proofs.Stores.{writes-nothing, writes-then}
 use Rattle.lines.specs.Counting.{Countable}
 use Rattle.lines.proofs.Writing.{countable-first, countable-next}
 use Rattle.telling.specs.declared.Progress.{Progress}

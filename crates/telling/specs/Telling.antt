@@ -7,7 +7,7 @@ use lib.Dec.{ltb, leb}
 use Rattle.snesl.specs.Transducers.{operands}
 use Rattle.snesl.specs.Programs.{Program, done, define, withCtrl, count}
 use Rattle.snesl.specs.Listing.{linesOf, withCtrlLine, closeLine}
-use Rattle.valuetext.specs.Writing.{Writes}
+use Rattle.decimals.specs.Writing.{Writes}
 use Rattle.lines.specs.Counting.{Countable}
 use Rattle.telling.specs.declared.Progress.{Progress}
 

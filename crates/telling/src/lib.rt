@@ -14,7 +14,7 @@ ghost use Rattle.snesl.specs.Programs as programs;
 ghost use Rattle.telling.specs.Telling as telling;
 ghost use Rattle.telling.specs.Telling.{least, openText, closeText, Tellable, Tells};
 ghost use Rattle.telling.specs.Iota.{onesCode, iotaCode};
-ghost use Rattle.valuetext.specs.Writing.{Writes};
+ghost use Rattle.decimals.specs.Writing.{Writes};
 ghost use Rattle.lines.specs.Counting.{Countable};
 
 // Where a walk stands: the next free id, the next position of the text, and the least used id that a survey has found.

@@ -2,16 +2,15 @@
 use Prim.Native.Nat.{ℕ, zero, suc, _+_, _-_, _≤_, _<_, _^_}
 use mathlib.Core.Bool.{Bool, true, false}
 use mathlib.Core.List.{List, [], _∷_, _++_}
-use mathlib.Core.Path.{_≡_, refl, sym, ap, ap₂, _∙_, subst}
+use mathlib.Core.Path.{_≡_, refl, sym, ap, _∙_, subst}
 use native.Mathlib.Numerals.{add-one}
 use native.Mathlib.Omega.{arith}
 use borrow.Author.Tests.{le-leb, lt-leb, eqb-true, eqb-false}
 use lib.Dec.{eqb}
-use lib.ListN.{length, getD, set, take, drop, length-append, length-set, drop-of-length-le}
-use lib.Seq.{drop-cons, drop-length, take-suc, set-at, append-snoc, length-take-le, getD-set-same, getD-set-other}
+use lib.ListN.{length, getD, set, take, drop, drop-of-length-le}
+use lib.Seq.{drop-cons, take-suc, set-at, append-snoc, length-take-le, getD-set-same, getD-set-other}
 use Rattle.snesl.specs.Machine.{sumOf}
 use Rattle.valuetext.specs.Counts.{totalOf}
-use Rattle.valuetext.specs.Numbers.{pick}
 use Rattle.valuetext.specs.declared.counts.Total.the-variants.{Of, Over}
 
 -- ---- sums

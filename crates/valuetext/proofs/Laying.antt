@@ -5,13 +5,13 @@ use mathlib.Core.Path.{_≡_, refl, sym, ap, ap₂, _∙_, subst}
 use mathlib.Core.Bool.{Bool, true, false}
 use native.Mathlib.Omega.{arith}
 use lib.IntN.{ℤ}
-use lib.ListN.{length, getD, set, replicate, length-append, length-set, length-map, length-replicate}
+use lib.ListN.{length, getD, set, replicate, length-append, length-set, length-map}
 use lib.Seq.{sets, getD-set-same, getD-set-other, set-set, set-comm}
 use Rattle.snesl.specs.Values.{Val}
 use Rattle.snesl.specs.Streams.{bit}
 use Rattle.snesl.specs.Representation.{concat, segments}
 use Rattle.valuetext.specs.Laying.{lay, advance, Under, Apart}
-use Rattle.valuetext.proofs.Stores.{sets-append, sets-comm, sets-none}
+use Rattle.decimals.proofs.Stores.{sets-append, sets-comm, sets-none}
 
 module _ {A : Type 0} where
   pub concat-append : (vs ws : List (List A)) → concat (vs ++ ws) ≡ concat vs ++ concat ws

@@ -1,8 +1,8 @@
 -- The steps of reading at a depth that code holds as a number above 0, on a text that code holds as a part of another.
-use Prim.Native.Nat.{ℕ, zero, suc, _+_, _-_, _<_, _^_}
+use Prim.Native.Nat.{ℕ, suc, _+_, _-_, _<_, _^_}
 use mathlib.Core.List.{List}
-use mathlib.Core.Option.{some, none}
-use mathlib.Core.Path.{_≡_, refl, sym, ap, _∙_, subst}
+use mathlib.Core.Option.{none}
+use mathlib.Core.Path.{_≡_, sym, subst}
 use native.Mathlib.Omega.{arith}
 use lib.IntN.{ℤ, pos}
 use lib.ListN.{length, getD, set, take, drop}
@@ -10,10 +10,10 @@ use Rattle.snesl.specs.Text.{readValue}
 use Rattle.valuetext.specs.Reading.{openingAt, afterAt, Ready, Laid, ReadAs, read-no, read-bytes}
 use Rattle.valuetext.specs.declared.reading.Taken.{Taken}
 use Rattle.valuetext.specs.declared.reading.Taken.the-variants.{Bytes, No}
-use Rattle.valuetext.specs.declared.reading.Opening.the-variants.{Empty, Items, No as NoList}
+use Rattle.valuetext.specs.declared.reading.Opening.the-variants.{Empty, No as NoList}
 use Rattle.valuetext.specs.declared.reading.After.the-variants.{Close}
-use Rattle.valuetext.proofs.Parts.{rest-of}
-use Rattle.valuetext.proofs.ReadingSteps.{opens-no, empty-ready, empty-list, Listing, listing-start, item-ready, flag-ready, listing-item, listing-no, Item, end-ready, item-close}
+use Rattle.decimals.proofs.Parts.{rest-of}
+use Rattle.valuetext.proofs.ReadingSteps.{opens-no, empty-ready, empty-list, Listing, flag-ready, listing-item, Item, end-ready, item-close}
 
 pub deeper : (d : ℕ) → 0 < d → suc (d - 1) ≡ d
 deeper d h = omega arith

@@ -1,37 +1,35 @@
 -- How a list's text is read step by step: its opening, an item, what stands behind it. The loop of the list reader keeps `Listing`.
-use Prim.Native.Nat.{ℕ, zero, suc, _+_, _-_, _≤_, _<_, _^_}
+use Prim.Native.Nat.{ℕ, zero, suc, _+_, _≤_, _<_, _^_}
 use mathlib.Core.Bool.{Bool, true, false}
 use mathlib.Core.List.{List, [], _∷_, _++_, map, append-assoc, append-nil}
 use mathlib.Core.Logic.{_⊎_, inl, inr}
 use mathlib.Core.Option.{Option, some, none}
 use mathlib.Core.Path.{_≡_, refl, sym, ap, ap₂, _∙_, subst}
 use native.Mathlib.Omega.{arith}
-use native.Mathlib.Numerals.{add-one}
-use borrow.Author.Tests.{eq-eqb, ne-eqb, eqb-true, eqb-false}
+use borrow.Author.Tests.{eqb-true}
 use lib.Dec.{eqb}
 use mir.Syntax.{w32}
 use mir.Val.{toZ, ofZ}
 use mir.Facts.{toZ-ofZ}
 use lib.IntN.{ℤ, pos}
 use lib.ListN.{length, getD, set, drop, replicate, length-append, length-drop, length-set, length-replicate, replicate-append-replicate}
-use lib.Seq.{sets, length-sets, set-getD, getD-set-same, getD-set-other, set-set, set-comm}
+use lib.Seq.{sets, length-sets, set-getD, getD-set-same, set-set}
 use Rattle.snesl.specs.Values.{Val}
 use Rattle.snesl.specs.Streams.{bit}
 use Rattle.snesl.specs.Representation.{concat, segments}
-use Rattle.snesl.specs.Evaluation.{andThen}
-use Rattle.snesl.specs.Text.{openBrace, closeBrace, comma, before, readItems, readList, readInt, readValue}
-use Rattle.valuetext.specs.Numbers.{pick, intAt, intRead}
+use Rattle.snesl.specs.Text.{comma, before, readItems, readInt, readValue}
+use Rattle.decimals.specs.Numbers.{pick, intAt, intRead}
 use Rattle.valuetext.specs.Laying.{lay, advance, Under, Apart}
 use Rattle.valuetext.specs.Reading.{openingAt, afterAt, Clear, measuring, filling, Ready, Laid, ReadAs, read-no, read-bytes}
 use Rattle.valuetext.specs.declared.reading.Taken.the-variants.{Bytes, No}
 use Rattle.valuetext.specs.declared.reading.Opening.the-variants.{Empty, Items, No as NoList}
 use Rattle.valuetext.specs.declared.reading.After.{After}
 use Rattle.valuetext.specs.declared.reading.After.the-variants.{Comma, Close, Else}
-use Rattle.valuetext.specs.declared.numbers.ReadInt.the-variants.{Int, No as NoInt}
+use Rattle.decimals.specs.declared.numbers.ReadInt.the-variants.{Int, No as NoInt}
 use Rattle.laws.proofs.Options.{some-pair}
-use Rattle.valuetext.proofs.Stores.{sets-append, sets-none}
-use Rattle.valuetext.proofs.IntText.{IntRead, int-read}
-use Rattle.valuetext.proofs.Laying.{concat-append, length-advance, advance-above, advance-set, advance-append, under-back, under-front, apart-set, apart-front, apart-back, lay-set, lay-none, lay-sets, lay-append}
+use Rattle.decimals.proofs.Stores.{sets-append, sets-none}
+use Rattle.decimals.proofs.IntText.{IntRead, int-read}
+use Rattle.valuetext.proofs.Laying.{length-advance, advance-set, advance-append, under-back, under-front, apart-set, apart-front, apart-back, lay-set, lay-none, lay-sets, lay-append}
 
 -- a byte other than 0 lies within the text
 present : (t : List ℕ) (i : ℕ) {x : ℕ} → getD t i 0 ≡ x → 0 < x → i < length t

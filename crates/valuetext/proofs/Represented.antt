@@ -1,19 +1,19 @@
 -- The streams that are laid at the cursors are those of the representation: how many elements each has, and one after another where the cursors
 -- start so.
-use Prim.Native.Nat.{ℕ, zero, suc, _+_, _-_, _≤_, _<_}
+use Prim.Native.Nat.{ℕ, zero, suc, _+_, _<_}
 use mathlib.Core.List.{List, [], _∷_, _++_, map, map-append, append-assoc, append-nil}
 use mathlib.Core.Path.{_≡_, refl, sym, ap, ap₂, _∙_, subst}
 use native.Mathlib.Omega.{arith}
 use lib.IntN.{ℤ}
-use lib.ListN.{length, getD, set, take, drop, length-append, length-map}
+use lib.ListN.{length, getD, take, length-append, length-map}
 use lib.Seq.{sets, take-at, take-suc-set, take-take, take-length}
 use Rattle.snesl.specs.Values.{Val}
-use Rattle.snesl.specs.Streams.{Stream, Store, ints, flags, len, elements, bit, contents, room}
+use Rattle.snesl.specs.Streams.{Store, flags, len, elements, bit, contents, room}
 use Rattle.snesl.specs.Trees.{Tree, leaf, node, order}
 use Rattle.snesl.specs.Machine.{sumOf}
 use Rattle.snesl.specs.Representation.{concat, segments, represent}
 use Rattle.valuetext.specs.Laying.{lay, advance, Under, Apart}
-use Rattle.valuetext.proofs.Stores.{sets-append}
+use Rattle.decimals.proofs.Stores.{sets-append}
 use Rattle.valuetext.proofs.Laying.{length-advance, bits-length, under-more}
 use Rattle.valuetext.proofs.Counting.{sum-append}
 

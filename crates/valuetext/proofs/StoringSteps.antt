@@ -1,5 +1,5 @@
 -- From what the readers answer to the two passes of text to streams, and from these to the whole.
-use Prim.Native.Nat.{ℕ, zero, suc, _+_, _-_, _≤_, _<_, _^_, min}
+use Prim.Native.Nat.{ℕ, zero, suc, _+_, _≤_, _<_, _^_, min}
 use mathlib.Core.Bool.{Bool, true, false, _&&_}
 use mathlib.Core.List.{List, [], _∷_, _++_, map}
 use mathlib.Core.Option.{Option, some, none}
@@ -16,10 +16,9 @@ use Rattle.snesl.specs.Streams.{Store, len, contents, room}
 use Rattle.snesl.specs.Representation.{represent}
 use Rattle.snesl.specs.declared.refusal.Refusal.the-variants.{OverLimit, NoValueText, NoRoom}
 use Rattle.snesl.specs.Machine.{sumOf}
-use Rattle.snesl.specs.Evaluation.{andThen}
 use Rattle.snesl.specs.Text.{readValue, valueOf}
 use Rattle.snesl.specs.Limits.{mostDepth, mostElements}
-use Rattle.valuetext.specs.Numbers.{pick}
+use Rattle.decimals.specs.Numbers.{pick}
 use Rattle.valuetext.specs.Laying.{lay}
 use Rattle.valuetext.specs.Counts.{totalOf}
 use Rattle.valuetext.specs.Reading.{Ready, measuring, filling, Laid, ReadAs, read-no, read-bytes}

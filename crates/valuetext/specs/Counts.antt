@@ -3,7 +3,7 @@ use Prim.Native.Nat.{ℕ}
 use mathlib.Core.List.{List}
 use lib.Dec.{leb}
 use Rattle.snesl.specs.Machine.{sumOf}
-use Rattle.valuetext.specs.Numbers.{pick}
+use Rattle.decimals.specs.Numbers.{pick}
 use Rattle.valuetext.specs.declared.counts.Total.{Total}
 use Rattle.valuetext.specs.declared.counts.Total.the-variants.{Of, Over}
 

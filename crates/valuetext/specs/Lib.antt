@@ -1,10 +1,4 @@
-pub mod Numbers
-pub mod Writing
+pub mod Counts
 pub mod Laying
 pub mod Reading
-pub mod Counts
 pub mod Storing
-pub mod Fitting
-pub mod Standing
-pub mod Showing
-pub mod Rendering

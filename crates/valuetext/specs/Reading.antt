@@ -8,7 +8,7 @@ use lib.IntN.{ℤ}
 use lib.ListN.{length, getD}
 use Rattle.snesl.specs.Values.{Val}
 use Rattle.snesl.specs.Text.{openBrace, closeBrace, comma, readValue}
-use Rattle.valuetext.specs.Numbers.{pick}
+use Rattle.decimals.specs.Numbers.{pick}
 use Rattle.valuetext.specs.Laying.{lay, advance, Apart}
 use Rattle.valuetext.specs.declared.reading.Taken.{Taken}
 use Rattle.valuetext.specs.declared.reading.Taken.the-variants.{Bytes, No}

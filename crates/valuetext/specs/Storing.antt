@@ -1,6 +1,6 @@
 -- Value text to streams (01, "Representation by itself", and refusals 3, 7 and 9 in that order), as a function of the text, the depth and what is lent.
 use Prim.Native.Nat.{ℕ, suc, _+_, _≤_}
-use mathlib.Core.Bool.{Bool, true, false, _&&_}
+use mathlib.Core.Bool.{_&&_}
 use mathlib.Core.List.{List, [], _∷_, _++_, map}
 use mathlib.Core.Option.{Option, some, none}
 use mathlib.Core.Path.{_≡_}
@@ -15,7 +15,7 @@ use Rattle.snesl.specs.Text.{valueOf}
 use Rattle.snesl.specs.Limits.{mostDepth, mostElements, usedOf}
 use Rattle.snesl.specs.declared.refusal.Refusal.{Refusal}
 use Rattle.snesl.specs.declared.refusal.Refusal.the-variants.{OverLimit, NoValueText, NoRoom}
-use Rattle.valuetext.specs.Numbers.{pick}
+use Rattle.decimals.specs.Numbers.{pick}
 use Rattle.valuetext.specs.declared.storing.Measured.{Measured}
 use Rattle.valuetext.specs.declared.storing.Measured.the-variants.{Elements, Over, No}
 use Rattle.valuetext.specs.declared.storing.Stored.{Stored}

@@ -1,8 +1,4 @@
-// Value text to streams and back (document 01, "The formula and the job" and "Representation by itself").
+// Value text to streams (document 01, "The formula and the job" and "Representation by itself").
 pub mod counts;
-pub mod fitting;
-pub mod numbers;
 pub mod reading;
-pub mod showing;
 pub mod storing;
-pub mod writing;

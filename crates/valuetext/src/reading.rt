@@ -1,9 +1,9 @@
 // Reading a value's text: whether it is one, how many elements each of its streams has, and, where elements are lent, the streams themselves.
 // Each level of the value has a cursor, at which its stream grows: 0 is the data, and the depth is the outermost flags.
-use crate::numbers::ReadInt;
-use crate::numbers::byte_at;
-use crate::numbers::read_int;
-ghost use Prim.Native.Nat.{_+_, _≤_, _<_, _^_};
+use decimals::numbers::ReadInt;
+use decimals::numbers::byte_at;
+use decimals::numbers::read_int;
+ghost use Prim.Native.Nat.{_+_, _<_, _^_};
 ghost use mathlib.Core.Path.{_≡_};
 ghost use lib.ListN.{length, getD, set};
 ghost use Rattle.valuetext.specs.Reading.{openingAt, afterAt, Ready, ReadAs};
@@ -90,7 +90,8 @@ pub fn read_item(text: &[u8], depth: u8, elements: &mut [i32], cursors: &mut [us
     }
     match opening_of(text) {
         Opening::Empty => {
-            append(elements, cursors, depth as usize, 1);
+            let level = depth as usize;
+            append(elements, cursors, level, 1);
             Taken::Bytes(2)
         }
         Opening::Items => read_list(text, depth, elements, cursors),

@@ -9,7 +9,7 @@ use crate::reading::read_item;
 use snesl::limits::Buffer;
 use snesl::limits::Formula;
 use snesl::refusal::Refusal;
-ghost use Prim.Native.Nat.{_+_, _≤_, _<_};
+ghost use Prim.Native.Nat.{_≤_, _<_};
 ghost use mathlib.Core.Path.{_≡_};
 ghost use lib.ListN.{length};
 ghost use lib.Seq.{sets};

@@ -1,7 +1,7 @@
 -- A listing writes the line, a survey nothing.
 use borrow.Author.Needs.{needs}
 use mathlib.Core.Bool.{Bool}
-use Rattle.valuetext.proofs.Stores.{writes-nothing}
+use Rattle.decimals.proofs.Stores.{writes-nothing}
 use Rattle.lines.proofs.Writing.{countable-of, writes-of}
 use Rattle.telling.specs.Telling.{closeText}
 -- ^ own imports

@@ -4,7 +4,7 @@ use mathlib.Core.Bool.{Bool}
 use mathlib.Core.List.{[], _∷_, _++_}
 use Rattle.snesl.specs.Ascii.{ascii, pieces}
 use Rattle.snesl.specs.Listing.{idText}
-use Rattle.valuetext.proofs.Stores.{writes-nothing, writes-then}
+use Rattle.decimals.proofs.Stores.{writes-nothing, writes-then}
 use Rattle.lines.specs.Pieces.{controlText}
 use Rattle.lines.proofs.Writing.{countable-of, countable-is, countable-first, countable-next, writes-of, writes-is}
 use Rattle.telling.specs.Telling.{openText}

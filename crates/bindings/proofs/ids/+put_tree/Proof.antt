@@ -11,7 +11,7 @@ use Rattle.bindings.proofs.ids.put_tree.Reads as put-tree
 use Rattle.bindings.proofs.ids.put_tree.Kinds as put-tree-kinds
 use Rattle.bindings.proofs.ids.+put_tree.Lts-put_tree as put-tree-lts
 use Rattle.lines.proofs.pieces.put_id.Reads as put-id-reads
-use Rattle.valuetext.proofs.numbers.put.Reads as put-reads
+use Rattle.decimals.proofs.numbers.put.Reads as put-reads
 use Rattle.bindings.proofs.ids.+put_tree.{statement}
 use Rattle.bindings.proofs.ids.+put_tree.Tie.{close}
 

@@ -5,7 +5,7 @@ use mathlib.Core.List.{[], _∷_, _++_}
 use Rattle.snesl.specs.Ascii.{ascii, pieces}
 use Rattle.snesl.specs.Transducers.{operands}
 use Rattle.snesl.specs.Listing.{idText, idsText, nameText}
-use Rattle.valuetext.proofs.Stores.{writes-then}
+use Rattle.decimals.proofs.Stores.{writes-then}
 use Rattle.lines.proofs.Writing.{countable-first, countable-next}
 -- ^ own imports
 use borrow.Author.Needs.{needs}

@@ -11,7 +11,7 @@ use Rattle.lines.proofs.instructions.put_name.Tie as tie
 use Rattle.lines.proofs.instructions.put_name.Reads as reads
 use Rattle.lines.proofs.instructions.put_name.Lts as lts
 use Rattle.lines.proofs.pieces.put_bytes.Reads as put-bytes-reads
-use Rattle.valuetext.proofs.numbers.write_int.Reads as write-int-reads
+use Rattle.decimals.proofs.numbers.write_int.Reads as write-int-reads
 
 -- src/instructions.rt:18:27
 enum-known-t : tie.Need-enum-known-t

@@ -5,7 +5,7 @@ use Rattle.snesl.specs.declared.code.Transducer.{Transducer}
 use Rattle.snesl.specs.Text.{joined}
 use Rattle.snesl.specs.Transducers.{operands}
 use Rattle.snesl.specs.Listing.{idsText}
-use Rattle.valuetext.proofs.Stores.{writes-nothing}
+use Rattle.decimals.proofs.Stores.{writes-nothing}
 use Rattle.lines.proofs.Writing.{countable-of, writes-of, operandsText}
 -- ^ own imports
 use borrow.Author.Needs.{needs}

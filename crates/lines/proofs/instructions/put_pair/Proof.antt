@@ -4,7 +4,7 @@ use borrow.Author.Needs.{needs}
 use mathlib.Core.List.{[], _∷_, _++_}
 use Rattle.snesl.specs.Text.{joined}
 use Rattle.snesl.specs.Listing.{idText}
-use Rattle.valuetext.proofs.Stores.{writes-then}
+use Rattle.decimals.proofs.Stores.{writes-then}
 use Rattle.lines.proofs.Writing.{countable-first, countable-next}
 -- ^ own imports
 use borrow.Author.Needs.{needs}
@@ -13,7 +13,7 @@ use Rattle.lines.proofs.instructions.put_pair.Tie as tie
 use Rattle.lines.proofs.instructions.put_pair.Reads as reads
 use Rattle.lines.proofs.instructions.put_pair.Lts as lts
 use Rattle.lines.proofs.pieces.put_id.Reads as put-id-reads
-use Rattle.valuetext.proofs.numbers.put.Reads as put-reads
+use Rattle.decimals.proofs.numbers.put.Reads as put-reads
 
 -- src/instructions.rt:55:9
 put-id-requires : tie.Need-put-id-requires

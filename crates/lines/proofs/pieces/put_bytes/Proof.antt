@@ -2,8 +2,8 @@
 use Prim.Native.Nat.{_≤_, _-_}
 use native.Mathlib.Omega.{arith}
 use lib.ListN.{length, take}
-use Rattle.valuetext.specs.Writing.{Writes}
-use Rattle.valuetext.proofs.Stores.{writes-nothing}
+use Rattle.decimals.specs.Writing.{Writes}
+use Rattle.decimals.proofs.Stores.{writes-nothing}
 use Rattle.lines.proofs.Writing.{writes-length, writes-byte, writes-so-far, writes-all}
 -- ^ own imports
 -- The bytes before i stand written.
@@ -11,14 +11,14 @@ use Prim.Native.Nat.{_≤_, _-_}
 use native.Mathlib.Omega.{arith}
 use lib.ListN.{length, take}
 use lib.Seq.{take-all}
-use Rattle.valuetext.specs.Writing.{Writes}
-use Rattle.valuetext.proofs.Stores.{writes-nothing}
+use Rattle.decimals.specs.Writing.{Writes}
+use Rattle.decimals.proofs.Stores.{writes-nothing}
 use Rattle.lines.proofs.Writing.{writes-length, writes-byte}
 use Rattle.lines.proofs.pieces.put_bytes.Statement.{statement}
 use Rattle.lines.proofs.pieces.put_bytes.Tie as tie
 use Rattle.lines.proofs.pieces.put_bytes.Reads as reads
 use Rattle.lines.proofs.pieces.put_bytes.Lts as lts
-use Rattle.valuetext.proofs.numbers.put.Reads as put-reads
+use Rattle.decimals.proofs.numbers.put.Reads as put-reads
 
 abbrev Inv-loop : tie.InvT-loop
 Inv-loop text₀ at bytes p₀ i₀ text p i = Writes text₀ text at (take i bytes) p × (i ≤ length bytes)

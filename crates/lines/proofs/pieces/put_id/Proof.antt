@@ -1,15 +1,15 @@
 -- An `s`, and the number.
 use native.Mathlib.Omega.{arith}
 use borrow.Author.Needs.{needs}
-use Rattle.valuetext.proofs.Stores.{writes-then}
+use Rattle.decimals.proofs.Stores.{writes-then}
 -- ^ own imports
 use borrow.Author.Needs.{needs}
 use Rattle.lines.proofs.pieces.put_id.Statement.{statement}
 use Rattle.lines.proofs.pieces.put_id.Tie as tie
 use Rattle.lines.proofs.pieces.put_id.Reads as reads
 use Rattle.lines.proofs.pieces.put_id.Lts as lts
-use Rattle.valuetext.proofs.numbers.put.Reads as put-reads
-use Rattle.valuetext.proofs.numbers.write_number.Reads as write-number-reads
+use Rattle.decimals.proofs.numbers.put.Reads as put-reads
+use Rattle.decimals.proofs.numbers.write_number.Reads as write-number-reads
 
 -- src/pieces.rt:28:9
 put-requires : tie.Need-put-requires

@@ -3,7 +3,7 @@ use borrow.Author.Needs.{needs}
 use mathlib.Core.List.{[], _∷_}
 use mathlib.Core.Bool.{Bool}
 use Rattle.snesl.specs.Listing.{idText}
-use Rattle.valuetext.proofs.Stores.{writes-then}
+use Rattle.decimals.proofs.Stores.{writes-then}
 use Rattle.lines.specs.Pieces.{nextText}
 use Rattle.lines.proofs.Writing.{countable-of, countable-next, writes-of}
 -- ^ own imports
@@ -13,7 +13,7 @@ use Rattle.lines.proofs.pieces.put_next.Tie as tie
 use Rattle.lines.proofs.pieces.put_next.Reads as reads
 use Rattle.lines.proofs.pieces.put_next.Lts as lts
 use Rattle.lines.proofs.pieces.put_id.Reads as put-id-reads
-use Rattle.valuetext.proofs.numbers.put.Reads as put-reads
+use Rattle.decimals.proofs.numbers.put.Reads as put-reads
 
 -- src/pieces.rt:39:9
 put-id-requires : tie.Need-put-id-requires

@@ -7,7 +7,6 @@ use native.Mathlib.Omega.{arith}
 use Rattle.valuetext.proofs.ReadingSteps.{Listing, listing-start, listing-lengths, listing-no, item-ready, item-comma, item-else, comma-inside, close-inside}
 use Rattle.valuetext.proofs.ReadingAt.{deeper, ready-at, read-at, empty-ready-at, empty-at, no-list-at, laid-of, none-of, part-ready, part-read, flag-ready-at, item-at, end-ready-at, close-at}
 use borrow.Author.Needs.{needs}
-use Prim.Native.Nat.{ℕ, _<_}
 use borrow.Fn.Kinds.{In}
 use borrow.Fn.PlainCycle.{Measures, is, falls, and}
 use Rattle.valuetext.proofs.reading.read_item.Reads as read-item

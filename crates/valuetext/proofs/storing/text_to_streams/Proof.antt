@@ -1,6 +1,5 @@
 -- Measured, then filled and its lengths copied, or refused in the order of the document.
 use mathlib.Core.Path.{sym, _∙_}
-use native.Mathlib.Omega.{arith}
 use lib.ListN.{replicate}
 use Rattle.valuetext.proofs.StoringSteps.{over-limit, no-value, over-all, no-elements, no-lengths, fillable, stored}
 use borrow.Author.Needs.{needs}

@@ -1,0 +1,5 @@
+pub mod Stores
+pub mod Parts
+pub mod NumberText
+pub mod NumberWriting
+pub mod IntText

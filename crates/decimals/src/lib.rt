@@ -1,0 +1,2 @@
+// Whole numbers as text.
+pub mod numbers;

@@ -1,0 +1,170 @@
+-- Streams that stand in a buffer, read from their cursors on: what stands at a cursor, what is left behind some of the values, and that they are one
+-- list of values only.
+use Prim.Native.Nat.{ℕ, zero, suc, _+_, _<_}
+use mathlib.Core.Bool.{Bool, true, false}
+use mathlib.Core.List.{List, [], _∷_, _++_, map}
+use mathlib.Core.Path.{_≡_, refl, sym, ap, ap₂, _∙_, subst}
+use native.Mathlib.Numerals.{add-one}
+use native.Mathlib.Omega.{arith}
+use borrow.Author.Tests.{ltb-true, ltb-false}
+use lib.Dec.{ltb}
+use lib.IntN.{ℤ, pos, negsuc}
+use lib.ListN.{length, getD, set, take, drop, replicate, length-append, length-replicate, drop-of-length-le}
+use lib.Seq.{drop-cons, take-take, take-append-seam, getD-set-same, getD-set-other}
+use native.Mathlib.Nat.{add-zero}
+use mir.Syntax.{w32}
+use mir.Val.{SFits, ofZ}
+use Rattle.snesl.specs.Values.{Val}
+use Rattle.snesl.specs.Streams.{bit}
+use Rattle.snesl.specs.Representation.{concat, segments}
+use Rattle.valuetext.specs.Laying.{advance}
+use Rattle.rendering.specs.Standing.{StandsAt, Stands}
+use Rattle.rendering.specs.Showing.{isStop}
+use Rattle.rendering.proofs.FittingSteps.{of-bits}
+use Rattle.valuetext.proofs.Laying.{concat-append, bits-append, bits-length, length-advance}
+
+pub no-stop : (z : ℤ) → SFits w32 z → ofZ w32 z ≡ 0 → false ≡ isStop z
+no-stop z f e = ap isStop (sym (of-bits 0 f e))
+
+pub a-stop : (z : ℤ) → (ofZ w32 z ≡ 0 → ⊥) → true ≡ isStop z
+a-stop (pos zero) e = absurd (e refl)
+a-stop (pos (suc n)) e = refl
+a-stop (negsuc n) e = refl
+
+-- ---- elements at a place
+
+stands-inside : (b : List ℤ) (c : ℕ) (z : ℤ) (zs : List ℤ) → StandsAt b c (z ∷ zs) → c < length b
+stands-inside b c z zs s = go (ltb c (length b)) refl
+  where
+    go : (t : Bool) → ltb c (length b) ≡ t → c < length b
+    go true e = ltb-true c (length b) e
+    go false e =
+        let n : drop c b ≡ [] = drop-of-length-le b (ltb-false c (length b) e) in
+        let x : _≡_ {A = List ℤ} [] (z ∷ zs) = subst (λ (l : List ℤ). take (length (z ∷ zs)) l ≡ z ∷ zs) n s in
+        let y : _≡_ {A = ℕ} 0 1 = cc in
+        absurd (omega arith)
+
+-- the first of them, and those behind it
+pub record Head (b : List ℤ) (c : ℕ) (z : ℤ) (zs : List ℤ) : Type 0 where
+  pub inside : c < length b
+  pub is : getD b c (pos 0) ≡ z
+  pub behind : StandsAt b (c + 1) zs
+
+pub stands-head : (b : List ℤ) (c : ℕ) (z : ℤ) (zs : List ℤ) → StandsAt b c (z ∷ zs) → Head b c z zs
+stands-head b c z zs s =
+    let h : c < length b = stands-inside b c z zs s in
+    let e : getD b c (pos 0) ∷ take (length zs) (drop (suc c) b) ≡ z ∷ zs =
+    subst (λ (l : List ℤ). take (length (z ∷ zs)) l ≡ z ∷ zs) (drop-cons b c (pos 0) h) s in
+    let p : getD b c (pos 0) ≡ z = cc in
+    let q : take (length zs) (drop (suc c) b) ≡ zs = cc in
+    record { inside = h; is = p; behind = ap (λ (j : ℕ). take (length zs) (drop j b)) (add-one c) ∙ q }
+
+pub stands-front : (b : List ℤ) (c : ℕ) (xs ys : List ℤ) → StandsAt b c (xs ++ ys) → StandsAt b c xs
+stands-front b c xs ys s =
+    sym (take-take (length xs) (length (xs ++ ys)) (drop c b) (omega (arith, length-append xs ys)))
+    ∙ ap (take (length xs)) s
+    ∙ take-append-seam xs ys
+
+pub stands-behind : (b : List ℤ) (c : ℕ) (xs ys : List ℤ) → StandsAt b c (xs ++ ys) → StandsAt b (c + length xs) ys
+stands-behind b c [] ys s = ap (λ (j : ℕ). take (length ys) (drop j b)) (add-zero c) ∙ s
+stands-behind b c (x ∷ xs) ys s =
+    let e : c + suc (length xs) ≡ c + 1 + length xs = omega arith in
+    ap (λ (j : ℕ). take (length ys) (drop j b)) e ∙ stands-behind b (c + 1) xs ys (stands-head b c x (xs ++ ys) s .behind)
+
+-- ---- streams of values
+
+pub stands-set : (d i x : ℕ) (b : List ℤ) (cs : List ℕ) (vs : List (Val d)) → d < i → Stands d b cs vs → Stands d b (set cs i x) vs
+unfolding Stands
+stands-set zero i x b cs vs h s = subst (λ (c : ℕ). StandsAt b c vs) (sym (getD-set-other cs i 0 x 0 (λ e. omega arith))) s
+stands-set (suc d) i x b cs vs h s = (
+  stands-set d i x b cs (concat vs) (omega arith) (s .0),
+  subst (λ (c : ℕ). StandsAt b c (map bit (segments vs))) (sym (getD-set-other cs i (suc d) x 0 (λ e. omega arith))) (s .1),
+)
+
+-- what stands behind some of them
+pub stands-on : (d : ℕ) (b : List ℤ) (cs : List ℕ) (vs ws : List (Val d)) → d < length cs → Stands d b cs (vs ++ ws) → Stands d b (advance d cs vs) ws
+unfolding Stands advance
+stands-on zero b cs vs ws h s =
+    subst (λ (c : ℕ). StandsAt b c ws) (sym (getD-set-same cs 0 (getD cs 0 0 + length vs) 0 h)) (stands-behind b (getD cs 0 0) vs ws s)
+stands-on (suc d) b cs vs ws h s =
+    let a : List ℕ = advance d cs (concat vs) in
+    let y : ℕ = getD cs (suc d) 0 + length (segments vs) in
+    let g : getD (set a (suc d) y) (suc d) 0 ≡ getD cs (suc d) 0 + length (map bit (segments vs)) =
+    getD-set-same a (suc d) y 0 (subst (λ (n : ℕ). suc d < n) (sym (length-advance d cs (concat vs))) h)
+    ∙ ap (λ (n : ℕ). getD cs (suc d) 0 + n) (sym (bits-length vs)) in (
+      stands-set d (suc d) y b a (concat ws) (omega arith)
+          (stands-on d b cs (concat vs) (concat ws) (omega arith) (subst (Stands d b cs) (concat-append vs ws) (s .0))),
+      subst (λ (c : ℕ). StandsAt b c (map bit (segments ws))) (sym g)
+          (stands-behind b (getD cs (suc d) 0) (map bit (segments vs)) (map bit (segments ws))
+          (subst (StandsAt b (getD cs (suc d) 0)) (bits-append vs ws) (s .1))),
+    )
+
+-- ---- a list's own flags
+
+-- the flags of a list of n items, and what follows
+pub own-flags : {A : Type 0} (v : List A) (vs : List (List A)) → map bit (segments (v ∷ vs)) ≡ replicate (length v) (pos 0) ++ pos 1 ∷ map bit (segments vs)
+unfolding segments
+own-flags v vs = go (length v)
+  where
+    go : (n : ℕ) → map bit (replicate n false ++ true ∷ segments vs) ≡ replicate n (pos 0) ++ pos 1 ∷ map bit (segments vs)
+    go zero = refl
+    go (suc n) = ap (λ (l : List ℤ). pos 0 ∷ l) (go n)
+
+pub flag-item : (b : List ℤ) (c n j : ℕ) (s : List ℤ) → StandsAt b c (replicate n (pos 0) ++ pos 1 ∷ s) → j < n
+    → (c + j < length b) × (getD b (c + j) (pos 0) ≡ pos 0)
+flag-item b c zero j s h l = absurd (omega arith)
+flag-item b c (suc n) zero s h l =
+    let k : Head b c (pos 0) (replicate n (pos 0) ++ pos 1 ∷ s) = stands-head b c (pos 0) (replicate n (pos 0) ++ pos 1 ∷ s) h in
+    (omega (arith, k .inside), ap (λ (i : ℕ). getD b i (pos 0)) (add-zero c) ∙ k .is)
+flag-item b c (suc n) (suc j) s h l =
+    let e : c + 1 + j ≡ c + suc j = omega arith in
+    subst (λ (i : ℕ). (i < length b) × (getD b i (pos 0) ≡ pos 0)) e
+    (flag-item b (c + 1) n j s (stands-head b c (pos 0) (replicate n (pos 0) ++ pos 1 ∷ s) h .behind) (omega arith))
+
+pub flag-end : (b : List ℤ) (c n : ℕ) (s : List ℤ) → StandsAt b c (replicate n (pos 0) ++ pos 1 ∷ s)
+    → (c + n < length b) × (getD b (c + n) (pos 0) ≡ pos 1)
+flag-end b c n s h =
+    let p : StandsAt b (c + length (replicate n (pos 0))) (pos 1 ∷ s) = stands-behind b c (replicate n (pos 0)) (pos 1 ∷ s) h in
+    let k : Head b (c + n) (pos 1) s =
+    stands-head b (c + n) (pos 1) s (subst (λ (m : ℕ). StandsAt b (c + m) (pos 1 ∷ s)) (length-replicate n (pos 0)) p) in
+    (k .inside, k .is)
+
+same-count : (b : List ℤ) (c n m : ℕ) (s t : List ℤ) → StandsAt b c (replicate n (pos 0) ++ pos 1 ∷ s)
+    → StandsAt b c (replicate m (pos 0) ++ pos 1 ∷ t) → n ≡ m
+same-count b c n m s t p q = go (ltb n m) refl (ltb m n) refl
+  where
+    clash : (i : ℕ) → getD b i (pos 0) ≡ pos 0 → getD b i (pos 0) ≡ pos 1 → ⊥
+    clash i x y = let z : _≡_ {A = ℕ} 0 1 = cc in omega arith
+
+    go : (x : Bool) → ltb n m ≡ x → (y : Bool) → ltb m n ≡ y → n ≡ m
+    go true e y f = absurd (clash (c + n) (flag-item b c m n t q (ltb-true n m e) .1) (flag-end b c n s p .1))
+    go false e true f = absurd (clash (c + m) (flag-item b c n m s p (ltb-true m n f) .1) (flag-end b c m t q .1))
+    go false e false f = omega (arith, ltb-false n m e, ltb-false m n f)
+
+-- ---- one value only
+
+module _ (d : ℕ) (b : List ℤ)
+    (one : (cs : List ℕ) (v : Val d) (vs : List (Val d)) (w : Val d) (ws : List (Val d)) → d < length cs → Stands d b cs (v ∷ vs) → Stands d b cs (w ∷ ws) → v ≡ w) where
+  same-items : (cs : List ℕ) (xs us ys ws : List (Val d)) → d < length cs → length xs ≡ length ys → Stands d b cs (xs ++ us) → Stands d b cs (ys ++ ws) → xs ≡ ys
+  same-items cs [] us [] ws h e p q = refl
+  same-items cs [] us (y ∷ ys) ws h e p q = absurd (omega arith)
+  same-items cs (x ∷ xs) us [] ws h e p q = absurd (omega arith)
+  same-items cs (x ∷ xs) us (y ∷ ys) ws h e p q =
+      let s : x ≡ y = one cs x (xs ++ us) y (ys ++ ws) h p q in
+      let l : d < length (advance d cs (x ∷ [])) = subst (λ (n : ℕ). d < n) (sym (length-advance d cs (x ∷ []))) h in
+      let r : Stands d b (advance d cs (x ∷ [])) (ys ++ ws) =
+      subst (λ (z : Val d). Stands d b (advance d cs (z ∷ [])) (ys ++ ws)) (sym s) (stands-on d b cs (y ∷ []) (ys ++ ws) h q) in
+      ap₂ (λ (z : Val d) (zs : List (Val d)). z ∷ zs) s
+      (same-items (advance d cs (x ∷ [])) xs us ys ws l (omega arith) (stands-on d b cs (x ∷ []) (xs ++ us) h p) r)
+
+pub one-value : (d : ℕ) (b : List ℤ) (cs : List ℕ) (v : Val d) (vs : List (Val d)) (w : Val d) (ws : List (Val d)) → d < length cs
+    → Stands d b cs (v ∷ vs) → Stands d b cs (w ∷ ws) → v ≡ w
+unfolding Stands concat
+one-value zero b cs v vs w ws h p q =
+    sym (stands-head b (getD cs 0 0) v vs p .is) ∙ stands-head b (getD cs 0 0) w ws q .is
+one-value (suc d) b cs v vs w ws h p q =
+    let n : length v ≡ length w =
+    same-count b (getD cs (suc d) 0) (length v) (length w) (map bit (segments vs)) (map bit (segments ws))
+    (subst (StandsAt b (getD cs (suc d) 0)) (own-flags v vs) (p .1))
+    (subst (StandsAt b (getD cs (suc d) 0)) (own-flags w ws) (q .1)) in
+    same-items d b (one-value d b) cs v (concat vs) w (concat ws) (omega arith) n (p .0) (q .0)

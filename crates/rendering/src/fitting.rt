@@ -1,0 +1,93 @@
+// Whether streams represent a value: the outermost flags are one segment, each other flags one for each F outside, and the data one int for each F.
+ghost use mathlib.Core.Path.{_≡_};
+ghost use lib.ListN.{length};
+ghost use Rattle.rendering.specs.Fitting.{flagAs, fitOf, fittingOf, InRow};
+
+// An element read as a flag.
+pub enum Flag {
+    F,
+    T,
+    Neither,
+}
+
+// How many items flags have, if they fit.
+pub enum Fit {
+    Items(usize),
+    No,
+}
+
+// The level that does not fit, outermost first.
+pub enum Fitting {
+    Fits,
+    Misfit(usize),
+}
+
+fn flag_of(z: i32) -> Flag
+    ensures { λ r. ⌜ r ≡ flagAs z ⌝ }
+{
+    if z == 0 {
+        return Flag::F;
+    }
+    if z == 1 {
+        return Flag::T;
+    }
+    Flag::Neither
+}
+
+// Whether these are n segments, each some F's and a T, and nothing else.
+fn fit_flags(flags: &[i32], n: usize) -> Fit
+    ensures { λ r. ⌜ r ≡ fitOf n (now (flags .entry)) ⌝ }
+{
+    let mut left = n;
+    let mut items: usize = 0;
+    let mut i: usize = 0;
+    while i < flags.len() {
+        if left == 0 {
+            return Fit::No;
+        }
+        let z = flags[i];
+        match flag_of(z) {
+            Flag::F => {
+                items += 1;
+                i += 1;
+            }
+            Flag::T => {
+                left -= 1;
+                i += 1;
+            }
+            Flag::Neither => {
+                return Fit::No;
+            }
+        }
+    }
+    if left > 0 {
+        return Fit::No;
+    }
+    Fit::Items(items)
+}
+
+// Streams one after another, tried level by level from the outermost flags on.
+pub fn first_misfit(elements: &[i32], lengths: &[usize], places: &[usize], depth: u8) -> Fitting
+    requires { ⌜ InRow depth (length (now elements)) (now lengths) (now places) ⌝ }
+    ensures { λ r. ⌜ r ≡ fittingOf depth (now (lengths .entry)) (now (elements .entry)) ⌝ }
+{
+    let mut n: usize = 1;
+    let mut level = depth as usize;
+    while level > 0 {
+        let start = places[level];
+        let end = start + lengths[level];
+        match fit_flags(&elements[start..end], n) {
+            Fit::Items(items) => {
+                n = items;
+                level -= 1;
+            }
+            Fit::No => {
+                return Fitting::Misfit(level);
+            }
+        }
+    }
+    if lengths[0] == n {
+        return Fitting::Fits;
+    }
+    Fitting::Misfit(0)
+}
