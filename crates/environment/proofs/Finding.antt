@@ -1,19 +1,20 @@
 -- Looking for a name: what one look at an entry says, and that the entry found is the one that checking found.
-use Prim.Native.Nat.{ℕ, zero, suc, _+_, _*_, _≤_, _<_}
-use mathlib.Core.Bool.{Bool, true, false}
+use Prim.Native.Nat.{ℕ, _+_, _*_, _≤_, _<_}
+use mathlib.Core.Bool.{true, false}
 use mathlib.Core.Path.{_≡_, refl, sym, _∙_, ap, subst}
-use mathlib.Core.List.{List, [], _∷_, _++_, append-assoc}
+use mathlib.Core.List.{List, _∷_, _++_, append-assoc}
 use native.Mathlib.Omega.{arith}
 use lib.Dec.{eqb}
 use lib.ListN.{length, getD, drop, length-append}
 use borrow.Author.Tests.{eq-eqb, ne-eqb}
+use Rattle.laws.proofs.Never.{never}
 use Rattle.laws.specs.Parts.{part}
 use Rattle.snesl.specs.declared.code.Variable.{Variable}
-use Rattle.snesl.specs.Terms.{_∋_, here, there, All, ∅, _▹_, lookup}
+use Rattle.snesl.specs.Terms.{_∋_, All, ∅, _▹_, lookup}
 use Rattle.snesl.specs.Trees.{Tree, leaf, node}
 use Rattle.snesl.specs.Checking.{Name, Found, missing, found, later, find}
 use Rattle.environment.specs.Words.{Place, placeWords, treeWords, treeSize, spelled, Sought, Entry}
-use Rattle.environment.proofs.Stack.{head-is, tail-is, head-within, front-is, rest-is, front-within}
+use Rattle.environment.proofs.Stack.{head-is, tail-is, front-is, rest-is, front-within}
 
 pub length-tree : {d : ℕ} → (t : Tree Place d) → length (treeWords t) ≡ treeSize d
 unfolding treeWords
@@ -112,7 +113,7 @@ module _ (env : List ℕ) (p : ℕ) (x : Variable) where
   look-at : {Γ : List ℕ} {d : ℕ} → (names : All Name Γ) (trees : All (Tree Place) Γ) (rest : List ℕ) (v : Γ ∋ d)
       → drop p env ≡ spelled names trees ++ rest → find x names ≡ found d v → Look env p x (lookup v trees)
   unfolding spelled find
-  look-at ∅ ∅ rest v e f = let z : _≡_ {A = ℕ} 0 1 = cc in absurd (omega arith)
+  look-at ∅ ∅ rest v e f = never (cc)
   look-at {d = d} (_▹_ {d = c} {Γ = Γ} y names) (t ▹ trees) rest v e f =
       let e′ : drop p env ≡ y .0 ∷ c ∷ (treeWords t ++ (spelled names trees ++ rest)) =
       e ∙ ap (λ l. y .0 ∷ c ∷ l) (append-assoc (treeWords t) (spelled names trees) rest) in

@@ -1,13 +1,12 @@
 -- Words moved one by one from the last one on: what a move that has come to word i has written.
-use Prim.Native.Nat.{ℕ, zero, suc, _+_, _-_, _≤_, _<_}
+use Prim.Native.Nat.{ℕ, suc, _+_, _-_, _≤_, _<_}
 use mathlib.Core.Logic.{_⊎_, inl, inr}
 use mathlib.Core.Path.{_≡_, refl, sym, _∙_, ap}
-use mathlib.Core.List.{List, [], _∷_, _++_}
-use native.Mathlib.Numerals.{add-one}
+use mathlib.Core.List.{List, [], _∷_}
 use native.Mathlib.Nat.{add-zero}
 use native.Mathlib.Omega.{arith}
-use lib.ListN.{length, getD, take, drop, set, length-drop}
-use lib.Seq.{sets, length-sets, set-comm, drop-drop}
+use lib.ListN.{length, getD, drop, set, length-drop}
+use lib.Seq.{sets, length-sets, set-comm}
 use Rattle.laws.specs.Parts.{part, written}
 use Rattle.laws.proofs.Parts.{length-part, part-next, part-end, same-below, take-sets, sets-written}
 use Rattle.environment.proofs.Stack.{getD-above, above-written}

@@ -6,7 +6,7 @@ use mathlib.Core.Path.{_≡_}
 use lib.ListN.{length, getD, drop}
 use Rattle.laws.specs.Parts.{part}
 use Rattle.snesl.specs.declared.code.Variable.{Variable}
-use Rattle.snesl.specs.Terms.{_∋_, All, ∅, _▹_, lookup}
+use Rattle.snesl.specs.Terms.{_∋_, All, ∅, _▹_}
 use Rattle.snesl.specs.Trees.{Tree, leaf, node}
 use Rattle.snesl.specs.Checking.{Name, find, found}
 

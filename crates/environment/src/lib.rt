@@ -2,11 +2,11 @@
 ghost use mathlib.Core.Path.{_≡_};
 ghost use mathlib.Core.List.{[], _∷_};
 ghost use mathlib.Core.Logic.{_⊎_};
-ghost use Prim.Native.Nat.{_+_, _≤_, _<_};
+ghost use Prim.Native.Nat.{_+_, _-_, _≤_, _<_};
 ghost use lib.ListN.{length};
 ghost use Rattle.laws.specs.Parts.{part, written};
 ghost use Rattle.snesl.specs.Terms.{lookup};
-ghost use Rattle.environment.specs.Words.{Sought, Entry};
+ghost use Rattle.environment.specs.Words.{treeSize, Sought, Entry};
 use snesl::code::Variable;
 
 // Where the newest entry of x stands, of the bindings from sp on.
@@ -51,4 +51,23 @@ pub fn put_name(env: &mut [u32], at: usize, x: Variable, depth: usize)
 {
     env[at] = x.0 as u32;
     env[at + 1] = depth as u32;
+}
+
+// A tree of this depth whose words stand just below sp becomes a binding of x in place; where it starts.
+pub fn bind_tree(env: &mut [u32], sp: usize, x: Variable, depth: usize) -> usize
+    requires { ⌜ (depth < 4294967296) × (treeSize depth + 2 ≤ sp) × (sp ≤ length (now env)) ⌝ }
+    ensures { λ r. ⌜ (r ≡ sp - treeSize depth - 2) × (now (env .exit) ≡ written (sp - treeSize depth - 2) (x .0 ∷ depth ∷ []) (now (env .entry))) ⌝ }
+{
+    let at = sp - (3 * depth + 3) - 2;
+    put_name(env, at, x, depth);
+    at
+}
+
+// A tree of this depth whose words stand just below `from`, up to just below `to`.
+pub fn lift_tree(env: &mut [u32], depth: usize, from: usize, to: usize)
+    requires { ⌜ (depth < 4294967296) × (treeSize depth ≤ from) × (from ≤ to) × (to ≤ length (now env)) ⌝ }
+    ensures { λ _. ⌜ now (env .exit) ≡ written (to - treeSize depth) (part (from - treeSize depth) (treeSize depth) (now (env .entry))) (now (env .entry)) ⌝ }
+{
+    let words = 3 * depth + 3;
+    move_words(env, from - words, to - words, words);
 }

@@ -5,7 +5,7 @@ use mathlib.Core.Bool.{true, false}
 use mathlib.Core.Option.{Option, some, none}
 use native.Mathlib.Nat.{add-zero}
 use borrow.Author.Tests.{le-leb}
-use mathlib.Core.List.{List, [], _∷_, _++_, append-nil}
+use mathlib.Core.List.{List, [], _++_, append-nil}
 use mathlib.Core.Path.{_≡_, refl, sym, _∙_, ap, ap₂, subst}
 use native.Mathlib.Omega.{arith}
 use lib.IntN.{ℤ, pos}
@@ -13,6 +13,7 @@ use mir.Facts.{toZ-ofZ}
 use mir.Syntax.{w32}
 use mir.Val.{SFits, toZ, ofZ}
 use lib.ListN.{length, take, drop, take-append-drop}
+use Rattle.laws.proofs.Never.{never}
 use Rattle.laws.specs.Parts.{part, written, cleared}
 use Rattle.snesl.specs.declared.code.StreamId.{StreamId}
 use Rattle.snesl.specs.declared.code.Transducer.{Transducer}
@@ -23,8 +24,8 @@ use Rattle.snesl.specs.Transducers.{Answer, made, unfit, unless, alone, misfit,
 use Rattle.streams.specs.Answers.{Answers, answered, after}
 use Rattle.streams.specs.declared.output.Output.{Output}
 use Rattle.streams.proofs.Store.{Holds, apply-constant, apply-to-flags, apply-usum, apply-map-two-plus, apply-scan-plus, apply-distr, apply-sum-plus}
-use Rattle.steps.specs.Holding.{Operands, of-const, of-toFlags, of-usum, of-mapTwoPlus, of-scanPlus, of-distr, of-sumPlus, IntsAt, FlagsAt, Applies, Transduced, mostElements}
-use Rattle.steps.proofs.Stores.{ints-within, ints-part, flags-within, flags-part}
+use Rattle.steps.specs.Holding.{Operands, of-toFlags, of-usum, of-mapTwoPlus, of-scanPlus, of-distr, of-sumPlus, IntsAt, FlagsAt, Applies, Transduced, mostElements}
+use Rattle.steps.proofs.Stores.{nothing-written, ints-within, ints-part, flags-within, flags-part}
 
 -- what a call that leaves exactly what its contract says of all its answers says of those that matter here
 transduced : {out : ℕ} {old new : List ℤ} {r : Output} {x y : Answer} → y ≡ x → Answers out old x r new → Transduced out old y r new
@@ -41,14 +42,6 @@ transduced {out} {old} {new} {r} {x} {y} e a =
           ]));
     }
 
--- nothing written
-none-written : (out : ℕ) (old : List ℤ) → old ≡ written out [] old
-unfolding written
-none-written out old =
-    sym
-    (ap (λ l. l ++ drop (out + 0) old) (append-nil (take out old))
-    ∙ (ap (λ k. take out old ++ drop k old) (add-zero out) ∙ take-append-drop out old))
-
 -- Usum takes no room, so it answers the same whatever room there is
 units-answered : (k out : ℕ) (old part : List ℤ) → answered 0 (snesl.usum flagOf k part) ≡ answered (length old - out) (snesl.usum flagOf k part)
 units-answered k out old part = go (misfit flagOf {B = ℤ} alone 0 k part [])
@@ -62,7 +55,7 @@ units-empty k part s e = go (misfit flagOf {B = ℤ} alone 0 k part []) e
   where
     go : (o : Option ℕ) → unless o unfit (made (units (countF flagOf part))) ≡ made s → elements s ≡ []
     go none q = let same : units (countF flagOf part) ≡ s = cc in ap elements (sym same)
-    go (some j) q = let z : _≡_ {A = ℕ} 0 1 = cc in absurd (omega arith)
+    go (some j) q = never (cc)
 
 module _ {at n at′ n′ : ℕ} {σ : Store} where
   one-int : {s : StreamId} → Operands σ at n at′ n′ (ToFlags s) → IntsAt σ (s .0) at n
@@ -148,7 +141,7 @@ module _ {at n at′ n′ out : ℕ} {buf : List ℤ} {σ : Store} where
             says = q ∙ (units-answered k out buf (part at n buf) ∙ ap (answered (length buf - out)) (sym is));
             wrote =
                 λ w f h.
-                none-written out buf
+                nothing-written out buf
                 ∙ ap (λ l. written out l buf) (sym (units-empty k (part at n buf) w (sym is ∙ f)));
           }
 

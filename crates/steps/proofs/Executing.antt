@@ -1,7 +1,7 @@
 -- `execute` meets its contract: what a transducer answers and leaves of the buffer is what one instruction does to the machine.
-use Prim.Native.Nat.{ℕ, zero, suc, _+_, _*_, _-_, _≤_, _<_, _^_}
+use Prim.Native.Nat.{ℕ, zero, suc, _+_, _-_, _≤_, _<_}
 use mathlib.Core.Bool.{Bool, true, false}
-use mathlib.Core.List.{List, [], _∷_, _++_, append-nil, append-assoc}
+use mathlib.Core.List.{List, [], _∷_, _++_, append-nil}
 use mathlib.Core.Option.{Option, some, none}
 use mathlib.Core.Logic.{_⊎_, inl, inr}
 use mathlib.Core.Path.{_≡_, refl, sym, _∙_, ap, ap₂, subst}
@@ -9,9 +9,10 @@ use native.Mathlib.Omega.{arith}
 use native.Mathlib.Nat.{add-zero}
 use borrow.Author.Tests.{le-leb, lt-leb, leb-true, leb-false}
 use lib.Dec.{leb}
-use lib.IntN.{ℤ, pos}
+use lib.IntN.{ℤ}
 use lib.ListN.{length, getD, take, drop, take-append-drop, length-append, length-map, length-drop}
 use lib.Seq.{take-at, drop-at}
+use Rattle.laws.proofs.Never.{never}
 use Rattle.laws.specs.Parts.{written}
 use Rattle.snesl.specs.declared.code.StreamId.{StreamId}
 use Rattle.snesl.specs.declared.code.Transducer.{Transducer}
@@ -29,13 +30,10 @@ use Rattle.streams.specs.declared.output.Output.the-variants as out
 use Rattle.steps.specs.declared.Executed.{Executed}
 use Rattle.steps.specs.declared.Executed.the-variants.{Made, Stopped}
 use Rattle.steps.specs.Walking.{stepped}
-use Rattle.steps.specs.Holding.{Held, lengthIn, lengthOf, IntsAt, FlagsAt, Operands, of-const, of-toFlags, of-usum, of-mapTwoPlus, of-scanPlus, of-distr, of-sumPlus, keeps, taking, Executable, Performed, Applies, Transduced, Grows, grown, mostElements, mostStreams}
-use Rattle.steps.proofs.Stores.{contents-more, room-more, newest, ints-within, flags-within}
-use Rattle.steps.proofs.Stepping.{Output, output-made, concluded, step-is, concluded-went, work-is, countF-most}
+use Rattle.steps.specs.Holding.{Held, lengthIn, lengthOf, Operands, of-const, of-toFlags, of-usum, of-mapTwoPlus, of-scanPlus, of-distr, of-sumPlus, keeps, taking, Executable, Performed, Applies, Transduced, Grows, grown, mostStreams}
+use Rattle.steps.proofs.Stores.{nothing-written, contents-more, room-more, newest, ints-within, flags-within}
+use Rattle.steps.proofs.Stepping.{same-state, Output, output-made, concluded, step-is, concluded-went, work-is, countF-most}
 use Rattle.streams.proofs.Store.{Holds}
-
-never : {X : Type 0} → _≡_ {A = ℕ} 0 1 → X
-never z = absurd (omega arith)
 
 -- the newest of a store is known from the store
 same-newest : (σ : Store) (a b : Stream) → σ ++ a ∷ [] ≡ σ ++ b ∷ [] → a ≡ b
@@ -135,17 +133,9 @@ empty-len (ScanPlus z s t) = refl
 empty-len (Distr s t) = refl
 empty-len (SumPlus s t) = refl
 
-same-state : (m m′ : State) → went m ≡ went m′ → m ≡ m′
-same-state m m′ e = cc
-
 module _ {t : Transducer} {at n at′ n′ : ℕ} {buf : List ℤ} {state : List ℕ} {m : State} (x : Executable t at n at′ n′ buf state m) where
-  nothing-written : buf ≡ written (room (m .store)) (elements (empty t)) buf
-  unfolding written
-  nothing-written =
-      sym
-      (ap (λ l. take (room (m .store)) buf ++ l ++ drop (room (m .store) + length l) buf) (empty-elements t)
-      ∙ (ap (λ l. l ++ drop (room (m .store) + 0) buf) (append-nil (take (room (m .store)) buf))
-      ∙ (ap (λ k. take (room (m .store)) buf ++ drop k buf) (add-zero (room (m .store))) ∙ take-append-drop (room (m .store)) buf)))
+  none-written : buf ≡ written (room (m .store)) (elements (empty t)) buf
+  none-written = nothing-written (room (m .store)) buf ∙ ap (λ l. written (room (m .store)) l buf) (sym (empty-elements t))
 
   pub skipped-over : (cap k : ℕ) (state′ : List ℕ) → k ≡ 0 → state′ ≡ grown state 0 0 0
       → Performed (stepped cap k t m) m buf buf state′ (Made 0)
@@ -160,7 +150,7 @@ module _ {t : Transducer} {at n at′ n′ : ℕ} {buf : List ℤ} {state : List
             let w : m .work + 0 ≡ m .work = add-zero (m .work) in
             let c : m .steps + 0 ≡ m .steps = add-zero (m .steps) in
             let both =
-            held-more (x .held) (empty t) 0 0 buf state′ (omega (arith, none, x .held .fits)) (x .more) (omega arith) (omega arith) nothing-written
+            held-more (x .held) (empty t) 0 0 buf state′ (omega (arith, none, x .held .fits)) (x .more) (omega arith) (omega arith) none-written
             (s ∙ ap (λ k. grown state k 0 0) (sym none)) m′
             (sym is ∙ (λ i. record { store = m .store ++ empty t ∷ []; work = sym w i; steps = sym c i })) in
             (ap Made (sym (empty-len t) ∙ ap len a-is), both .0, both .1);

@@ -1,13 +1,14 @@
 -- What a caller of `execute` learns from its answer: the machine that the instruction left, or why it stopped.
 use Prim.Native.Nat.{ℕ}
-use mathlib.Core.List.{List, [], _∷_, _++_}
-use mathlib.Core.Path.{_≡_, refl, sym, _∙_, ap}
+use mathlib.Core.List.{List}
+use mathlib.Core.Path.{_≡_, refl, sym, _∙_}
 use native.Mathlib.Omega.{arith}
 use lib.IntN.{ℤ}
+use Rattle.laws.proofs.Never.{never}
 use Rattle.snesl.specs.declared.code.Transducer.{Transducer}
 use Rattle.snesl.specs.declared.refusal.Refusal.{Refusal}
-use Rattle.snesl.specs.Streams.{Stream, len}
-use Rattle.snesl.specs.Machine.{State, Stop, Result, went, stopped}
+use Rattle.snesl.specs.Streams.{len}
+use Rattle.snesl.specs.Machine.{State, Result, went, stopped}
 use Rattle.snesl.specs.Outcome.{refusalOf}
 use Rattle.steps.specs.declared.Executed.{Executed}
 use Rattle.steps.specs.declared.Executed.the-variants.{Made, Stopped}
@@ -23,9 +24,6 @@ pub record Making (cap n : ℕ) (t : Transducer) (m : State) (old new : List ℤ
   pub long : made ≡ len (added-to .stream)
   pub held : Held after new state
   pub kept : keeps (after .store) old new
-
-never : {X : Type 0} → _≡_ {A = ℕ} 0 1 → X
-never z = absurd (omega arith)
 
 module _ (cap n : ℕ) (t : Transducer) {m : State} {old new : List ℤ} {state : List ℕ} {r : Executed}
     (p : Performed (stepped cap n t m) m old new state r) where

@@ -1,25 +1,21 @@
 -- One instruction: what it adds to the machine, of which kind its output is, and what it costs.
-use Prim.Native.Nat.{ℕ, zero, suc, _+_, _*_, _≤_}
+use Prim.Native.Nat.{ℕ, zero, suc, _+_, _≤_}
 use mathlib.Core.Bool.{Bool, true, false}
 use mathlib.Core.List.{List, [], _∷_, _++_, map}
 use mathlib.Core.Option.{Option, some, none, Option·getD}
 use mathlib.Core.Path.{_≡_, refl, sym, _∙_, ap}
 use native.Mathlib.Omega.{arith}
-use native.Mathlib.Nat.{add-zero, zero-add}
 use lib.IntN.{ℤ, pos}
 use lib.ListN.{length, replicate}
-use Rattle.snesl.specs.declared.code.StreamId.{StreamId}
+use Rattle.laws.proofs.Never.{never}
 use Rattle.snesl.specs.declared.code.Transducer.{Transducer}
 use Rattle.snesl.specs.declared.code.Transducer.the-variants.{Const, ToFlags, Usum, MapTwoPlus, ScanPlus, Distr, SumPlus}
-use Rattle.snesl.specs.Streams.{Stream, ints, flags, units, len, elements, Store, _!_, room}
+use Rattle.snesl.specs.Streams.{Stream, ints, flags, units, len, Store, _!_, room}
 use Rattle.snesl.specs.Transducers.{Answer, made, unfit, negative, outside, apply, operands, empty, unless, exact, onInts, onFlags, toFlags, usum, mapTwoPlus, scanPlus, distr, sumPlus, countF, alone, eachF, eachT, misfit, spread, scans, sums, pluses, firstOutside, firstNegative, unary, lengthMisfit}
-use Rattle.snesl.specs.Programs.{Program, done, define}
-use Rattle.snesl.specs.Machine.{State, Stop, full, unfitting, belowZero, outOfRange, Result, went, stopped, sumOf, workOf, fetch, push, step, skip, skipped, holding}
+use Rattle.snesl.specs.Programs.{done, define}
+use Rattle.snesl.specs.Machine.{State, full, unfitting, belowZero, outOfRange, Result, went, stopped, sumOf, workOf, fetch, push, step, skip, skipped, holding}
 use Rattle.steps.specs.Walking.{stepped}
-use Rattle.steps.specs.Holding.{lengthIn, lengthOf, Operands, of-const, of-toFlags, of-usum, of-mapTwoPlus, of-scanPlus, of-distr, of-sumPlus, IntsAt, FlagsAt}
-
-never : {X : Type 0} → _≡_ {A = ℕ} 0 1 → X
-never z = absurd (omega arith)
+use Rattle.steps.specs.Holding.{lengthIn, Operands, of-const, of-toFlags, of-usum, of-mapTwoPlus, of-scanPlus, of-distr, of-sumPlus}
 
 -- the kind of a transducer's output
 abbrev pub Output : Transducer → Stream → Type 0
@@ -131,7 +127,7 @@ pub record Added (m : State) (t : Transducer) (n : ℕ) (m′ : State) : Type 0 
   pub kind : Output t stream
   pub quiet : n ≡ 0 → stream ≡ empty t
 
-same-state : (m m′ : State) → went m ≡ went m′ → m ≡ m′
+pub same-state : (m m′ : State) → went m ≡ went m′ → m ≡ m′
 same-state m m′ e = cc
 
 pub concluded-went : (cap : ℕ) (t : Transducer) (n : ℕ) (m m′ : State) (x : Answer) → concluded cap t n m x ≡ went m′

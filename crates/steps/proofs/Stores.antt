@@ -3,16 +3,18 @@
 use Prim.Native.Nat.{ℕ, zero, suc, _+_, _≤_, _<_}
 use mathlib.Core.Bool.{Bool}
 use mathlib.Core.List.{List, [], _∷_, _++_, append-assoc, append-nil, map}
-use mathlib.Core.Option.{Option, some, none}
+use mathlib.Core.Option.{some}
 use mathlib.Core.Path.{_≡_, refl, sym, _∙_, ap}
 use native.Mathlib.Omega.{arith}
+use native.Mathlib.Nat.{add-zero}
 use lib.IntN.{ℤ}
-use lib.ListN.{length, take, length-append, length-map}
+use lib.ListN.{length, take, length-append, length-map, drop, take-append-drop}
 use lib.Seq.{take-append-le, take-append-seam}
-use Rattle.laws.specs.Parts.{part}
-use Rattle.snesl.specs.Streams.{Stream, ints, flags, units, len, bit, elements, Store, _!_, contents, room}
+use Rattle.laws.proofs.Never.{never}
+use Rattle.laws.specs.Parts.{part, written}
+use Rattle.snesl.specs.Streams.{Stream, ints, flags, bit, elements, Store, _!_, contents, room}
 use Rattle.streams.proofs.Store.{Holds, Stands, stands}
-use Rattle.steps.specs.Holding.{startOf, lengthIn, lengthOf, IntsAt, FlagsAt}
+use Rattle.steps.specs.Holding.{startOf, lengthIn, IntsAt, FlagsAt}
 
 pub contents-append : (σ τ : Store) → contents (σ ++ τ) ≡ contents σ ++ contents τ
 unfolding contents
@@ -31,9 +33,6 @@ room-append σ τ = ap length (contents-append σ τ) ∙ length-append (content
 
 pub room-more : (σ : Store) (a : Stream) → room (σ ++ a ∷ []) ≡ room σ + length (elements a)
 room-more σ a = ap length (contents-more σ a) ∙ length-append (contents σ) (elements a)
-
-never : {X : Type 0} → _≡_ {A = ℕ} 0 1 → X
-never z = absurd (omega arith)
 
 -- an id that names a stream is below the next one
 pub named : (σ : Store) (s : ℕ) (a : Stream) → σ ! s ≡ some a → s < length σ
@@ -121,3 +120,11 @@ newest-flags σ bs =
       start = sym (start-newest σ (flags bs));
       long = sym (ap lengthIn (newest σ (flags bs)));
     }
+
+-- nothing written changes nothing
+pub nothing-written : {A : Type 0} (out : ℕ) (l : List A) → l ≡ written out [] l
+unfolding written
+nothing-written out l =
+    sym
+    (ap (λ k. k ++ drop (out + 0) l) (append-nil (take out l))
+    ∙ (ap (λ k. take out l ++ drop k l) (add-zero out) ∙ take-append-drop out l))

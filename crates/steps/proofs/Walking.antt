@@ -4,15 +4,14 @@ use mathlib.Core.Bool.{Bool, true, false}
 use mathlib.Core.List.{List, [], _∷_, _++_, append-assoc, append-nil}
 use mathlib.Core.Option.{Option, some, none}
 use mathlib.Core.Path.{_≡_, refl, sym, _∙_, ap}
-use native.Mathlib.Nat.{zero-add}
 use native.Mathlib.Omega.{arith}
 use lib.ListN.{length, length-append}
+use Rattle.laws.proofs.Never.{never}
 use Rattle.snesl.specs.declared.code.Transducer.{Transducer}
-use Rattle.snesl.specs.declared.code.Transducer.the-variants.{Const, ToFlags, Usum, MapTwoPlus, ScanPlus, Distr, SumPlus}
-use Rattle.snesl.specs.Streams.{Stream, ints, flags, units, len, Store, _!_, room}
+use Rattle.snesl.specs.Streams.{Stream, units, Store, _!_, room}
 use Rattle.snesl.specs.Transducers.{Answer, made, unfit, negative, outside, apply, empty}
 use Rattle.snesl.specs.Programs.{Program, done, define, withCtrl, _⨾_, count}
-use Rattle.snesl.specs.Machine.{State, Stop, full, unfitting, belowZero, outOfRange, Result, went, stopped, onward, push, step, skipped, skip, unitsOf, run, holding}
+use Rattle.snesl.specs.Machine.{State, full, unfitting, belowZero, outOfRange, Result, went, stopped, onward, push, step, skipped, skip, unitsOf, run, holding}
 use Rattle.steps.specs.Walking.{stepped, walked}
 
 abbrev spent : Store → State → State
@@ -81,7 +80,7 @@ pub record Grown (m : State) (p : Program) (m′ : State) : Type 0 where
 
 onward-went : (r : Result) (f : State → Result) (m′ : State) → onward r f ≡ went m′ → (m : State) × (r ≡ went m) × (f m ≡ went m′)
 onward-went (went m) f m′ e = (m, refl, e)
-onward-went (stopped why s) f m′ e = let z : _≡_ {A = ℕ} 0 1 = cc in absurd (omega arith)
+onward-went (stopped why s) f m′ e = never (cc)
 
 grown-then : (m m₁ m′ : State) (p q r : Program) → Grown m p m₁ → Grown m₁ q m′ → count r ≡ count p + count q → Grown m r m′
 grown-then m m₁ m′ p q r g h e =
@@ -111,7 +110,7 @@ step-grown fits t n m m′ e = go (apply t n (m .store)) e
     room-or : (a : Stream) (b : Bool) → elim b [ true ↦ went (push t n a m) | false ↦ stopped full (length (m .store)) ] ≡ went m′
         → Grown m (define t done) m′
     room-or a true q = record { streams = a ∷ []; store = went-store (push t n a m) m′ q; number = refl }
-    room-or a false q = let z : _≡_ {A = ℕ} 0 1 = cc in absurd (omega arith)
+    room-or a false q = never (cc)
 
     go : (x : Answer)
         → elim x [
@@ -123,15 +122,15 @@ step-grown fits t n m m′ e = go (apply t n (m .store)) e
         ] ≡ went m′
         → Grown m (define t done) m′
     go (made a) q = room-or a (fits (room (m .store ++ a ∷ []))) q
-    go (unfit k) q = let z : _≡_ {A = ℕ} 0 1 = cc in absurd (omega arith)
-    go (negative k) q = let z : _≡_ {A = ℕ} 0 1 = cc in absurd (omega arith)
-    go (outside k) q = let z : _≡_ {A = ℕ} 0 1 = cc in absurd (omega arith)
+    go (unfit k) q = never (cc)
+    go (negative k) q = never (cc)
+    go (outside k) q = never (cc)
 
 body-grown : (fits : ℕ → Bool) (b : Program) (m m′ : State) (o : Option ℕ)
     → ((j : ℕ) → run fits b (suc j) m ≡ went m′ → Grown m b m′)
     → elim o [ none ↦ stopped (unfitting 0) (length (m .store)) | some k ↦ elim k [ zero ↦ went (skip b m) | suc j ↦ run fits b (suc j) m ] ] ≡ went m′
     → Grown m b m′
-body-grown fits b m m′ none f e = let z : _≡_ {A = ℕ} 0 1 = cc in absurd (omega arith)
+body-grown fits b m m′ none f e = never (cc)
 body-grown fits b m m′ (some zero) f e = skip-grown b m m′ e
 body-grown fits b m m′ (some (suc j)) f e = f j e
 

@@ -10,7 +10,7 @@ use Rattle.snesl.specs.declared.code.StreamId.{StreamId}
 use Rattle.snesl.specs.declared.code.Transducer.{Transducer}
 use Rattle.snesl.specs.declared.code.Transducer.the-variants.{Const, ToFlags, Usum, MapTwoPlus, ScanPlus, Distr, SumPlus}
 use Rattle.snesl.specs.declared.refusal.Refusal.{Refusal}
-use Rattle.snesl.specs.Streams.{Stream, ints, flags, units, len, elements, Store, _!_, contents, room}
+use Rattle.snesl.specs.Streams.{Stream, ints, flags, len, elements, Store, _!_, contents, room}
 use Rattle.laws.specs.Parts.{written}
 use Rattle.snesl.specs.Transducers.{Answer, made}
 use Rattle.streams.specs.Answers.{answered}

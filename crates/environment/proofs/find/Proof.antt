@@ -6,8 +6,6 @@ use lib.ListN.{length}
 use Rattle.environment.proofs.Finding.{Searching, start, turn, done, within}
 use Rattle.environment.proofs.find.Statement.{statement}
 use Rattle.environment.proofs.find.Tie as tie
-use Rattle.environment.proofs.find.Reads as reads
-use Rattle.environment.proofs.find.Lts as lts
 
 abbrev Inv-loop : tie.InvT-loop
 Inv-loop env sp name p₀ p = Searching env sp p (record { 0 = name })

@@ -3,8 +3,6 @@ use native.Mathlib.Omega.{arith}
 use Rattle.environment.proofs.Moving.{Moving, Clear, start, turn, done, same-length as kept}
 use Rattle.environment.proofs.move_words.Statement.{statement}
 use Rattle.environment.proofs.move_words.Tie as tie
-use Rattle.environment.proofs.move_words.Reads as reads
-use Rattle.environment.proofs.move_words.Lts as lts
 
 abbrev Inv-loop : tie.InvT-loop
 Inv-loop env₀ from to count i₀ env i = Clear env₀ from to count × Moving env₀ from to count env i

@@ -5,8 +5,6 @@ use Rattle.environment.proofs.Stack.{two-written}
 use borrow.Author.Needs.{needs}
 use Rattle.environment.proofs.put_name.Statement.{statement}
 use Rattle.environment.proofs.put_name.Tie as tie
-use Rattle.environment.proofs.put_name.Reads as reads
-use Rattle.environment.proofs.put_name.Lts as lts
 
 cast-env : tie.Need-cast-env
 cast-env c = search needs

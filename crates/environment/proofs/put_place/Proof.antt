@@ -5,8 +5,6 @@ use Rattle.environment.proofs.Stack.{three-written}
 use borrow.Author.Needs.{needs}
 use Rattle.environment.proofs.put_place.Statement.{statement}
 use Rattle.environment.proofs.put_place.Tie as tie
-use Rattle.environment.proofs.put_place.Reads as reads
-use Rattle.environment.proofs.put_place.Lts as lts
 
 cast-env : tie.Need-cast-env
 cast-env c = search needs

@@ -3,8 +3,6 @@ use Rattle.steps.proofs.Counting.{advanced}
 use borrow.Author.Needs.{needs}
 use Rattle.steps.proofs.advance.Statement.{statement}
 use Rattle.steps.proofs.advance.Tie as tie
-use Rattle.steps.proofs.advance.Reads as reads
-use Rattle.steps.proofs.advance.Lts as lts
 
 slice-read-streams : tie.Need-slice-read-streams
 slice-read-streams c = search needs

@@ -3,14 +3,10 @@ use mathlib.Core.Path.{_≡_}
 use Prim.Native.Nat.{ℕ}
 use borrow.Author.Needs.{needs}
 use native.Mathlib.Omega.{arith}
+use Rattle.laws.proofs.Never.{never}
 use Rattle.steps.proofs.Executing.{skipped-over, applies, performed-made, performed-none, room-for, costs, grows, four-words}
 use Rattle.steps.proofs.execute.Statement.{statement}
 use Rattle.steps.proofs.execute.Tie as tie
-use Rattle.steps.proofs.execute.Reads as reads
-use Rattle.steps.proofs.execute.Lts as lts
-use Rattle.steps.proofs.advance.Reads as advance-reads
-use Rattle.steps.proofs.taken.Reads as taken-reads
-use Rattle.steps.proofs.transduce.Reads as transduce-reads
 
 advance-requires : tie.Need-advance-requires
 advance-requires c κs = grows (c .before .before .before .pre .1 .held) 0 0 0 (omega arith) (omega arith) (omega arith)
@@ -79,25 +75,25 @@ same-length-4 : tie.Need-same-length-4
 same-length-4 c = search needs
 
 returns-3 : tie.Need-returns-3
-returns-3 c = λ m x. performed-none x _ (c .before .before .before .before .transduce .ensures (m .store) (applies x)) _ (c .before .enum-told .given .1) (λ j e. let z : _≡_ {A = ℕ} 0 1 = cc in omega arith) (omega (arith, c .before .before .before .before .before .before .before .if1 .left))
+returns-3 c = λ m x. performed-none x _ (c .before .before .before .before .transduce .ensures (m .store) (applies x)) _ (c .before .enum-told .given .1) (λ j e. never (cc)) (omega (arith, c .before .before .before .before .before .before .before .if1 .left))
 
 same-length-5 : tie.Need-same-length-5
 same-length-5 c = search needs
 
 returns-4 : tie.Need-returns-4
-returns-4 c = λ m x. performed-none x _ (c .before .before .before .before .transduce .ensures (m .store) (applies x)) _ (c .before .enum-told2 .given .1) (λ j e. let z : _≡_ {A = ℕ} 0 1 = cc in omega arith) (omega (arith, c .before .before .before .before .before .before .before .if1 .left))
+returns-4 c = λ m x. performed-none x _ (c .before .before .before .before .transduce .ensures (m .store) (applies x)) _ (c .before .enum-told2 .given .1) (λ j e. never (cc)) (omega (arith, c .before .before .before .before .before .before .before .if1 .left))
 
 same-length-6 : tie.Need-same-length-6
 same-length-6 c = search needs
 
 returns-5 : tie.Need-returns-5
-returns-5 c = λ m x. performed-none x _ (c .before .before .before .before .transduce .ensures (m .store) (applies x)) _ (c .before .enum-told3 .given .1) (λ j e. let z : _≡_ {A = ℕ} 0 1 = cc in omega arith) (omega (arith, c .before .before .before .before .before .before .before .if1 .left))
+returns-5 c = λ m x. performed-none x _ (c .before .before .before .before .transduce .ensures (m .store) (applies x)) _ (c .before .enum-told3 .given .1) (λ j e. never (cc)) (omega (arith, c .before .before .before .before .before .before .before .if1 .left))
 
 same-length-7 : tie.Need-same-length-7
 same-length-7 c = search needs
 
 returns-6 : tie.Need-returns-6
-returns-6 c = λ m x. performed-none x _ (c .before .before .before .before .transduce .ensures (m .store) (applies x)) _ (c .before .enum-told4 .given .1) (λ j e. let z : _≡_ {A = ℕ} 0 1 = cc in omega arith) (omega (arith, c .before .before .before .before .before .before .before .if1 .left))
+returns-6 c = λ m x. performed-none x _ (c .before .before .before .before .transduce .ensures (m .store) (applies x)) _ (c .before .enum-told4 .given .1) (λ j e. never (cc)) (omega (arith, c .before .before .before .before .before .before .before .if1 .left))
 
 pub execute-spec : {M : Type 1} → statement M
 execute-spec =

@@ -6,15 +6,6 @@ use Rattle.steps.proofs.Applying.{room-left, to-flags-fits, usum-fits, 
 use Rattle.steps.proofs.Applying.{room-left, to-flags-fits, usum-fits, map-two-plus-fits, scan-plus-fits, distr-fits, sum-plus-fits, constant-answers, to-flags-answers, usum-answers, map-two-plus-answers, scan-plus-answers, distr-answers, sum-plus-answers}
 use Rattle.steps.proofs.transduce.Statement.{statement}
 use Rattle.steps.proofs.transduce.Tie as tie
-use Rattle.steps.proofs.transduce.Reads as reads
-use Rattle.steps.proofs.transduce.Lts as lts
-use Rattle.streams.proofs.constant.Reads as constant-reads
-use Rattle.itemwise.proofs.map_two_plus.Reads as map-two-plus-reads
-use Rattle.segmentwise.proofs.scan_plus.Reads as scan-plus-reads
-use Rattle.segmentwise.proofs.distr.Reads as distr-reads
-use Rattle.segmentwise.proofs.sum_plus.Reads as sum-plus-reads
-use Rattle.itemwise.proofs.to_flags.Reads as to-flags-reads
-use Rattle.streams.proofs.usum.Reads as usum-reads
 
 enum-known-t : tie.Need-enum-known-t
 enum-known-t c = search needs
