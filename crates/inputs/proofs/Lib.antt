@@ -1,0 +1,5 @@
+pub mod Supplying
+pub mod Checking
+pub mod Rows
+pub mod OneLoaded
+pub mod AllLoaded
