@@ -1,0 +1,76 @@
+//! The program `bench`: the leads' biggest sheet by a plain Rust walk and by the verified library.
+//!
+//! The sheet is a plus and a sum for each stop of each area. Both sides take the same value texts
+//! and give the same answer text; then each is timed without the text. It measures, it judges
+//! nothing: the times are of one run on one computer.
+
+#[cfg(feature = "linked")]
+mod linked;
+mod sheet;
+mod timing;
+mod walk;
+
+use sheet::Sheet;
+use std::process::ExitCode;
+use std::time::Duration;
+
+/// The time of a sheet from text to text, and without the text.
+pub struct Times {
+    pub with_text: Duration,
+    pub alone: Duration,
+}
+
+fn main() -> ExitCode {
+    let arguments: Vec<String> = std::env::args().skip(1).collect();
+    let sizes: &[usize] = match arguments.iter().map(String::as_str).collect::<Vec<_>>()[..] {
+        [] => &[1_000],
+        ["--large"] => &[1_000, 10_000],
+        _ => {
+            eprintln!("usage: bench [--large]    with --large also 10,000 readings");
+            return ExitCode::from(2);
+        }
+    };
+    for readings in sizes {
+        report(&Sheet::new(*readings));
+    }
+    ExitCode::SUCCESS
+}
+
+fn report(sheet: &Sheet) {
+    println!("{} readings, ten to a stop, ten stops to an area", sheet.readings);
+    let answer = walk::from_text_to_text(&sheet.areas_text, &sheet.correction_text);
+    println!("  {} bytes of value text in, {} out", sheet.areas_text.len(), answer.len());
+    if let Ok(run) = reference::run(&sheet.job, 16_384, 65_536) {
+        assert_eq!(answer.as_bytes(), run.text, "the walk's answer is the model's");
+    }
+    let walk = walk::times(sheet);
+    print_times("walk", &walk);
+    report_library(sheet, &answer, &walk);
+}
+
+#[cfg(feature = "linked")]
+fn report_library(sheet: &Sheet, answer: &str, walk: &Times) {
+    match linked::times(sheet, answer) {
+        Ok(library) => {
+            print_times("library", &library);
+            let ratio =
+                |library: Duration, walk: Duration| library.as_secs_f64() / walk.as_secs_f64();
+            let with_text = ratio(library.with_text, walk.with_text);
+            let alone = ratio(library.alone, walk.alone);
+            println!("  {:8} {with_text:14.2} text to text {alone:14.2} alone", "ratio");
+            println!("  the library alone is its run less its two conversions of the same values");
+        }
+        Err(refusal) => println!("  library  {refusal}"),
+    }
+}
+
+#[cfg(not(feature = "linked"))]
+fn report_library(_: &Sheet, _: &str, _: &Times) {
+    println!("  library  not linked: build with --features linked");
+}
+
+fn print_times(side: &str, times: &Times) {
+    let microseconds = |time: Duration| time.as_secs_f64() * 1e6;
+    let (with_text, alone) = (microseconds(times.with_text), microseconds(times.alone));
+    println!("  {side:8} {with_text:11.1} us text to text {alone:11.1} us alone");
+}

@@ -1,0 +1,236 @@
+//! Jobs at a limit of document 01 and one past it.
+
+use crate::random::Random;
+use reference::limits;
+use reference::record::Record;
+
+type FormulaAndTexts = (Vec<Record>, Vec<Vec<u8>>);
+
+/// A job at or one past some limit, and its formula.
+pub fn job_and_formula(random: &mut Random) -> (Vec<u8>, Vec<u8>) {
+    let past = random.below(2) as usize;
+    let (records, texts) = match random.below(10) {
+        0 => inputs(limits::INPUTS + past),
+        1 => expression_records(random, limits::EXPRESSION_RECORDS + past),
+        2 => nested_lets(random, limits::NESTING + past),
+        3 => nested_comprehensions(past),
+        4 => input_depth(limits::DEPTH as usize + past),
+        5 => type_depth(limits::DEPTH as usize + past),
+        6 => highest_variable(random, limits::VARIABLE + past as u8),
+        7 => using_list(limits::USING + past),
+        8 => full_stream_buffer(random, past),
+        _ => return job_and_formula_of_bytes(limits::BYTES + past),
+    };
+    crate::job_and_formula(&records, &texts)
+}
+
+fn one(variable: u8) -> [Record; 2] {
+    [Record::Let { variable }, Record::Constant { number: 1 }]
+}
+
+fn inputs(count: usize) -> FormulaAndTexts {
+    let mut records: Vec<Record> =
+        (0..count).map(|index| Record::Input { variable: index as u8, depth: 0 }).collect();
+    records.push(Record::Plus { left: 0, right: count as u8 - 1 });
+    (records, vec![b"7".to_vec(); count])
+}
+
+/// Lets and their parts; an even count takes a comprehension round them.
+fn expression_records(random: &mut Random, count: usize) -> FormulaAndTexts {
+    let mut records = vec![Record::Input { variable: 0, depth: 1 }];
+    if count.is_multiple_of(2) {
+        records.push(Record::Each { item: 0, source: 0, using: vec![] });
+    }
+    lets(random, (count - 1) / 2, &mut records);
+    (records, vec![b"{5,6}".to_vec()])
+}
+
+/// So many lets, with one part more than lets.
+fn lets(random: &mut Random, count: usize, records: &mut Vec<Record>) {
+    if count == 0 {
+        records.push(Record::Constant { number: random.below(9) as i32 });
+        return;
+    }
+    let first = random.below(count as u64) as usize;
+    records.push(Record::Let { variable: random.below(64) as u8 });
+    lets(random, first, records);
+    lets(random, count - 1 - first, records);
+}
+
+fn nested_lets(random: &mut Random, count: usize) -> FormulaAndTexts {
+    let mut records = Vec::new();
+    if random.one_in(2) {
+        records.extend((0..count).flat_map(|_| one(3)));
+        records.push(Record::Variable { variable: 3 });
+    } else {
+        records.extend((0..count).map(|_| Record::Let { variable: 3 }));
+        records.push(Record::Constant { number: 1 });
+        records.extend((0..count).map(|_| Record::Variable { variable: 3 }));
+    }
+    (records, vec![])
+}
+
+/// Sums over comprehensions in one another: each level puts four records round the next.
+fn nested_comprehensions(past: usize) -> FormulaAndTexts {
+    let levels = limits::NESTING / 4;
+    let mut records = Vec::new();
+    for _ in 0..levels {
+        records.extend(one(0));
+        records.extend([Record::Let { variable: 1 }, Record::Iota { variable: 0 }]);
+        records.push(Record::Let { variable: 2 });
+        records.push(Record::Each { item: 3, source: 1, using: vec![] });
+    }
+    records.extend((0..past).flat_map(|_| one(4)));
+    records.push(Record::Constant { number: 5 });
+    records.extend((0..levels).map(|_| Record::Sum { variable: 2 }));
+    (records, vec![])
+}
+
+fn input_depth(depth: usize) -> FormulaAndTexts {
+    let records =
+        vec![Record::Input { variable: 0, depth: depth as u8 }, Record::Variable { variable: 0 }];
+    (records, vec![[b"{".repeat(depth), b"4".to_vec(), b"}".repeat(depth)].concat()])
+}
+
+/// Iotas of items of iotas, till the type has this depth.
+fn type_depth(depth: usize) -> FormulaAndTexts {
+    let mut records = vec![Record::Input { variable: 0, depth: 1 }];
+    for level in 0..depth {
+        if level > 0 {
+            records.extend([Record::Let { variable: 0 }, Record::Iota { variable: 1 }]);
+        }
+        records.push(Record::Each { item: 1, source: 0, using: vec![] });
+    }
+    records.push(Record::Variable { variable: 1 });
+    (records, vec![b"{9,0,10}".to_vec()])
+}
+
+fn highest_variable(random: &mut Random, variable: u8) -> FormulaAndTexts {
+    let list = Record::Input { variable: 1, depth: 1 };
+    let int = Record::Input { variable: 2, depth: 0 };
+    let mut records = vec![list, int];
+    let bound = [Record::Let { variable: 63 }, Record::Variable { variable: 2 }];
+    match random.below(7) {
+        0 => records[0] = Record::Input { variable, depth: 1 },
+        1 => records.push(Record::Let { variable }),
+        2 => records.push(Record::Each { item: variable, source: 1, using: vec![] }),
+        3 => {
+            records.extend(bound);
+            records.push(Record::Each { item: 3, source: 1, using: vec![2, variable] });
+        }
+        4 => {
+            records.extend(bound);
+            records.extend([Record::Let { variable: 5 }, Record::Iota { variable }]);
+        }
+        5 => {
+            records.extend(bound);
+            records
+                .extend([Record::Let { variable: 5 }, Record::Plus { left: 2, right: variable }]);
+        }
+        _ => {
+            records.extend([Record::Let { variable: 63 }, Record::Variable { variable: 1 }]);
+            records.extend([Record::Let { variable: 5 }, Record::Sum { variable }]);
+        }
+    }
+    if let Some(Record::Let { .. }) = records.last() {
+        records.push(Record::Constant { number: 2 });
+    }
+    records.push(Record::Constant { number: 3 });
+    (records, vec![b"{1,2}".to_vec(), b"3".to_vec()])
+}
+
+fn using_list(count: usize) -> FormulaAndTexts {
+    let using: Vec<u8> = (1..=count as u8).collect();
+    let mut records = vec![Record::Input { variable: 0, depth: 1 }];
+    records.extend(using.iter().map(|variable| Record::Input { variable: *variable, depth: 0 }));
+    records.push(Record::Each { item: 0, source: 0, using });
+    records.push(Record::Plus { left: 0, right: count as u8 });
+    let mut texts = vec![b"8".to_vec(); count + 1];
+    texts[0] = b"{4,-1,0}".to_vec();
+    (records, texts)
+}
+
+/// Room for every element of the used part, or one more than that.
+fn full_stream_buffer(random: &mut Random, past: usize) -> FormulaAndTexts {
+    let half = limits::STREAM_ELEMENTS / 2;
+    let list = Record::Input { variable: 63, depth: 1 };
+    let list_text = [b"{0".as_slice(), &b",1".repeat(half - 2), b"}"].concat();
+    let (input, expression, ints) = match random.below(3) {
+        0 => (Some(list), vec![Record::Variable { variable: 63 }], 1 + past),
+        1 => (Some(list), vec![Record::Sum { variable: 63 }], past),
+        _ => {
+            // The iota takes its constant, and three streams with one flag more.
+            let number = (limits::STREAM_ELEMENTS as i32 - 2) / 3;
+            let room = 3 * number as usize + 2;
+            let constant = Record::Constant { number };
+            let iota = Record::Iota { variable: 62 };
+            let expression = vec![Record::Let { variable: 62 }, constant, iota];
+            (None, expression, limits::STREAM_ELEMENTS - room + past)
+        }
+    };
+    let mut records: Vec<Record> =
+        (0..ints).map(|index| Record::Input { variable: index as u8, depth: 0 }).collect();
+    let mut texts = vec![b"-3".to_vec(); ints];
+    if let Some(input) = input {
+        records.push(input);
+        texts.push(list_text);
+    }
+    records.extend(expression);
+    (records, texts)
+}
+
+/// A job and a formula of just so many bytes: a long value text, and bytes left over.
+fn job_and_formula_of_bytes(length: usize) -> (Vec<u8>, Vec<u8>) {
+    let records = [Record::Input { variable: 0, depth: 1 }, Record::Variable { variable: 0 }];
+    let mut job = Record::write_all(&records);
+    let (value_header, braces) = (4, 2);
+    let inside_braces = length - job.len() - value_header - braces;
+    let number = b"-2147483648,";
+    let numbers = number.repeat((inside_braces - 1) / number.len());
+    let mut last = vec![b'1'; inside_braces - numbers.len()];
+    match last.len() {
+        12 => last[1] = b',',
+        11 => last[0] = b'-',
+        _ => {}
+    }
+    Record::Value { text: [b"{", numbers.as_slice(), &last, b"}"].concat() }.write(&mut job);
+    let mut formula = Record::write_all(&[Record::Constant { number: 0 }]);
+    formula.resize(length, b'K');
+    (job, formula)
+}
+
+#[cfg(test)]
+mod tests {
+    use super::*;
+
+    /// The refusal's number, 0 for an answer.
+    fn outcome(job: &[u8]) -> u32 {
+        let answer = reference::run(job, limits::STREAM_ELEMENTS, limits::ANSWER_BYTES);
+        answer.map_or_else(|refusal| refusal.number, |_| 0)
+    }
+
+    fn outcome_of((records, texts): FormulaAndTexts) -> u32 {
+        outcome(&crate::job_and_formula(&records, &texts).0)
+    }
+
+    #[test]
+    fn a_limit_is_met_and_one_past_it_is_refused() {
+        for seed in 0..40 {
+            let mut random = Random::new(seed);
+            let random = &mut random;
+            assert_eq!([16, 17].map(|count| outcome_of(inputs(count))), [0, 4]);
+            let records = [256, 257].map(|count| outcome_of(expression_records(random, count)));
+            assert_eq!(records, [0, 4]);
+            assert_eq!([64, 65].map(|count| outcome_of(nested_lets(random, count))), [0, 4]);
+            assert_eq!([0, 1].map(|past| outcome_of(nested_comprehensions(past))), [0, 4]);
+            assert_eq!([8, 9].map(|depth| outcome_of(input_depth(depth))), [0, 3]);
+            assert_eq!([8, 9].map(|depth| outcome_of(type_depth(depth))), [0, 6]);
+            assert_eq!([63, 64].map(|name| outcome_of(highest_variable(random, name))), [0, 3]);
+            assert_eq!([8, 9].map(|count| outcome_of(using_list(count))), [0, 3]);
+            assert_eq!([0, 1].map(|past| outcome_of(full_stream_buffer(random, past))), [0, 9]);
+        }
+        let lengths = [65_536, 65_537];
+        assert_eq!(lengths.map(|length| outcome(&job_and_formula_of_bytes(length).0)), [0, 1]);
+        assert_eq!(lengths.map(|length| job_and_formula_of_bytes(length).0.len()), lengths);
+    }
+}
