@@ -261,3 +261,11 @@ listed-length names t k zero e = ap length (none-listed names e)
 listed-length names t k (suc j) e =
     let f = first-listed names (variableAt t k) (variablesAt t (suc k) j) e in
     ap length (f .whole) ∙ ap suc (listed-length names t (suc k) j (f .more))
+
+pub listed-count : {Γ : List ℕ} (names : All Name Γ) (us : List Variable) {ls : List (Variable × (Γ ∋ 0))}
+    → listedInts names us ≡ some ls
+    → length (pointers ls) ≡ length us
+listed-count names [] e = ap (λ l. length (pointers l)) (none-listed names e)
+listed-count names (u ∷ us) e =
+    let f = first-listed names u us e in
+    ap (λ l. length (pointers l)) (f .whole) ∙ ap suc (listed-count names us (f .more))

@@ -131,42 +131,46 @@ module _ {t : List ℕ} {n k₀ : ℕ} (g : Given t n k₀) (env₀ : List ℕ) 
       → Loading n 0 k₀ (length env₀) env₀ buf₀ state
   unfolding contents spelled places
   loading-start few wide small state z =
-      record
-        { inputs = g .inputs
-        ; spans = g .spans
-        ; given = g .given
-        ; bound = unbound
-        ; store = []
-        ; supplied = g .supplied
-        ; values = g .values
-        ; binds = refl
-        ; streams = refl
-        ; over = refl
-        ; partly =
-              record
-                { stands =
-                      record
-                        { spells = drop-length env₀
-                        ; shaped = shaped-none
-                        ; shallow = shallow-none
-                        ; held =
-                              record
-                                { words = z
-                                ; contents-are = refl
-                                ; fits = omega arith
-                                ; short = omega arith
-                                ; few = omega arith
-                                ; slow = omega arith
-                                ; cheap = omega arith }
-                        ; within = omega arith }
-                ; kept = refl
-                ; space = omega arith
-                ; few = omega arith
-                ; inputs = few
-                ; wide = wide
-                ; small = small
-                ; long-env = refl
-                ; long-buf = refl } }
+      record {
+        inputs = g .inputs;
+        spans = g .spans;
+        given = g .given;
+        bound = unbound;
+        store = [];
+        supplied = g .supplied;
+        values = g .values;
+        binds = refl;
+        streams = refl;
+        over = refl;
+        partly =
+            record {
+              stands =
+                  record {
+                    spells = drop-length env₀;
+                    shaped = shaped-none;
+                    shallow = shallow-none;
+                    held =
+                        record {
+                          words = z;
+                          contents-are = refl;
+                          fits = omega arith;
+                          short = omega arith;
+                          few = omega arith;
+                          slow = omega arith;
+                          cheap = omega arith;
+                        };
+                    within = omega arith;
+                  };
+              kept = refl;
+              space = omega arith;
+              few = omega arith;
+              inputs = few;
+              wide = wide;
+              small = small;
+              long-env = refl;
+              long-buf = refl;
+            };
+      }
 
   -- after one more, or where the room is passed
   abbrev pub After : (left at k : ℕ) → List ℕ → List ℤ → List ℕ → Loaded → Type 0
@@ -191,16 +195,17 @@ module _ {t : List ℕ} {n k₀ : ℕ} (g : Given t n k₀) (env₀ : List ℕ) 
       (p : Partly n env₀ buf₀ b σ (suc m) sp env buf state) where
     abbrev here : Next (textFrom t k next) (variableAt t (at + 2)) (byteAt t (at + 3)) sp env buf state
     here =
-        record
-          { bound = b
-          ; store = σ
-          ; value = v
-          ; stands = p .stands
-          ; reads = reads
-          ; shallow = bounds .shallow
-          ; low = omega (arith, p .space, p .wide, p .inputs)
-          ; few = omega (arith, p .few, p .inputs)
-          ; small = omega (arith, p .small, p .long-buf) }
+        record {
+          bound = b;
+          store = σ;
+          value = v;
+          stands = p .stands;
+          reads = reads;
+          shallow = bounds .shallow;
+          low = omega (arith, p .space, p .wide, p .inputs);
+          few = omega (arith, p .few, p .inputs);
+          small = omega (arith, p .small, p .long-buf);
+        }
 
     abbrev τ : Store
     τ = valueStore (byteAt t (at + 3)) v
@@ -219,30 +224,32 @@ module _ {t : List ℕ} {n k₀ : ℕ} (g : Given t n k₀) (env₀ : List ℕ) 
     unfolding bindAll
     more fits stands kept low le lb =
         let less : m ≡ suc m - 1 = omega arith in
-        record
-          { inputs = is
-          ; spans = ss
-          ; given = vs
-          ; bound = bindOne b (variableAt t (at + 2)) (length σ) (byteAt t (at + 3))
-          ; store = σ ++ τ
-          ; supplied = subst (λ (i : ℕ). Supplied t i (at + 4) next is ss) less others
-          ; values = values
-          ; binds = ap (λ (s : ℕ). bindAll (bindOne b (variableAt t (at + 2)) (length σ) (byteAt t (at + 3))) s is) grown ∙ binds
-          ; streams = append-assoc σ τ (inputStreams vs) ∙ streams
-          ; over =
-                ap₂ (λ (r s : ℕ). inputOver (length buf₀) r s vs) (room-append σ τ) grown
-                ∙ (sym (over-fits (byteAt t (at + 3)) (length buf₀) (room σ) (length σ) v vs (omega (arith, p .long-buf))) ∙ over)
-          ; partly =
-                record
-                  { stands = stands
-                  ; kept = kept ∙ drop-above buf buf₀ (room σ) (room (σ ++ τ)) (p .kept) (omega (arith, room-append σ τ))
-                  ; space = omega (arith, p .space)
-                  ; few = omega (arith, p .few, grown, bounds .shallow)
-                  ; inputs = p .inputs
-                  ; wide = p .wide
-                  ; small = p .small
-                  ; long-env = le ∙ p .long-env
-                  ; long-buf = lb ∙ p .long-buf } }
+        record {
+          inputs = is;
+          spans = ss;
+          given = vs;
+          bound = bindOne b (variableAt t (at + 2)) (length σ) (byteAt t (at + 3));
+          store = σ ++ τ;
+          supplied = subst (λ (i : ℕ). Supplied t i (at + 4) next is ss) less others;
+          values = values;
+          binds = ap (λ (s : ℕ). bindAll (bindOne b (variableAt t (at + 2)) (length σ) (byteAt t (at + 3))) s is) grown ∙ binds;
+          streams = append-assoc σ τ (inputStreams vs) ∙ streams;
+          over =
+              ap₂ (λ (r s : ℕ). inputOver (length buf₀) r s vs) (room-append σ τ) grown
+              ∙ (sym (over-fits (byteAt t (at + 3)) (length buf₀) (room σ) (length σ) v vs (omega (arith, p .long-buf))) ∙ over);
+          partly =
+              record {
+                stands = stands;
+                kept = kept ∙ drop-above buf buf₀ (room σ) (room (σ ++ τ)) (p .kept) (omega (arith, room-append σ τ));
+                space = omega (arith, p .space);
+                few = omega (arith, p .few, grown, bounds .shallow);
+                inputs = p .inputs;
+                wide = p .wide;
+                small = p .small;
+                long-env = le ∙ p .long-env;
+                long-buf = lb ∙ p .long-buf;
+              };
+        }
 
     on : {env′ : List ℕ} {buf′ : List ℤ} {state′ : List ℕ} (r : Loaded) → Takes here env′ buf′ state′ r → length env′ ≡ length env → length buf′ ≡ length buf
         → After (suc m - 1) (at + 4) next env′ buf′ state′ r
@@ -304,13 +311,14 @@ module _ {t : List ℕ} {n k₀ : ℕ} (g : Given t n k₀) (env₀ : List ℕ) 
             × (inputOver (length buf₀) 0 0 (g .given) ≡ none)
         go b σ supplied-none ∅ q s o p h =
             let same : σ ≡ inputStreams (g .given) = sym (append-nil σ) ∙ s in
-            let whole : b ≡ inputsBound (g .inputs) = q ∙ all-bound unbound 0 (g .inputs) in
-            (subst (λ (z : Bound). Stands z (inputStreams (g .given)) env sp buf state) whole
-            (subst (λ (ρ : Store). Stands b ρ env sp buf state) same (p .stands)),
-            subst (λ (ρ : Store). keeps ρ buf₀ buf) same (p .kept),
-            omega (arith, p .space, p .inputs),
-            omega (arith, p .few, p .inputs, ap length same),
-            sym o)
+            let whole : b ≡ inputsBound (g .inputs) = q ∙ all-bound unbound 0 (g .inputs) in (
+              subst (λ (z : Bound). Stands z (inputStreams (g .given)) env sp buf state) whole
+                  (subst (λ (ρ : Store). Stands b ρ env sp buf state) same (p .stands)),
+              subst (λ (ρ : Store). keeps ρ buf₀ buf) same (p .kept),
+              omega (arith, p .space, p .inputs),
+              omega (arith, p .few, p .inputs, ap length same),
+              sym o,
+            )
         go b σ (supplied-more f x y r) vs q s o p h = absurd (omega arith)
 
 module _ {t : List ℕ} {f : Formula} (g : Valued t f) {env₀ : List ℕ} {buf₀ : List ℤ} {env : List ℕ} {buf : List ℤ} {state : List ℕ} where

@@ -120,11 +120,12 @@ module _ {t : List ℕ} {is : List Input} {ss : List Span} {left at k : ℕ} (h 
       go supplied-none q l = absurd (omega arith)
       go (supplied-more {n = n} {is = js} {ss = us} _ _ _ r) q l =
           let less : n ≡ suc n - 1 = omega arith in
-          record
-            { inputs = js
-            ; spans = us
-            ; supplied = subst (λ (i : ℕ). Supplied t i (at + 4) next js us) less (subst (λ (i : ℕ). Supplied t n (at + 4) i js us) (sym e) r)
-            ; same = q ∙ first-some t at k js us (something .0) (something .1) }
+          record {
+            inputs = js;
+            spans = us;
+            supplied = subst (λ (i : ℕ). Supplied t i (at + 4) next js us) less (subst (λ (i : ℕ). Supplied t n (at + 4) i js us) (sym e) r);
+            same = q ∙ first-some t at k js us (something .0) (something .1);
+          }
 
   pub told-all : left ≤ 0 → Good ≡ textsOf (inputValues t is ss)
   unfolding inputValues

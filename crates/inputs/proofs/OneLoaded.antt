@@ -64,24 +64,26 @@ module _ (σ : Store) where
       let long : length ρ ≡ length σ + suc d = ap length e ∙ (length-append σ τ ∙ ap (λ (n : ℕ). length σ + n) (order-length (represent d (concat vs)))) in
       let names : (ρ ++ a ∷ []) ! (length σ + suc d) ≡ some a = ap (λ (s : ℕ). (ρ ++ a ∷ []) ! s) (sym long) ∙ newest ρ a in
       let at : place (ρ ++ a ∷ []) (length σ + suc d) ≡ record { id = length ρ; first = room ρ; second = len a } =
-          ap (place (ρ ++ a ∷ [])) (sym long) ∙ place-newest ρ a in
+      ap (place (ρ ++ a ∷ [])) (sym long) ∙ place-newest ρ a in
       let id : length ρ ≡ length σ + length (map len τ) = long ∙ ap (λ (n : ℕ). length σ + n) (sym (lens-length d (concat vs))) in
       let start : room ρ ≡ room σ + sumOf (map len τ) =
-          ap room e ∙ (room-append σ τ ∙ ap (λ (n : ℕ). room σ + n) (sym (lens-total d (concat vs)))) in
-      record
-        { shapely = shapely-node (segments vs) (shapely-kept ρ (a ∷ []) (r .shapely)) names
-        ; words =
-              ap₂ (λ (l : List ℕ) (p : Place). l ++ placeWords p) (ap treeWords (tree-kept ρ (a ∷ []) (r .shapely)) ∙ r .words) at
-              ∙ (ap₂ (λ (i s : ℕ). rowWords (length σ) (room σ) (map len τ) ++ (i ∷ s ∷ len a ∷ [])) id start
-              ∙ (sym (row-last (length σ) (room σ) (map len τ) (len a))
-              ∙ sym (ap (rowWords (length σ) (room σ)) (map-append len τ (a ∷ []))))) }
+      ap room e ∙ (room-append σ τ ∙ ap (λ (n : ℕ). room σ + n) (sym (lens-total d (concat vs)))) in
+      record {
+        shapely = shapely-node (segments vs) (shapely-kept ρ (a ∷ []) (r .shapely)) names;
+        words =
+            ap₂ (λ (l : List ℕ) (p : Place). l ++ placeWords p) (ap treeWords (tree-kept ρ (a ∷ []) (r .shapely)) ∙ r .words) at
+            ∙ (ap₂ (λ (i s : ℕ). rowWords (length σ) (room σ) (map len τ) ++ (i ∷ s ∷ len a ∷ [])) id start
+            ∙ (sym (row-last (length σ) (room σ) (map len τ) (len a))
+            ∙ sym (ap (rowWords (length σ) (room σ)) (map-append len τ (a ∷ [])))));
+      }
 
   rowed : (d : ℕ) (vs : List (Val d)) → Rowed d vs (σ ++ order (represent d vs))
   unfolding inputTree mapTree treeWords represent order rowWords
   rowed zero vs =
-      record
-        { shapely = shapely-leaf vs (newest σ (ints vs))
-        ; words = ap placeWords (place-newest σ (ints vs)) }
+      record {
+        shapely = shapely-leaf vs (newest σ (ints vs));
+        words = ap placeWords (place-newest σ (ints vs));
+      }
   rowed (suc d) vs =
       let τ = order (represent d (concat vs)) in
       subst (λ (ρ : Store). Rowed (suc d) vs ρ) (append-assoc σ τ (flags (segments vs) ∷ [])) (rowed-more d vs (σ ++ τ) refl (rowed d (concat vs)))
@@ -101,17 +103,18 @@ module _ {σ : Store} {buf : List ℤ} {state : List ℕ} (h : Held (unspent σ)
   behind-held : (state′ : List ℕ) → state′ ≡ counters (unspent (σ ++ τ)) → Held (unspent (σ ++ τ)) (sets buf (room σ) (contents τ)) state′
   behind-held state′ w =
       let long : length (sets buf (room σ) (contents τ)) ≡ length buf = length-sets buf (room σ) (contents τ) in
-      record
-        { words = w
-        ; contents-are =
-              ap (take (room (σ ++ τ))) apart
-              ∙ (take-at (take (room σ) buf ++ contents τ) (drop (room σ + room τ) buf) (room (σ ++ τ)) front-long
-              ∙ (ap (λ (l : List ℤ). l ++ contents τ) (h .contents-are) ∙ sym (contents-append σ τ)))
-        ; fits = omega (arith, room-append σ τ, long)
-        ; short = omega (arith, h .short, long)
-        ; few = omega arith
-        ; slow = omega arith
-        ; cheap = omega arith }
+      record {
+        words = w;
+        contents-are =
+            ap (take (room (σ ++ τ))) apart
+            ∙ (take-at (take (room σ) buf ++ contents τ) (drop (room σ + room τ) buf) (room (σ ++ τ)) front-long
+            ∙ (ap (λ (l : List ℤ). l ++ contents τ) (h .contents-are) ∙ sym (contents-append σ τ)));
+        fits = omega (arith, room-append σ τ, long);
+        short = omega (arith, h .short, long);
+        few = omega arith;
+        slow = omega arith;
+        cheap = omega arith;
+      }
 
   behind-kept : keeps (σ ++ τ) buf (sets buf (room σ) (contents τ))
   behind-kept =
@@ -226,10 +229,11 @@ module _ {text : List ℕ} {x : Variable} {d sp : ℕ} {env : List ℕ} {buf : L
                 ∙ (ap (rowWords (length σ) (room σ)) lengths-counted ∙ sym (rowed σ d (g .value ∷ []) .words))
 
             pub top-room : (2 ≤ top) × (top ≤ length env₁) × (sp ≤ top + 27)
-            top-room =
-                (omega (arith, p, lengths-long, g .low, g .shallow),
-                omega (arith, p, long, g .stands .within),
-                omega (arith, p, lengths-long, g .shallow))
+            top-room = (
+              omega (arith, p, lengths-long, g .low, g .shallow),
+              omega (arith, p, long, g .stands .within),
+              omega (arith, p, lengths-long, g .shallow),
+            )
 
             before-named : (top - 2) + 2 ≤ length env₁
             before-named = omega (arith, top-room .0, top-room .1)
@@ -240,7 +244,7 @@ module _ {text : List ℕ} {x : Variable} {d sp : ℕ} {env : List ℕ} {buf : L
             spelt =
                 let back : (top - 2) + 2 ≡ top = omega (arith, top-room .0) in
                 let others : drop sp env ≡ spelled (g .bound .names) (places (σ ++ τ) (g .bound .trees)) =
-                    g .stands .spells ∙ ap (spelled (g .bound .names)) (sym (places-kept σ τ (g .stands .shaped))) in
+                g .stands .spells ∙ ap (spelled (g .bound .names)) (sym (places-kept σ τ (g .stands .shaped))) in
                 from-written env₁ (top - 2) (x .0 ∷ d ∷ []) before-named
                 ∙ ap (λ (l : List ℕ). x .0 ∷ d ∷ l) (ap (λ (k : ℕ). drop k env₁) back ∙ (w ∙ ap₂ _++_ place-words others))
 
@@ -254,11 +258,12 @@ module _ {text : List ℕ} {x : Variable} {d sp : ℕ} {env : List ℕ} {buf : L
                 let r = rowed σ d (g .value ∷ []) in
                 takes {top = top - 2}
                 fits
-                (record
-                  { spells = ap (drop (top - 2)) v ∙ spelt
-                  ; shaped = shaped-more (r .shapely) (shaped-kept σ τ (g .stands .shaped))
-                  ; shallow = shallow-more (g .shallow) (g .stands .shallow)
-                  ; held = subst (λ (l : List ℤ). Held (unspent (σ ++ τ)) l state′) (sym stored) h
-                  ; within = omega (arith, ap length v, length-written env₁ (top - 2) (x .0 ∷ d ∷ []) before-named, top-room .1) })
+                (record {
+                  spells = ap (drop (top - 2)) v ∙ spelt;
+                  shaped = shaped-more (r .shapely) (shaped-kept σ τ (g .stands .shaped));
+                  shallow = shallow-more (g .shallow) (g .stands .shallow);
+                  held = subst (λ (l : List ℤ). Held (unspent (σ ++ τ)) l state′) (sym stored) h;
+                  within = omega (arith, ap length v, length-written env₁ (top - 2) (x .0 ∷ d ∷ []) before-named, top-room .1);
+                })
                 (ap (drop (room (σ ++ τ))) stored ∙ k)
                 (omega (arith, top-room .2, top-room .0))

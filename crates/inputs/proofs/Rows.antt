@@ -38,15 +38,16 @@ unfolding sumOf rowWords
 pushing-start lengths id end sp env low high enough =
     let all : length lengths ≤ length lengths = omega arith in
     let none : drop (length lengths) lengths ≡ [] = drop-of-length-le lengths all in
-    record
-      { within = omega arith
-      ; place = omega arith
-      ; sum = ap (λ (l : List ℕ). end + sumOf l) none ∙ add-zero end
-      ; enough = enough
-      ; low = low
-      ; high = high
-      ; words = sym (ap (λ (l : List ℕ). rowWords (id + length lengths) end l ++ drop sp env) none)
-      ; long = refl }
+    record {
+      within = omega arith;
+      place = omega arith;
+      sum = ap (λ (l : List ℕ). end + sumOf l) none ∙ add-zero end;
+      enough = enough;
+      low = low;
+      high = high;
+      words = sym (ap (λ (l : List ℕ). rowWords (id + length lengths) end l ++ drop sp env) none);
+      long = refl;
+    }
 
 module _ {lengths : List ℕ} {id end sp : ℕ} {env₀ env : List ℕ} {i start top : ℕ} (p : Pushing lengths id end sp env₀ env i start top) (h : 0 < i) where
   next : drop (i - 1) lengths ≡ getD lengths (i - 1) 0 ∷ drop i lengths
@@ -79,28 +80,30 @@ module _ {lengths : List ℕ} {id end sp : ℕ} {env₀ env : List ℕ} {i start
       let above : (top - 3) + 3 ≡ top = omega (arith, pushing-room) in
       let one : id + (i - 1) + 1 ≡ id + i = omega arith in
       let back : (start - n) + n ≡ start = omega (arith, pushing-fits) in
-      record
-        { within = omega (arith, p .within)
-        ; place = omega (arith, p .place, pushing-room)
-        ; sum = omega (arith, p .sum, sum-next, pushing-fits)
-        ; enough = p .enough
-        ; low = p .low
-        ; high = p .high
-        ; words =
-              from-written env (top - 3) w room
-              ∙ (ap (λ (k : ℕ). w ++ drop k env) above
-              ∙ (ap (λ (l : List ℕ). w ++ l) (p .words)
-              ∙ (ap₂ (λ (s a : ℕ). w ++ (rowWords s a (drop i lengths) ++ drop sp env₀)) (sym one) (sym back)
-              ∙ sym (ap (λ (l : List ℕ). rowWords (id + (i - 1)) (start - n) l ++ drop sp env₀) next))))
-        ; long = length-written env (top - 3) w room ∙ p .long }
+      record {
+        within = omega (arith, p .within);
+        place = omega (arith, p .place, pushing-room);
+        sum = omega (arith, p .sum, sum-next, pushing-fits);
+        enough = p .enough;
+        low = p .low;
+        high = p .high;
+        words =
+            from-written env (top - 3) w room
+            ∙ (ap (λ (k : ℕ). w ++ drop k env) above
+            ∙ (ap (λ (l : List ℕ). w ++ l) (p .words)
+            ∙ (ap₂ (λ (s a : ℕ). w ++ (rowWords s a (drop i lengths) ++ drop sp env₀)) (sym one) (sym back)
+            ∙ sym (ap (λ (l : List ℕ). rowWords (id + (i - 1)) (start - n) l ++ drop sp env₀) next))));
+        long = length-written env (top - 3) w room ∙ p .long;
+      }
 
 pub pushing-end : {lengths : List ℕ} {id end sp : ℕ} {env₀ env : List ℕ} {i start top : ℕ} → Pushing lengths id end sp env₀ env i start top → i ≤ 0
     → (top + 3 * length lengths ≡ sp) × (drop top env ≡ rowWords id (end - sumOf lengths) lengths ++ drop sp env₀)
 pushing-end {lengths} {id} {end} {sp} {env₀} {env} {i} {start} p h =
     let z : i ≡ 0 = omega arith in
     let s : start + sumOf lengths ≡ end = sym (ap (λ (j : ℕ). start + sumOf (drop j lengths)) z) ∙ p .sum in
-    let same : start ≡ end - sumOf lengths = omega arith in
-    (omega (arith, p .place),
-    p .words
-    ∙ (ap (λ (j : ℕ). rowWords (id + j) start (drop j lengths) ++ drop sp env₀) z
-    ∙ ap₂ (λ (s a : ℕ). rowWords s a lengths ++ drop sp env₀) (add-zero id) same))
+    let same : start ≡ end - sumOf lengths = omega arith in (
+      omega (arith, p .place),
+      p .words
+          ∙ (ap (λ (j : ℕ). rowWords (id + j) start (drop j lengths) ++ drop sp env₀) z
+          ∙ ap₂ (λ (s a : ℕ). rowWords s a lengths ++ drop sp env₀) (add-zero id) same),
+    )

@@ -94,11 +94,11 @@ module _ (t : List ℕ) where
 
       whole : (b : Bool) → leb (at + 4) (length t) ≡ b
           → elim b [
-              | true ↦
-                  elim (leb (byteAt t (at + 2)) lastVariable && leb (byteAt t (at + 3)) mostDepth)
-                  [ true ↦ inputFirst (inputAt t at) (inputsAt m t (at + 4)) | false ↦ records.Declared.refused (OverLimit at) ]
-              | false ↦ records.Declared.refused (NoRecord at)
-            ]
+            | true ↦
+                elim (leb (byteAt t (at + 2)) lastVariable && leb (byteAt t (at + 3)) mostDepth)
+                [ true ↦ inputFirst (inputAt t at) (inputsAt m t (at + 4)) | false ↦ records.Declared.refused (OverLimit at) ]
+            | false ↦ records.Declared.refused (NoRecord at)
+          ]
           ≡ declared is e
           → Declares m at is e
       whole true p q = limited (leb-true (at + 4) (length t) p) (leb (byteAt t (at + 2)) lastVariable && leb (byteAt t (at + 3)) mostDepth) refl q
@@ -126,9 +126,9 @@ module _ (t : List ℕ) where
         where
           refuse : (a b : Bool)
               → elim a [
-                  | true ↦ elim b [ true ↦ records.Declared.refused (TooMany at) | false ↦ records.Declared.refused (OverLimit at) ]
-                  | false ↦ records.Declared.refused (NoRecord at)
-                ]
+                | true ↦ elim b [ true ↦ records.Declared.refused (TooMany at) | false ↦ records.Declared.refused (OverLimit at) ]
+                | false ↦ records.Declared.refused (NoRecord at)
+              ]
               ≡ declared is e
               → _≡_ {A = ℕ} 0 1
           refuse true true q = cc
@@ -150,11 +150,12 @@ module _ (t : List ℕ) where
       rest more r p f s o x =
           let y : textsAt (suc (length r)) t k ≡ texts ss end = sym (ap (λ (l : List Input). textsAt (length l) t k) p) ∙ x in
           let first = texted (length r) k ss end y in
-          let others = more (k + 4 + spanAt t k .bytes) end e r (first .rest) o (first .others) in
-          (subst (λ (l : List Input). Supplied t (length l) at k l ss) (sym p)
-          (subst (λ (l : List Span). Supplied t (suc (length r)) at k (inputAt t at ∷ r) l) (sym (first .spans))
-          (supplied-more f s (first .fits) (others .0))),
-          omega (arith, others .1, ap length p))
+          let others = more (k + 4 + spanAt t k .bytes) end e r (first .rest) o (first .others) in (
+            subst (λ (l : List Input). Supplied t (length l) at k l ss) (sym p)
+                (subst (λ (l : List Span). Supplied t (suc (length r)) at k (inputAt t at ∷ r) l) (sym (first .spans))
+                (supplied-more f s (first .fits) (others .0))),
+            omega (arith, others .1, ap length p),
+          )
 
       go : Others → (b : Bool) → eqb (markAt t at) markIN ≡ b
           → elim b [ true ↦ inputOk t at (inputFirst (inputAt t at) (inputsAt m t (at + 4))) | false ↦ declared [] at ] ≡ declared is e

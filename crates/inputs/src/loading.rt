@@ -5,7 +5,9 @@ use environment::put_name;
 use snesl::code::Variable;
 use snesl::limits::Formula;
 use valuetext::counts::LEVELS;
-use valuetext::storing::{Measured, fill_text, measure_text};
+use valuetext::storing::Measured;
+use valuetext::storing::fill_text;
+use valuetext::storing::measure_text;
 ghost use mathlib.Core.Path.{_≡_};
 ghost use mathlib.Core.List.{[], _∷_};
 ghost use Prim.Native.Nat.{_+_, _*_, _≤_};
@@ -22,7 +24,15 @@ pub enum Loaded {
 }
 
 // The next input: its streams behind those before it, and its binding below theirs.
-fn load_input(text: &[u8], x: Variable, depth: u8, sp: usize, env: &mut [u32], buf: &mut [i32], state: &mut [usize]) -> Loaded
+fn load_input(
+    text: &[u8],
+    x: Variable,
+    depth: u8,
+    sp: usize,
+    env: &mut [u32],
+    buf: &mut [i32],
+    state: &mut [usize],
+) -> Loaded
     requires { ⌜ Next (now text) x depth sp (now env) (now buf) (now state) ⌝ }
     ensures { λ r. ⌜ ((g : Next (now (text .entry)) x depth sp (now (env .entry)) (now (buf .entry)) (now (state .entry))) → Takes g (now (env .exit)) (now (buf .exit)) (now (state .exit)) r) ⌝ }
 {
@@ -47,7 +57,13 @@ fn load_input(text: &[u8], x: Variable, depth: u8, sp: usize, env: &mut [u32], b
 }
 
 // All inputs of a job whose texts are values, from an empty stack and an empty buffer on.
-pub fn load(job: &[u8], formula: Formula, env: &mut [u32], buf: &mut [i32], state: &mut [usize]) -> Loaded
+pub fn load(
+    job: &[u8],
+    formula: Formula,
+    env: &mut [u32],
+    buf: &mut [i32],
+    state: &mut [usize],
+) -> Loaded
     requires { ⌜ Valued (now job) formula ⌝ }
     requires { ⌜ (bindingWords * mostInputs ≤ length (now env)) × (length (now buf) ≤ mostElements) × (now state ≡ 0 ∷ 0 ∷ 0 ∷ 0 ∷ []) ⌝ }
     ensures { λ r. ⌜ ((g : Valued (now (job .entry)) formula) → Loads g (now (env .entry)) (now (env .exit)) (now (buf .entry)) (now (buf .exit)) (now (state .exit)) (inputOver (length (now (buf .entry))) 0 0 (g .given)) r) ⌝ }
@@ -58,7 +74,15 @@ pub fn load(job: &[u8], formula: Formula, env: &mut [u32], buf: &mut [i32], stat
     let mut sp = env.len();
     while 0 < left {
         let next = text_end(job, k);
-        match load_input(&job[k + 4..next], Variable(job[at + 2]), job[at + 3], sp, env, buf, state) {
+        match load_input(
+            &job[k + 4..next],
+            Variable(job[at + 2]),
+            job[at + 3],
+            sp,
+            env,
+            buf,
+            state,
+        ) {
             Loaded::Full(id) => {
                 return Loaded::Full(id);
             }

@@ -1,7 +1,8 @@
 // Refusal 7 over all inputs, in order.
 use snesl::limits::Formula;
 use valuetext::counts::LEVELS;
-use valuetext::storing::{Measured, measure_text};
+use valuetext::storing::Measured;
+use valuetext::storing::measure_text;
 ghost use mathlib.Core.Path.{_≡_};
 ghost use Prim.Native.Nat.{_+_, _≤_};
 ghost use lib.ListN.{length};

@@ -35,7 +35,7 @@ least-append lo best (u ∷ us) vs = least-append lo (lesser lo best u) us vs
 four : (a b c d : List ℕ) → pieces (a ∷ b ∷ c ∷ d ∷ []) ≡ pieces (a ∷ b ∷ c ∷ []) ++ d
 four a b c d = simp (append-assoc, append-nil)
 
-lines-seq : (s : ℕ) (p q : Program) → linesOf s (p ⨾ q) ≡ linesOf s p ++ linesOf (s + count p) q
+pub lines-seq : (s : ℕ) (p q : Program) → linesOf s (p ⨾ q) ≡ linesOf s p ++ linesOf (s + count p) q
 unfolding linesOf _⨾_ count
 lines-seq s done q = ap (λ k. linesOf k q) (sym (add-zero s))
 lines-seq s (define t p) q =

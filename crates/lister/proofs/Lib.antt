@@ -1,0 +1,7 @@
+pub mod Shallow
+pub mod Short
+pub mod Runs
+pub mod Declaring
+pub mod Wholes
+pub mod Refusing
+pub mod Listing

@@ -1,0 +1,301 @@
+-- A formula that was read and checked is ready for the walk, and what the walk writes is its listing.
+use Prim.Native.Nat.{ℕ, zero, suc, _+_, _-_, _*_, _≤_, _<_, _^_}
+use native.Mathlib.Omega.{arith}
+use mathlib.Core.Bool.{Bool, true, false}
+use mathlib.Core.List.{List, [], _∷_, _++_, append-nil, List·Memᴰ·head, List·Memᴰ·not-nil, List·Memᴰ·eq-of-singleton, List·Memᴰ·append-cases, Memᴰ·append-left, Memᴰ·append-right}
+use mathlib.Core.Logic.{⊎-elim}
+use mathlib.Core.Path.{_≡_, refl, sym, ap, _∙_, subst}
+use borrow.Author.Tests.{le-leb, lt-leb}
+use lib.ListN.{length, getD, drop, length-append}
+use lib.Seq.{sets, sets-eq}
+use Rattle.snesl.specs.declared.limits.Formula.{Formula}
+use Rattle.snesl.specs.declared.refusal.Refusal.{Refusal}
+use Rattle.snesl.specs.declared.refusal.Refusal.the-variants.{NoAnswerRoom}
+use Rattle.snesl.specs.Limits.{mostBytes, mostInputs, mostNesting, mostDepth}
+use Rattle.snesl.specs.Terms.{Term, All, ∅, _▹_}
+use Rattle.snesl.specs.Trees.{Tree, order}
+use Rattle.snesl.specs.Programs.{count}
+use Rattle.snesl.specs.Translation.{size, tree, code}
+use Rattle.snesl.specs.Ids.{idsOf, Below}
+use Rattle.snesl.specs.Records as records
+use Rattle.snesl.specs.Records.{Input, Raw, declared, inputAt, inputsAt, Front, front, readFormula}
+use Rattle.snesl.specs.Checking as checking
+use Rattle.snesl.specs.Checking.{Typed, typed, context, turnedOnto, turned, depths, inputNames, checkFormula}
+use Rattle.snesl.specs.Inputs.{inputTree, inputTrees, inputStart}
+use Rattle.snesl.specs.Listing as listing
+use Rattle.snesl.specs.Listing.{linesOf, resultLine, roomFor, listedTyped, listedFront}
+use Rattle.snesl.proofs.Compiled.Members.{_∈_}
+use Rattle.snesl.proofs.Compiled.Freshness.{count-code, defined-next, result-ids}
+use Rattle.snesl.proofs.Formed.{FrontRead, FormulaFormed, formula-read, formula-formed, spans}
+use Rattle.decimals.specs.Writing.{Writes}
+use Rattle.decimals.proofs.Stores.{sets-none}
+use Rattle.formula.specs.declared.read.FormulaRead.the-variants as read
+use Rattle.formula.specs.Reading.{formulaOf}
+use Rattle.checking.specs.declared.check.Checked.the-variants as checked
+use Rattle.checking.specs.Checks.{checkedOf, checkFront}
+use Rattle.checking.proofs.Entering.{few}
+use Rattle.lines.specs.Counting.{Countable}
+use Rattle.telling.specs.Telling.{Tellable}
+use Rattle.environment.specs.Words.{spelled}
+use Rattle.bindings.specs.Bindings.{placesIn}
+use Rattle.walker.specs.Walking.{words, Ready}
+use Rattle.lister.specs.declared.inputs.Inputs.{Inputs}
+use Rattle.lister.specs.declared.list.Listed.{Listed}
+use Rattle.lister.specs.declared.list.Listed.the-variants.{Length, Refused}
+use Rattle.lister.specs.Inputs.{Declares, Enters}
+use Rattle.lister.specs.Lists.{wholeText, fromStart, WholeReady, Found, listedAnswer, textAfter}
+use Rattle.lister.proofs.Declaring.{First, first-of}
+use Rattle.lister.proofs.Shallow.{Shallow, shallow-none, shallow-more, depth-within, words-within, ids-within}
+use Rattle.lister.proofs.Short.{lines-short, result-short}
+
+-- ---- the inputs
+
+inputs-shallow : (t : List ℕ) {Γ : List ℕ} (is : List Input) (n k : ℕ) {end : ℕ} → inputsAt n t k ≡ declared is end → Shallow Γ → Shallow (turnedOnto Γ (depths is))
+inputs-shallow t [] n k e s = s
+inputs-shallow t (i ∷ is) n k {end} e s =
+    let f = first-of t k (omega arith) n e in
+    let same : i ≡ inputAt t k = cc (f .whole) in
+    let rest : is ≡ f .rest = cc (f .whole) in
+    inputs-shallow t is (n - 1) (k + 4) (f .more ∙ ap (λ l. declared l end) (sym rest)) (shallow-more (subst (λ (j : Input). j .depth ≤ mostDepth) (sym same) (f .depth)) s)
+
+starts-small : (t : List ℕ) (is : List Input) (n k : ℕ) {end : ℕ} → inputsAt n t k ≡ declared is end → inputStart (depths is) ≤ 9 * length is
+unfolding inputStart
+starts-small t [] n k e = omega arith
+starts-small t (i ∷ is) n k {end} e =
+    let f = first-of t k (omega arith) n e in
+    let same : i ≡ inputAt t k = cc (f .whole) in
+    let rest : is ≡ f .rest = cc (f .whole) in
+    let more = starts-small t is (n - 1) (k + 4) (f .more ∙ ap (λ l. declared l end) (sym rest)) in
+    let depth : i .depth ≤ mostDepth = subst (λ (j : Input). j .depth ≤ mostDepth) (sym same) (f .depth) in
+    omega arith
+
+input-below : (s d : ℕ) {u : ℕ} → u ∈ order (inputTree s d) → u < s + suc d
+unfolding order inputTree
+input-below s zero m = let e = List·Memᴰ·eq-of-singleton m in omega arith
+input-below s (suc d) {u} m =
+    ⊎-elim (λ k. let l = input-below s d k in omega arith) (λ k. last (List·Memᴰ·eq-of-singleton k)) (List·Memᴰ·append-cases (order (inputTree s d)) m)
+  where
+    last : u ≡ s + suc d → u < s + suc (suc d)
+    last e = omega arith
+
+inputs-below : (s : ℕ) (ds : List ℕ) → Below (s + inputStart ds) (idsOf (inputTrees s ds))
+unfolding idsOf inputTrees inputStart
+inputs-below s [] u m = absurd (List·Memᴰ·not-nil m)
+inputs-below s (d ∷ ds) u m =
+    ⊎-elim (λ k. let l = input-below s d k in omega arith) (λ k. let l = inputs-below (s + suc d) ds u k in omega arith) (List·Memᴰ·append-cases (order (inputTree s d)) m)
+
+turned-below : {Γ ds : List ℕ} (n : ℕ) (δ : All (Tree ℕ) Γ) (ts : All (Tree ℕ) ds) → Below n (idsOf δ) → Below n (idsOf ts) → Below n (idsOf (turned δ ts))
+unfolding turned idsOf
+turned-below n δ ∅ a b = a
+turned-below n δ (t ▹ ts) a b =
+    turned-below n (t ▹ δ) ts (λ u m. ⊎-elim (λ k. b u (Memᴰ·append-left (idsOf ts) k)) (a u) (List·Memᴰ·append-cases (order t) m))
+    (λ u m. b u (Memᴰ·append-right (order t) m))
+
+-- ---- room
+
+room : (text : List ℕ) (lent : ℕ) → length text ≤ lent → roomFor lent text ≡ listing.listed text
+room text lent h = subst (λ (b : Bool). _≡_ {A = listing.Listed} (elim b [ true ↦ listing.listed text | false ↦ listing.unlisted (NoAnswerRoom (length text)) ]) (listing.listed text)) (sym (le-leb (length text) lent h)) refl
+
+no-room : (text : List ℕ) (lent : ℕ) → lent < length text → roomFor lent text ≡ listing.unlisted (NoAnswerRoom (length text))
+no-room text lent h =
+    subst (λ (b : Bool). _≡_ {A = listing.Listed} (elim b [ true ↦ listing.listed text | false ↦ listing.unlisted (NoAnswerRoom (length text)) ]) (listing.unlisted (NoAnswerRoom (length text)))) (sym (lt-leb (length text) lent h)) refl
+
+stored : (w old : List ℕ) → length w ≤ length old → sets old 0 w ≡ w ++ drop (length w) old
+stored w old h =
+    let z : 0 + length w ≡ length w = omega arith in
+    sets-eq w old 0 (omega arith) ∙ ap (λ n. w ++ drop n old) z
+
+-- ---- a formula that was found
+
+module _ {t : List ℕ} {inputs k : ℕ} (g : Found t inputs k) where
+  formed : FormulaFormed t (g .all) k (g .term) (g .next)
+  formed = formula-formed t (g .read) (g .checked)
+
+  front-of : FrontRead t (g .all) k (g .raw) (g .next)
+  front-of = formula-read t (g .read) .read
+
+  number-few : inputs ≤ 16
+  number-few = omega (arith, few t k mostInputs 0 (g .all) (front-of .inputs), g .number)
+
+  abbrev trees : All (Tree ℕ) (context (g .all))
+  trees = turned ∅ (inputTrees 0 (depths (g .all)))
+
+  abbrev start : ℕ
+  start = inputStart (depths (g .all))
+
+  shallow : Shallow (context (g .all))
+  shallow = inputs-shallow t (g .all) mostInputs 0 (front-of .inputs) shallow-none
+
+  below : Below start (idsOf trees)
+  unfolding idsOf
+  below =
+      turned-below start ∅ (inputTrees 0 (depths (g .all))) (λ u m. absurd (List·Memᴰ·not-nil m))
+      (λ u m. let l = inputs-below 0 (depths (g .all)) u m in omega arith)
+
+  ids : start + size (g .term) < 4294967296
+  ids =
+      let a = starts-small t (g .all) mostInputs 0 (front-of .inputs) in
+      let b = ids-within (formed .formed) in
+      omega (arith, g .number, number-few, formed .within, formed .short)
+
+  -- the text is counted
+  module _ (bytes : (i : ℕ) → getD t i 0 < 256) where
+    lines-most : length (linesOf start (code (g .term) trees start)) ≤ 13107200
+    lines-most =
+        let a = lines-short bytes (formed .formed) shallow trees start below ids in
+        omega (arith, formed .within, formed .short)
+
+    result-most : length (resultLine (tree (g .term) trees start)) ≤ 224
+    result-most =
+        result-short (tree (g .term) trees start) (depth-within (formed .formed) shallow)
+        (λ u m. ⊎-elim (λ q. let l = below u q in let n = ids in omega arith) (λ q. let l = defined-next (g .term) trees start q in let n = ids in omega (arith, l .1)) (result-ids (g .term) trees start m))
+
+    counted : Countable 0 (wholeText (g .term) trees start)
+    counted =
+        record { end = omega (arith, lines-most, result-most, length-append (linesOf start (code (g .term) trees start)) (resultLine (tree (g .term) trees start))) }
+
+    lines-counted : Countable 0 (linesOf start (code (g .term) trees start))
+    lines-counted = record { end = omega (arith, lines-most) }
+
+  pub declares : (env : List ℕ) → length env ≡ 4949 → Declares t inputs env
+  declares env l =
+      record {
+        all = g .all;
+        end = k;
+        read = front-of .inputs;
+        number = g .number;
+        room = omega (arith, number-few);
+        small = omega arith;
+      }
+
+  -- entered
+  module _ (env : List ℕ) (l : length env ≡ 4949) {env₁ : List ℕ} {r : Inputs} (E : (h : Declares t inputs env) → Enters h env₁ r)
+      (long : length env₁ ≡ length env) (bytes : (i : ℕ) → getD t i 0 < 256) where
+    entered : Enters (declares env l) env₁ r
+    entered = E (declares env l)
+
+    id-is : r .id ≡ start
+    unfolding declares
+    id-is = entered .id
+
+    spells : drop (r .sp) env₁ ≡ spelled (turned ∅ (inputNames (g .all))) (placesIn trees)
+    unfolding declares
+    spells = entered .spells
+
+    pub whole-ready : (env₂ : List ℕ) → drop (r .sp) env₂ ≡ drop (r .sp) env₁ → length env₂ ≡ length env₁ → WholeReady t k env₂ (r .sp) (r .id)
+    whole-ready env₂ same long₂ =
+        record {
+          ready =
+              record {
+                context = context (g .all);
+                names = turned ∅ (inputNames (g .all));
+                depth = g .depth;
+                term = g .term;
+                trees = trees;
+                next = g .next;
+                formed = formed .formed;
+                holds =
+                    record {
+                      bound = record { rest = []; spells = same ∙ (spells ∙ sym (append-nil (spelled (turned ∅ (inputNames (g .all))) (placesIn trees)))) };
+                      below = subst (λ n. Below n (idsOf trees)) (sym id-is) below;
+                      room = omega (arith, words-within (formed .formed) shallow, entered .room, number-few);
+                      within = omega (arith, entered .within, long, long₂);
+                      small = omega (arith, entered .within);
+                      tellable =
+                          subst (λ n. Tellable true (code (g .term) trees n) (fromStart n)) (sym id-is)
+                          (record { text = lines-counted bytes; ids = omega (arith, ids, count-code (g .term) trees start) });
+                    };
+              };
+          countable = subst (λ n. Countable 0 (wholeText (g .term) trees n)) (sym id-is) (counted bytes);
+        }
+
+    -- measured on an empty slice
+    module _ {last : List ℕ} (env₂ : List ℕ) {needed : ℕ}
+        (W : (h : WholeReady t k env₁ (r .sp) (r .id))
+        → Writes [] last 0 (wholeText (h .ready .term) (h .ready .trees) (r .id)) needed × (drop (r .sp) env₂ ≡ drop (r .sp) env₁)) where
+      measured : Writes [] last 0 (wholeText (g .term) trees (r .id)) needed × (drop (r .sp) env₂ ≡ drop (r .sp) env₁)
+      unfolding whole-ready
+      measured = W (whole-ready env₁ refl refl)
+
+      pub kept : drop (r .sp) env₂ ≡ drop (r .sp) env₁
+      kept = measured .1
+
+      needs : needed ≡ length (wholeText (g .term) trees start)
+      needs = measured .0 .count ∙ (ap (λ n. 0 + length (wholeText (g .term) trees n)) id-is ∙ omega arith)
+
+      nothing : last ≡ []
+      nothing = measured .0 .content ∙ sets-none 0 (wholeText (g .term) trees (r .id))
+
+      -- what the definition lists
+      listing-is : (lent : ℕ) → listing.listing lent t ≡ roomFor lent (wholeText (g .term) trees start)
+      listing-is lent = ap (listedFront lent) (g .read) ∙ ap (listedTyped lent (g .all)) (g .checked)
+
+      -- the empty part has come back to the slice
+      back : (old : List ℕ) → last ++ old ≡ old
+      back old = ap (λ l. l ++ old) nothing
+
+      pub unlisted : (old : List ℕ) → length (last ++ old) < needed
+          → (Refused (NoAnswerRoom needed) ≡ listedAnswer (listing.listing (length old) t)) × (last ++ old ≡ textAfter old (listing.listing (length old) t))
+      unlisted old h =
+          let none : listing.listing (length old) t ≡ listing.unlisted (NoAnswerRoom (length (wholeText (g .term) trees start))) =
+          listing-is (length old) ∙ no-room (wholeText (g .term) trees start) (length old) (omega (arith, needs, ap length (back old))) in
+          (ap (λ n. Refused (NoAnswerRoom n)) needs ∙ ap listedAnswer (sym none), back old ∙ ap (textAfter old) (sym none))
+
+      -- written
+      pub listed : (old : List ℕ) {new : List ℕ} (env₃ : List ℕ) {end : ℕ} → needed ≤ length (last ++ old)
+          → ((h : WholeReady t k env₂ (r .sp) (r .id)) → Writes (last ++ old) new 0 (wholeText (h .ready .term) (h .ready .trees) (r .id)) end × (drop (r .sp) env₃ ≡ drop (r .sp) env₂))
+          → length env₂ ≡ length env₁
+          → (Length needed ≡ listedAnswer (listing.listing (length old) t)) × (new ≡ textAfter old (listing.listing (length old) t))
+      unfolding whole-ready
+      listed old env₃ h F same =
+          let some : listing.listing (length old) t ≡ listing.listed (wholeText (g .term) trees start) =
+          listing-is (length old) ∙ room (wholeText (g .term) trees start) (length old) (omega (arith, needs, ap length (back old))) in
+          let w = F (whole-ready env₂ kept same) .0 in (
+            ap Length needs ∙ ap listedAnswer (sym some),
+            w .content
+                ∙ (ap (λ l. sets l 0 (wholeText (g .term) trees (r .id))) (back old)
+                ∙ (ap (λ n. sets old 0 (wholeText (g .term) trees n)) id-is
+                ∙ (stored (wholeText (g .term) trees start) old (omega (arith, needs, ap length (back old))) ∙ ap (textAfter old) (sym some)))),
+          )
+
+-- ---- what `check` and `read_formula` answered
+
+-- a refusal of theirs is the listing's
+pub refused-listing : (t : List ℕ) (lent : ℕ) {r : Refusal} → checked.Refused r ≡ checkFront (readFormula t) → listing.listing lent t ≡ listing.unlisted r
+refused-listing t lent {r} = go (readFormula t)
+  where
+    typings : (is : List Input) (y : Typed (context is)) → checked.Refused r ≡ checkedOf y → listedTyped lent is y ≡ listing.unlisted r
+    typings is (Typed.refused q) e = let same : q ≡ r = cc in ap listing.unlisted same
+    typings is (typed d e′) e = let z : _≡_ {A = ℕ} 0 1 = cc in absurd (omega arith)
+
+    go : (f : Front) → checked.Refused r ≡ checkFront f → listedFront lent f ≡ listing.unlisted r
+    go (Front.refused q) e = let same : q ≡ r = cc in ap listing.unlisted same
+    go (front is k e′ next) e = typings is (checkFormula is e′) e
+
+pub unread-listing : (t : List ℕ) (lent : ℕ) {r : Refusal} → read.Refused r ≡ formulaOf (readFormula t) → listing.listing lent t ≡ listing.unlisted r
+unread-listing t lent {r} = go (readFormula t)
+  where
+    go : (f : Front) → read.Refused r ≡ formulaOf f → listedFront lent f ≡ listing.unlisted r
+    go (Front.refused q) e = let same : q ≡ r = cc in ap listing.unlisted same
+    go (front is k e′ next) e = let z : _≡_ {A = ℕ} 0 1 = cc in absurd (omega arith)
+
+pub refused-text : (t old : List ℕ) {r : Refusal} → listing.listing (length old) t ≡ listing.unlisted r
+    → (Refused r ≡ listedAnswer (listing.listing (length old) t)) × (old ≡ textAfter old (listing.listing (length old) t))
+refused-text t old e = (ap listedAnswer (sym e), ap (textAfter old) (sym e))
+
+-- what was found
+pub found : (t : List ℕ) {d : ℕ} {f : Formula} → checked.Depth d ≡ checkFront (readFormula t) → read.Found f ≡ formulaOf (readFormula t) → Found t (f .inputs) (f .expression)
+found t {d} {f} = go (readFormula t) refl
+  where
+    typings : (is : List Input) {k : ℕ} {e : Raw} {next : ℕ} (y : Typed (context is)) → readFormula t ≡ front is k e next → checkFormula is e ≡ y → checked.Depth d ≡ checkedOf y
+        → read.Found f ≡ read.Found (record { inputs = length is; expression = k; end = next })
+        → Found t (f .inputs) (f .expression)
+    typings is (Typed.refused q) r c a b = let z : _≡_ {A = ℕ} 0 1 = cc in absurd (omega arith)
+    typings is {k} {e} {next} (typed c e′) r q a b =
+        let same : f ≡ record { inputs = length is; expression = k; end = next } = cc in
+        subst (λ (u : Formula). Found t (u .inputs) (u .expression)) (sym same)
+        (record { all = is; raw = e; next = next; depth = c; term = e′; read = r; checked = q; number = refl })
+
+    go : (u : Front) → readFormula t ≡ u → checked.Depth d ≡ checkFront u → read.Found f ≡ formulaOf u → Found t (f .inputs) (f .expression)
+    go (Front.refused q) r a b = let z : _≡_ {A = ℕ} 0 1 = cc in absurd (omega arith)
+    go (front is k e next) r a b = typings is (checkFormula is e) r refl a b

@@ -1,0 +1,86 @@
+// The whole listing into a lent slice, or why there is none.
+use crate::inputs::enter_inputs;
+use bindings::ids::put_tree;
+use checking::check::Checked;
+use checking::check::check;
+use decimals::numbers::put;
+use formula::read::FormulaRead;
+use formula::read::read_formula;
+use lines::pieces::put_bytes;
+use snesl::limits::Formula;
+use snesl::refusal::Refusal;
+use telling::Progress;
+use walker::walk::walk;
+ghost use mathlib.Core.Path.{_≡_};
+ghost use lib.ListN.{length, drop};
+ghost use Rattle.snesl.specs.Listing.{listing};
+ghost use Rattle.decimals.specs.Writing.{Writes};
+ghost use Rattle.lister.specs.Lists.{WholeReady, wholeText, Found, listedAnswer, textAfter};
+
+pub enum Listed {
+    Length(usize),
+    Refused(Refusal),
+}
+
+// The stack of the deepest walk: 69 words for each nesting and the outermost expression, and 29 for each input. specs/Lists.antt says why.
+const WORDS: usize = 69 * (Formula::NESTING + 1) + 29 * Formula::INPUTS;
+
+// The expression's lines and the result's.
+fn put_whole(
+    bytes: &[u8],
+    k: usize,
+    env: &mut [u32],
+    sp: usize,
+    id: usize,
+    text: &mut [u8],
+) -> usize
+    requires { ⌜ WholeReady (now bytes) k (now env) sp id ⌝ }
+    ensures { λ r. ⌜ ((g : WholeReady (now (bytes .entry)) k (now (env .entry)) sp id) → Writes (now (text .entry)) (now (text .exit)) 0 (wholeText (g .ready .term) (g .ready .trees) id) r × (drop sp (now (env .exit)) ≡ drop sp (now (env .entry)))) ⌝ }
+{
+    let w = Progress {
+        id: id,
+        at: 0,
+        best: 0,
+    };
+    let r = walk(bytes, k, Formula::NESTING + 1, env, sp, true, 0, text, w);
+    let depth = r.depth;
+    let q = r.progress;
+    let a = put_bytes(text, q.at, b"result ");
+    let b = put_tree(env, sp - (3 * depth + 3), depth, text, a);
+    put(text, b, b'\n')
+}
+
+// The listing of a formula that was read and checked.
+fn list_found(formula: &[u8], inputs: usize, expression: usize, text: &mut [u8]) -> Listed
+    requires { ⌜ Found (now formula) inputs expression ⌝ }
+    ensures { λ r. ⌜ (r ≡ listedAnswer (listing (length (now (text .entry))) (now (formula .entry)))) × (now (text .exit) ≡ textAfter (now (text .entry)) (listing (length (now (text .entry))) (now (formula .entry)))) ⌝ }
+{
+    let mut env = [0u32; WORDS];
+    let e = enter_inputs(formula, inputs, &mut env);
+    let sp = e.sp;
+    let id = e.id;
+    let needed = put_whole(formula, expression, &mut env, sp, id, &mut text[..0]);
+    if text.len() < needed {
+        return Listed::Refused(Refusal::NoAnswerRoom(needed));
+    }
+    put_whole(formula, expression, &mut env, sp, id, text);
+    Listed::Length(needed)
+}
+
+// The listing of a formula, from the start of the slice lent on: its length, or one of 1 to 6, or 10 at the bytes that it needs. Refused, nothing is
+// written; listed, the rest of the slice keeps its content.
+pub fn list(formula: &[u8], text: &mut [u8]) -> Listed
+    ensures { λ r. ⌜ (r ≡ listedAnswer (listing (length (now (text .entry))) (now (formula .entry)))) × (now (text .exit) ≡ textAfter (now (text .entry)) (listing (length (now (text .entry))) (now (formula .entry)))) ⌝ }
+{
+    match check(formula) {
+        Checked::Refused(refusal) => Listed::Refused(refusal),
+        Checked::Depth(_) => match read_formula(formula) {
+            FormulaRead::Refused(refusal) => Listed::Refused(refusal),
+            FormulaRead::Found(found) => {
+                let inputs = found.inputs;
+                let expression = found.expression;
+                list_found(formula, inputs, expression, text)
+            }
+        },
+    }
+}
