@@ -1,0 +1,208 @@
+-- Refusals 1 to 7 step by step, and what the job's outcome is where one of them is met or none.
+use Prim.Native.Nat.{ℕ}
+use mathlib.Core.Bool.{Bool, true, false}
+use mathlib.Core.List.{List}
+use mathlib.Core.Path.{_≡_, refl, sym, ap, subst, _∙_}
+use lib.Dec.{eqb}
+use lib.IntN.{ℤ}
+use lib.ListN.{length}
+use Rattle.laws.proofs.Never.{never}
+use Rattle.snesl.specs.declared.limits.Formula.{Formula}
+use Rattle.snesl.specs.declared.limits.Job.{Job}
+use Rattle.snesl.specs.declared.refusal.Refusal.{Refusal}
+use Rattle.snesl.specs.declared.refusal.Refusal.the-variants.{NoRecord, NoValueText}
+use Rattle.snesl.specs.Limits.{usedOf}
+use Rattle.snesl.specs.Terms.{Term}
+use Rattle.snesl.specs.Records as records
+use Rattle.snesl.specs.Records.{Raw, Input, Span, JobRead, job, readJob, Front, front, frontOf, jobEnd, textsThen, textsAt}
+use Rattle.snesl.specs.Checking as checking
+use Rattle.snesl.specs.Checking.{Typed, typed, context, depths, checkFormula}
+use Rattle.snesl.specs.Inputs.{Values, wrong, right, inputValues}
+use Rattle.snesl.specs.Outcome.{refusal, outcomeRead, outcomeTyped, valued, outcome, streamsRefused}
+use Rattle.snesl.proofs.Jobs.EarlyRefusals.{Early, early-long, early-record, early-limit, early-many, early-unbound, early-type, early-text, reading-refuses-early, checking-refuses-early}
+use Rattle.formula.specs.Reading.{formulaOf, jobOf}
+use Rattle.formula.specs.declared.read.JobRead.the-variants as found
+use Rattle.formula.specs.declared.read.FormulaRead.the-variants as formula
+use Rattle.checking.specs.Checks.{checkedOf, checkFront}
+use Rattle.checking.specs.declared.check.Checked.the-variants as checked
+use Rattle.inputs.specs.Supply.{Read, textsOf}
+use Rattle.inputs.specs.declared.texts.Texts.the-variants as texts
+use Rattle.sheet.specs.declared.admission.Admission.{Admission}
+use Rattle.sheet.specs.declared.admission.Admission.the-variants.{Admitted, Refused}
+use Rattle.sheet.specs.Admission.{admissionValued, admissionTyped, admissionRead, admission}
+use Rattle.sheet.specs.Runs as runs
+
+-- ---- step by step
+
+module _ (t : List ℕ) where
+  pub refused-read : (r : Refusal) → found.Refused r ≡ jobOf t (readJob t) → Refused r ≡ admission t
+  refused-read r e = go (readJob t) e
+    where
+      go : (j : JobRead) → found.Refused r ≡ jobOf t j → Refused r ≡ admissionRead t j
+      go (records.JobRead.refused s) q = let same : r ≡ s = cc in ap Refused same
+      go (job is k e next ss) q = never (cc)
+
+  pub job-found : (j : Job) → found.Found j ≡ jobOf t (readJob t) → Read t (j .formula)
+  job-found j e = go (readJob t) refl e
+    where
+      go : (x : JobRead) → readJob t ≡ x → found.Found j ≡ jobOf t x → Read t (j .formula)
+      go (records.JobRead.refused s) p q = never (cc)
+      go (job is k e next ss) p q =
+          let same : j ≡ record { formula = record { inputs = length is; expression = k; end = next }; end = length t } = cc in
+          record {
+            inputs = is;
+            expression = k;
+            raw = e;
+            next = next;
+            spans = ss;
+            read = p;
+            formula = ap (λ (z : Job). z .formula) same;
+          }
+
+  -- the front of a job
+  front-of : (is : List Input) (k : ℕ) (e : Raw) (next : ℕ) (ss : List Span) → readJob t ≡ job is k e next ss → frontOf t ≡ front is k e next
+  front-of is k e next ss = fronts (frontOf t) refl
+    where
+      last : (is′ : List Input) (k′ : ℕ) (e′ : Raw) (next′ end : ℕ) (ss′ : List Span) (b : Bool) → frontOf t ≡ front is′ k′ e′ next′
+          → elim b [ true ↦ job is′ k′ e′ next′ ss′ | false ↦ records.JobRead.refused (NoRecord end) ] ≡ job is k e next ss
+          → frontOf t ≡ front is k e next
+      last is′ k′ e′ next′ end ss′ true p q =
+          let a : is′ ≡ is = cc in
+          let b : k′ ≡ k = cc in
+          let c : e′ ≡ e = cc in
+          let d : next′ ≡ next = cc in
+          p ∙ (λ i. front (a i) (b i) (c i) (d i))
+      last is′ k′ e′ next′ end ss′ false p q = never (cc)
+
+      all : (is′ : List Input) (k′ : ℕ) (e′ : Raw) (next′ : ℕ) (x : records.Texts) → frontOf t ≡ front is′ k′ e′ next′
+          → textsThen t is′ k′ e′ next′ x ≡ job is k e next ss
+          → frontOf t ≡ front is k e next
+      all is′ k′ e′ next′ (records.Texts.refused r) p q = never (cc)
+      all is′ k′ e′ next′ (records.texts ss′ end) p q = last is′ k′ e′ next′ end ss′ (eqb end (length t)) p q
+
+      fronts : (f : Front) → frontOf t ≡ f → jobEnd t f ≡ job is k e next ss → frontOf t ≡ front is k e next
+      fronts (records.Front.refused r) p q = never (cc)
+      fronts (front is′ k′ e′ next′) p q = all is′ k′ e′ next′ (textsAt (length is′) t next′) p q
+
+  module _ {f : Formula} (g : Read t f) where
+    the-front : frontOf t ≡ front (g .inputs) (g .expression) (g .raw) (g .next)
+    the-front = front-of (g .inputs) (g .expression) (g .raw) (g .next) (g .spans) (g .read)
+
+    pub front-found : formula.Found f ≡ formulaOf (frontOf t)
+    front-found = ap formula.Found (g .formula) ∙ sym (ap formulaOf the-front)
+
+    admission-is : admission t ≡ admissionTyped t f (g .inputs) (g .spans) (checkFormula (g .inputs) (g .raw))
+    admission-is =
+        ap (admissionRead t) (g .read)
+        ∙ ap (λ (h : Formula). admissionTyped t h (g .inputs) (g .spans) (checkFormula (g .inputs) (g .raw))) (sym (g .formula))
+
+    pub refused-typed : (r : Refusal) → checked.Refused r ≡ checkFront (frontOf t) → Refused r ≡ admission t
+    refused-typed r e = go (checkFormula (g .inputs) (g .raw)) (e ∙ ap checkFront the-front) ∙ sym admission-is
+      where
+        go : (y : Typed (context (g .inputs))) → checked.Refused r ≡ checkedOf y → Refused r ≡ admissionTyped t f (g .inputs) (g .spans) y
+        go (checking.Typed.refused s) q = let same : r ≡ s = cc in ap Refused same
+        go (typed d e) q = never (cc)
+
+    module _ (d : ℕ) (e : checked.Depth d ≡ checkFront (frontOf t)) where
+      valued-is : admission t ≡ admissionValued f (inputValues t (g .inputs) (g .spans))
+      valued-is = admission-is ∙ go (checkFormula (g .inputs) (g .raw)) (e ∙ ap checkFront the-front)
+        where
+          go : (y : Typed (context (g .inputs))) → checked.Depth d ≡ checkedOf y
+              → admissionTyped t f (g .inputs) (g .spans) y ≡ admissionValued f (inputValues t (g .inputs) (g .spans))
+          go (checking.Typed.refused s) q = never (cc)
+          go (typed d′ e) q = refl
+
+      pub refused-valued : (p : ℕ) → texts.Bad p ≡ textsOf (inputValues t (g .inputs) (g .spans)) → Refused (NoValueText p) ≡ admission t
+      refused-valued p q = go (inputValues t (g .inputs) (g .spans)) q ∙ sym valued-is
+        where
+          go : (v : Values (depths (g .inputs))) → texts.Bad p ≡ textsOf v → Refused (NoValueText p) ≡ admissionValued f v
+          go (wrong r) q = let same : p ≡ r = cc in ap (λ (i : ℕ). Refused (NoValueText i)) same
+          go (right vs) q = never (cc)
+
+      pub admitted : texts.Good ≡ textsOf (inputValues t (g .inputs) (g .spans)) → Admitted f ≡ admission t
+      admitted q = go (inputValues t (g .inputs) (g .spans)) q ∙ sym valued-is
+        where
+          go : (v : Values (depths (g .inputs))) → texts.Good ≡ textsOf v → Admitted f ≡ admissionValued f v
+          go (wrong r) q = never (cc)
+          go (right vs) q = refl
+
+-- ---- the outcome
+
+early-keeps : (old : List ℤ) {r : Refusal} → Early r → streamsRefused old r ≡ old
+early-keeps old early-long = refl
+early-keeps old early-record = refl
+early-keeps old early-limit = refl
+early-keeps old early-many = refl
+early-keeps old early-unbound = refl
+early-keeps old early-type = refl
+early-keeps old early-text = refl
+
+-- a refusal that writes nothing
+pub record Turned (t : List ℕ) (r : Refusal) : Type 0 where
+  pub comes : (lent answerLent : ℕ) → outcome t lent answerLent ≡ refusal r
+  pub keeps : (old : List ℤ) → streamsRefused old r ≡ old
+
+module _ (t : List ℕ) where
+  -- by the way to the admission
+  abbrev Says : Admission → Type 0
+  Says (Refused r) = Turned t r
+  Says (Admitted f) = runs.Admitted t f
+
+  says : Says (admission t)
+  says = read (readJob t) refl
+    where
+      values : (is : List Input) (k : ℕ) (e : Raw) (next : ℕ) (ss : List Span) → readJob t ≡ job is k e next ss
+          → (d : ℕ) (u : Term (context is) d) → checkFormula is e ≡ typed d u
+          → (v : Values (depths is)) → inputValues t is ss ≡ v
+          → Says (admissionValued (record { inputs = length is; expression = k; end = next }) v)
+      values is k e next ss r d u c (wrong p) h =
+          record {
+            comes =
+                λ lent answerLent.
+                ap (outcomeRead t (usedOf lent) answerLent) r
+                ∙ ap (outcomeTyped t (usedOf lent) answerLent is ss) c
+                ∙ ap (valued (usedOf lent) answerLent is u) h;
+            keeps = λ old. refl;
+          }
+      values is k e next ss r d u c (right vs) h =
+          record {
+            accepted =
+                record {
+                  inputs = is;
+                  expression = k;
+                  raw = e;
+                  next = next;
+                  spans = ss;
+                  depth = d;
+                  term = u;
+                  given = vs;
+                  read = r;
+                  checked = c;
+                  valued = h;
+                };
+            formula = refl;
+          }
+
+      types : (is : List Input) (k : ℕ) (e : Raw) (next : ℕ) (ss : List Span) → readJob t ≡ job is k e next ss
+          → (y : Typed (context is)) → checkFormula is e ≡ y
+          → Says (admissionTyped t (record { inputs = length is; expression = k; end = next }) is ss y)
+      types is k e next ss r (checking.Typed.refused why) c =
+          record {
+            comes = λ lent answerLent. ap (outcomeRead t (usedOf lent) answerLent) r ∙ ap (outcomeTyped t (usedOf lent) answerLent is ss) c;
+            keeps = λ old. early-keeps old (checking-refuses-early is e c);
+          }
+      types is k e next ss r (typed d u) c = values is k e next ss r d u c (inputValues t is ss) refl
+
+      read : (j : JobRead) → readJob t ≡ j → Says (admissionRead t j)
+      read (records.JobRead.refused why) r =
+          record {
+            comes = λ lent answerLent. ap (outcomeRead t (usedOf lent) answerLent) r;
+            keeps = λ old. early-keeps old (reading-refuses-early t r);
+          }
+      read (job is k e next ss) r = types is k e next ss r (checkFormula is e) refl
+
+  pub turned : (r : Refusal) → Refused r ≡ admission t → Turned t r
+  turned r e = subst Says (sym e) says
+
+  pub taken-in : (f : Formula) → Admitted f ≡ admission t → runs.Admitted t f
+  taken-in f e = subst Says (sym e) says

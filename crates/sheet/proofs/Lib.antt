@@ -1,0 +1,5 @@
+pub mod Starts
+pub mod Admitting
+pub mod Answering
+pub mod Performing
+pub mod Whole

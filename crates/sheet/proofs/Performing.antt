@@ -1,0 +1,292 @@
+-- A job that meets none of 1 to 7, from its inputs to its answer: what each part says makes up the outcome of its execution.
+use Prim.Native.Nat.{ℕ, suc, _+_, _*_, _-_, _≤_}
+use mathlib.Core.Bool.{Bool, true, false}
+use mathlib.Core.List.{List, [], _++_, append-nil}
+use mathlib.Core.Option.{Option, some, none}
+use mathlib.Core.Path.{_≡_, refl, sym, ap, ap₂, subst, _∙_}
+use native.Mathlib.Omega.{arith}
+use lib.Dec.{leb}
+use lib.IntN.{ℤ, pos}
+use lib.ListN.{length, drop, replicate, take-append-drop}
+use Rattle.laws.specs.Parts.{cleared}
+use Rattle.laws.proofs.Never.{never}
+use Rattle.environment.proofs.Stack.{drop-above}
+use Rattle.snesl.specs.declared.limits.Formula.{Formula}
+use Rattle.snesl.specs.declared.refusal.Refusal.{Refusal}
+use Rattle.snesl.specs.declared.refusal.Refusal.the-variants.{NoRoom}
+use Rattle.snesl.specs.Limits.{mostInputs, mostNesting, mostDepth}
+use Rattle.snesl.specs.Values.{Val}
+use Rattle.snesl.specs.Terms.{All, ∅}
+use Rattle.snesl.specs.Trees.{Tree}
+use Rattle.snesl.specs.Streams.{Store, contents, room}
+use Rattle.snesl.specs.Machine.{State, Result, went, stopped, run, holding}
+use Rattle.snesl.specs.Translation.{code, tree}
+use Rattle.snesl.specs.Agreement.{RanOnce}
+use Rattle.snesl.specs.Checking.{context, depths, turned, inputNames}
+use Rattle.snesl.specs.Formed.{Formed}
+use Rattle.snesl.specs.Inputs.{inputTrees, inputStreams, inputOver}
+use Rattle.snesl.specs.Outcome.{Outcome, refusal, value, refusalOf, answerText, answered, finished, loaded, executed, answerAfter}
+use Rattle.snesl.specs.Demands.{environment}
+use Rattle.snesl.proofs.Formed.{job-formed}
+use Rattle.snesl.proofs.Jobs.InputStreams.{length-inputs, inputs-agree}
+use Rattle.snesl.proofs.Statements.Compiled.{it-ends-if-all-fits}
+use Rattle.snesl.proofs.Statements.Correctness.{a-run-has-a-value}
+use Rattle.steps.specs.Holding.{keeps}
+use Rattle.steps.specs.Walking.{walked}
+use Rattle.steps.proofs.Stores.{room-append}
+use Rattle.runner.specs.Places.{wordsFor, mostWords}
+use Rattle.runner.specs.Walks.{Scene, Ready, answer, Left, Runs}
+use Rattle.runner.specs.declared.Walked.{Walked}
+use Rattle.runner.specs.declared.Walked.the-variants as walks
+use Rattle.runner.proofs.Measures.{shallow-type}
+use Rattle.inputs.specs.Supply.{Valued}
+use Rattle.inputs.specs.Loading.{bindingWords, inputsBound, Stands, Loads, loads, fills}
+use Rattle.inputs.specs.declared.loading.Loaded.{Loaded}
+use Rattle.inputs.specs.declared.loading.Loaded.the-variants.{At, Full}
+use Rattle.sheet.specs.declared.Ran.{Ran as Ran-answer}
+use Rattle.sheet.specs.declared.Ran.the-variants.{Value, Refused}
+use Rattle.sheet.specs.declared.Counts.{Counts}
+use Rattle.sheet.specs.Runs.{ranOf, Admitted, execution, Finished, Shows, LeftBy, Performs, Executes}
+
+-- ---- loading
+
+-- what loading is handed
+abbrev pub valued-of : {t : List ℕ} {f : Formula} → Admitted t f → Valued t f
+valued-of g =
+    record {
+      job =
+          record {
+            inputs = g .accepted .inputs;
+            expression = g .accepted .expression;
+            raw = g .accepted .raw;
+            next = g .accepted .next;
+            spans = g .accepted .spans;
+            read = g .accepted .read;
+            formula = g .formula;
+          };
+      given = g .accepted .given;
+      values = g .accepted .valued;
+    }
+
+-- all inputs are loaded
+pub record Laid {t : List ℕ} {f : Formula} (g : Valued t f) (env env₁ : List ℕ) (buf buf₁ : List ℤ) (state₁ : List ℕ) (o : Option ℕ) (sp : ℕ) : Type 0 where
+  pub fitting : o ≡ none
+  pub stands : Stands (inputsBound (g .job .inputs)) (inputStreams (g .given)) env₁ sp buf₁ state₁
+  pub kept : keeps (inputStreams (g .given)) buf buf₁
+  pub space : length env ≤ sp + bindingWords * mostInputs
+  pub few : length (inputStreams (g .given)) ≤ suc mostDepth * mostInputs
+
+module _ {t : List ℕ} {f : Formula} {g : Valued t f} {env env₁ : List ℕ} {buf buf₁ : List ℤ} {state₁ : List ℕ} where
+  over-full : {o : Option ℕ} {s : ℕ} → Loads g env env₁ buf buf₁ state₁ o (Full s) → o ≡ some s
+  over-full fills = refl
+
+  laid : {o : Option ℕ} {sp : ℕ} → Loads g env env₁ buf buf₁ state₁ o (At sp) → Laid g env env₁ buf buf₁ state₁ o sp
+  laid (loads s k p n) = record { fitting = refl; stands = s; kept = k; space = p; few = n }
+
+-- the inputs' streams and their trees
+abbrev pub inputsOf : {t : List ℕ} {f : Formula} → Admitted t f → Store
+inputsOf g = inputStreams (g .accepted .given)
+
+abbrev pub treesOf : {t : List ℕ} {f : Formula} → (g : Admitted t f) → All (Tree ℕ) (context (g .accepted .inputs))
+treesOf g = turned ∅ (inputTrees 0 (depths (g .accepted .inputs)))
+
+-- ---- an outcome, and what is left where it is one
+
+performs-refused : {o : Outcome} (r : Refusal) (buf buf₁ : List ℤ) (ans : List ℕ) → o ≡ refusal r → Performs o buf buf₁ ans ans (Refused r)
+performs-refused {o} r buf buf₁ ans e =
+    record {
+      shows = record { says = sym (ap ranOf e); answer-is = sym (ap (answerAfter ans) e) };
+      left = subst (λ (o : Outcome). LeftBy o buf buf₁) (sym e) tt;
+    }
+
+left-answered : (lent : ℕ) (text : List ℕ) (m : State) (buf buf₁ : List ℤ) → buf₁ ≡ contents (m .store) ++ drop (room (m .store)) buf
+    → LeftBy (answered lent text m) buf buf₁
+left-answered lent text m buf buf₁ e = go (leb (length text) lent) refl
+  where
+    go : (b : Bool) → leb (length text) lent ≡ b → LeftBy (answered lent text m) buf buf₁
+    go true p = rw (p, answered) e
+    go false p = rw (p, answered) tt
+
+-- ---- from the inputs to the answer
+
+module _ {t : List ℕ} {f : Formula} (g : Admitted t f) {env env₁ : List ℕ} {buf buf₁ : List ℤ} {state₁ : List ℕ} where
+  -- the inputs don't fit
+  pub crowded : (r : Loaded) (s : ℕ) (ans : List ℕ) → r ≡ Full s
+      → Loads (valued-of g) env env₁ buf buf₁ state₁ (inputOver (length buf) 0 0 (g .accepted .given)) r
+      → Performs (execution g (length buf) (length ans)) buf buf₁ ans ans (Refused (NoRoom s))
+  crowded r s ans e l =
+      performs-refused (NoRoom s) buf buf₁ ans
+      (ap (executed (length buf) (length ans) (g .accepted .inputs) (g .accepted .term) (g .accepted .given))
+      (over-full
+      (subst (λ (x : Loaded). Loads (valued-of g) env env₁ buf buf₁ state₁ (inputOver (length buf) 0 0 (g .accepted .given)) x) e l)))
+
+  module _ (r₀ : Loaded) (sp : ℕ) (at : r₀ ≡ At sp) (l : Loads (valued-of g) env env₁ buf buf₁ state₁ (inputOver (length buf) 0 0 (g .accepted .given)) r₀)
+      (wide : mostWords ≤ length env) where
+    pub here : Laid (valued-of g) env env₁ buf buf₁ state₁ (inputOver (length buf) 0 0 (g .accepted .given)) sp
+    here =
+        laid
+        (subst (λ (x : Loaded). Loads (valued-of g) env env₁ buf buf₁ state₁ (inputOver (length buf) 0 0 (g .accepted .given)) x) at l)
+
+    abbrev pub scene : Scene env₁ sp buf₁ state₁
+    scene =
+        record {
+          context = context (g .accepted .inputs);
+          names = turned ∅ (inputNames (g .accepted .inputs));
+          trees = turned ∅ (inputTrees 0 (depths (g .accepted .inputs)));
+          machine = loaded (g .accepted .given);
+          rest = [];
+          spells = here .stands .spells ∙ sym (append-nil _);
+          shaped = here .stands .shaped;
+          shallow = here .stands .shallow;
+          held = here .stands .held;
+          within = here .stands .within;
+        }
+
+    pub formed : Formed t (suc mostNesting) (g .accepted .expression) (context (g .accepted .inputs))
+        (turned ∅ (inputNames (g .accepted .inputs))) (g .accepted .depth) (g .accepted .term) (g .accepted .next)
+    formed = job-formed t (g .accepted .read) (g .accepted .checked) .formed
+
+    pub low : wordsFor (mostNesting + 1) ≤ sp
+    low = omega (arith, here .space)
+
+    abbrev pub ready : Ready t (f .expression) (mostNesting + 1) sp env₁ buf₁ state₁
+    ready =
+        record {
+          scene = scene;
+          depth = g .accepted .depth;
+          term = g .accepted .term;
+          next = g .accepted .next;
+          formed =
+              subst
+              (λ (k : ℕ). Formed t (mostNesting + 1) k (scene .context) (scene .names) (g .accepted .depth) (g .accepted .term) (g .accepted .next))
+              (sym (ap (λ (h : Formula). h .expression) (g .formula)))
+              formed;
+          short = job-formed t (g .accepted .read) (g .accepted .checked) .short;
+          space = low;
+          few = omega (arith, here .few, job-formed t (g .accepted .read) (g .accepted .checked) .short);
+        }
+
+    -- what the walk's run comes to is the outcome
+    abbrev pub res : Result
+    res = walked (length buf₁) 1 (code (g .accepted .term) (treesOf g) (length (inputsOf g))) (loaded (g .accepted .given))
+
+    module _ (long : length buf₁ ≡ length buf) where
+      execution-is : (lent : ℕ) → execution g (length buf) lent ≡ finished lent (tree (g .accepted .term) (treesOf g) (length (inputsOf g))) res
+      unfolding walked
+      execution-is lent =
+          ap (executed (length buf) lent (g .accepted .inputs) (g .accepted .term) (g .accepted .given)) (here .fitting)
+          ∙ ap₂
+          (λ (s cap : ℕ). finished lent (tree (g .accepted .term) (treesOf g) s) (run (holding cap) (code (g .accepted .term) (treesOf g) s) 1 (loaded (g .accepted .given))))
+          (sym (length-inputs (g .accepted .given)))
+          (sym long)
+
+      module _ {env₂ : List ℕ} {buf₂ : List ℤ} {state₂ : List ℕ} {r : Walked} (w : Runs scene (g .accepted .term) 1 (g .accepted .next) env₂ buf₂ state₂ r) where
+        pub halted : (why : Refusal) (ans : List ℕ) → r ≡ walks.Stopped why
+            → Performs (execution g (length buf) (length ans)) buf buf₂ ans ans (Refused why)
+        halted why ans e = performs-refused why buf buf₂ ans (execution-is (length ans) ∙ go res (sym e ∙ w .says))
+          where
+            go : (x : Result) → walks.Stopped why ≡ answer (g .accepted .depth) (g .accepted .next) x
+                → finished (length ans) (tree (g .accepted .term) (treesOf g) (length (inputsOf g))) x ≡ refusal why
+            go (went m) q = never (cc)
+            go (stopped y s) q = let same : why ≡ refusalOf y s = cc in ap refusal (sym same)
+
+        -- it went through to a machine
+        record Through (depth : ℕ) : Type 0 where
+          machine : State
+          is : res ≡ went machine
+          deep : depth ≡ g .accepted .depth
+
+        through : (depth next : ℕ) → r ≡ walks.Tree depth next → Through depth
+        through depth next e = go res refl (sym e ∙ w .says)
+          where
+            go : (x : Result) → res ≡ x → walks.Tree depth next ≡ answer (g .accepted .depth) (g .accepted .next) x → Through depth
+            go (went m) p q = record { machine = m; is = p; deep = cc }
+            go (stopped y s) p q = never (cc)
+
+        module _ (depth next : ℕ) (e : r ≡ walks.Tree depth next) where
+          abbrev m : State
+          m = through depth next e .machine
+
+          left : Left m (tree (g .accepted .term) (treesOf g) (length (inputsOf g))) sp env₁ env₂ buf₁ buf₂ state₂
+          left = w .leaves m (through depth next e .is)
+
+          ran : (v : Val (g .accepted .depth)) × RanOnce (g .accepted .term) (treesOf g) (length (inputsOf g)) (environment (g .accepted)) (loaded (g .accepted .given)) v m
+          unfolding walked
+          ran =
+              let bounded = it-ends-if-all-fits (length buf₁) (code (g .accepted .term) (treesOf g) (length (inputsOf g))) 1 (loaded (g .accepted .given)) (here .stands .held .fits) m in
+              let boundless = bounded .0 (through depth next e .is) .0 in
+              let v =
+              a-run-has-a-value (g .accepted .term) (treesOf g) (length (inputsOf g)) (environment (g .accepted)) (loaded (g .accepted .given)) refl
+              (inputs-agree (g .accepted .given)) boundless in
+              (v .0, v .2)
+
+          abbrev finish : Finished (g .accepted .depth) (sp - (3 * g .accepted .depth + 3)) env₂ buf₂ state₂
+          finish =
+              record {
+                machine = m;
+                tree = tree (g .accepted .term) (treesOf g) (length (inputsOf g));
+                result = ran .0;
+                rest = drop sp env₁;
+                held = left .held;
+                holds = ran .1 .results;
+                words = left .words;
+                shallow = shallow-type formed (here .stands .shallow);
+              }
+
+          pub finished-at : Finished depth (sp - (3 * depth + 3)) env₂ buf₂ state₂
+          finished-at = subst (λ (d : ℕ). Finished d (sp - (3 * d + 3)) env₂ buf₂ state₂) (sym (through depth next e .deep)) finish
+
+          pub shallow : depth ≤ mostDepth
+          shallow = omega (arith, finish .shallow, through depth next e .deep)
+
+          whole : buf₂ ≡ contents (m .store) ++ drop (room (m .store)) buf
+          whole =
+              let grown : room (m .store) ≡ room (inputsOf g) + room (ran .1 .added) = ap room (ran .1 .store) ∙ room-append (inputsOf g) (ran .1 .added) in
+              sym (take-append-drop (room (m .store)) buf₂)
+              ∙ ap₂ _++_ (left .held .contents-are)
+              (left .kept ∙ drop-above buf₁ buf (room (inputsOf g)) (room (m .store)) (here .kept) (omega arith))
+
+          pub answers-it : {x : Ran-answer} {ans ans′ : List ℕ}
+              → ((h : Finished depth (sp - (3 * depth + 3)) env₂ buf₂ state₂)
+              → Shows (answered (length ans) (answerText (h .tree) (h .machine .store)) (h .machine)) ans ans′ x)
+              → Performs (execution g (length buf) (length ans)) buf buf₂ ans ans′ x
+          answers-it {x} {ans} {ans′} s =
+              let o = execution-is (length ans) ∙ ap (finished (length ans) (tree (g .accepted .term) (treesOf g) (length (inputsOf g)))) (through depth next e .is) in
+              let shown =
+              subst
+              (λ (d : ℕ).
+              (h : Finished d (sp - (3 * d + 3)) env₂ buf₂ state₂)
+              → Shows (answered (length ans) (answerText (h .tree) (h .machine .store)) (h .machine)) ans ans′ x)
+              (through depth next e .deep)
+              s
+              finish in
+              record {
+                shows = subst (λ (y : Outcome). Shows y ans ans′ x) (sym o) shown;
+                left =
+                    subst (λ (y : Outcome). LeftBy y buf buf₂) (sym o)
+                    (left-answered (length ans) (answerText (tree (g .accepted .term) (treesOf g) (length (inputsOf g))) (m .store)) m buf buf₂ whole);
+              }
+
+-- ---- the used part afterwards
+
+module _ {o : Outcome} {buf buf₁ : List ℤ} {ans ans′ : List ℕ} {r : Ran-answer} (p : Performs o buf buf₁ ans ans′ r) where
+  pub kept-value : (c : Counts) → r ≡ Value c → Executes o buf buf₁ ans ans′ (Value c)
+  kept-value c e = go o p
+    where
+      go : (o : Outcome) → Performs o buf buf₁ ans ans′ r → Executes o buf buf₁ ans ans′ (Value c)
+      go (refusal x) p = never (cc (p .shows .says))
+      go (value text w s m held) p = record { shows = subst (λ (x : Ran-answer). Shows (value text w s m held) ans ans′ x) e (p .shows); used = p .left }
+
+  pub cleared-refusal : (x : Refusal) (buf₂ : List ℤ) → r ≡ Refused x → length buf₁ ≡ length buf → buf₂ ≡ cleared (pos 0) 0 buf₁
+      → Executes o buf buf₂ ans ans′ (Refused x)
+  unfolding cleared
+  cleared-refusal x buf₂ e long c = go o p
+    where
+      go : (o : Outcome) → Performs o buf buf₁ ans ans′ r → Executes o buf buf₂ ans ans′ (Refused x)
+      go (refusal y) p =
+          let all : length buf₁ - 0 ≡ length buf = omega arith in
+          record {
+            shows = subst (λ (z : Ran-answer). Shows (refusal y) ans ans′ z) e (p .shows);
+            used = c ∙ ap (λ (n : ℕ). replicate n (pos 0)) all;
+          }
+      go (value text w s m held) p = never (cc (p .shows .says))

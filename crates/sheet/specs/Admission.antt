@@ -1,0 +1,30 @@
+-- Refusals 1 to 7 (01): what the run makes of a job before anything is written.
+use Prim.Native.Nat.{ℕ}
+use mathlib.Core.List.{List}
+use lib.ListN.{length}
+use Rattle.snesl.specs.declared.limits.Formula.{Formula}
+use Rattle.snesl.specs.declared.refusal.Refusal.the-variants.{NoValueText}
+use Rattle.snesl.specs.Records as records
+use Rattle.snesl.specs.Checking as checking
+use Rattle.snesl.specs.Inputs.{Values, wrong, right, inputValues}
+use Rattle.sheet.specs.declared.admission.Admission.{Admission}
+use Rattle.sheet.specs.declared.admission.Admission.the-variants.{Admitted, Refused}
+
+-- 7
+abbrev pub admissionValued : {ds : List ℕ} → Formula → Values ds → Admission
+admissionValued f (wrong p) = Refused (NoValueText p)
+admissionValued f (right vs) = Admitted f
+
+-- 5 and 6
+abbrev pub admissionTyped : List ℕ → Formula → (is : List records.Input) → List records.Span → checking.Typed (checking.context is) → Admission
+admissionTyped t f is ss (checking.Typed.refused r) = Refused r
+admissionTyped t f is ss (checking.typed d e) = admissionValued f (inputValues t is ss)
+
+-- 1 to 4
+abbrev pub admissionRead : List ℕ → records.JobRead → Admission
+admissionRead t (records.JobRead.refused r) = Refused r
+admissionRead t (records.job is k e next ss) =
+    admissionTyped t (record { inputs = length is; expression = k; end = next }) is ss (checking.checkFormula is e)
+
+abbrev pub admission : List ℕ → Admission
+admission t = admissionRead t (records.readJob t)

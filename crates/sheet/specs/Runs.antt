@@ -1,0 +1,80 @@
+-- What `run` answers and leaves of what it was lent, as snesl's `outcome` has it, and what its parts do of that.
+use Prim.Native.Nat.{ℕ, _≤_}
+use mathlib.Core.List.{List, [], _∷_, _++_}
+use mathlib.Core.Path.{_≡_}
+use lib.IntN.{ℤ, pos}
+use lib.ListN.{length, drop, replicate}
+use Rattle.snesl.specs.declared.limits.Formula.{Formula}
+use Rattle.snesl.specs.Limits.{mostDepth}
+use Rattle.snesl.specs.Values.{Val}
+use Rattle.snesl.specs.Trees.{Tree, mapTree}
+use Rattle.snesl.specs.Machine.{State}
+use Rattle.snesl.specs.Representation.{Holds}
+use Rattle.snesl.specs.Inputs.{inputOver}
+use Rattle.snesl.specs.Demands.{Accepted}
+use Rattle.snesl.specs.Outcome.{Outcome, refusal, value, executed, outcome, streamsAfter, answerAfter}
+use Rattle.environment.specs.Words.{treeWords}
+use Rattle.steps.specs.Holding.{Held}
+use Rattle.runner.specs.Places.{place}
+use Rattle.sheet.specs.declared.Ran.{Ran}
+use Rattle.sheet.specs.declared.Ran.the-variants.{Value, Refused}
+
+-- an outcome as it is answered
+abbrev pub ranOf : Outcome → Ran
+ranOf (refusal r) = Refused r
+ranOf (value text work steps room held) = Value (record { text = length text; work = work; steps = steps; room = room })
+
+-- the answer, and what is left of the two buffers
+pub record Exact (t : List ℕ) (streams streams′ : List ℤ) (answer answer′ : List ℕ) (r : Ran) : Type 0 where
+  pub says : r ≡ ranOf (outcome t (length streams) (length answer))
+  pub streams-are : streams′ ≡ streamsAfter streams (outcome t (length streams) (length answer))
+  pub answer-is : answer′ ≡ answerAfter answer (outcome t (length streams) (length answer))
+
+-- ---- a job that meets none of 1 to 7
+
+-- with the formula that was read of it
+pub record Admitted (t : List ℕ) (f : Formula) : Type 0 where
+  pub accepted : Accepted t
+  pub formula : f ≡ record { inputs = length (accepted .inputs); expression = accepted .expression; end = accepted .next }
+
+-- its outcome where so many elements are used
+abbrev pub execution : {t : List ℕ} {f : Formula} → Admitted t f → (cap answerLent : ℕ) → Outcome
+execution g cap answerLent =
+    executed cap answerLent (g .accepted .inputs) (g .accepted .term) (g .accepted .given) (inputOver cap 0 0 (g .accepted .given))
+
+-- ---- a run that went through
+
+-- the result's tree has its words from `from` on, and holds a value in the machine's store
+pub record Finished (d from : ℕ) (env : List ℕ) (buf : List ℤ) (state : List ℕ) : Type 0 where
+  pub machine : State
+  pub tree : Tree ℕ d
+  pub result : Val d
+  pub rest : List ℕ
+  pub held : Held machine buf state
+  pub holds : Holds (machine .store) d tree (result ∷ [])
+  pub words : drop from env ≡ treeWords (mapTree (place (machine .store)) tree) ++ rest
+  pub shallow : d ≤ mostDepth
+
+-- ---- what the parts answer and leave
+
+pub record Shows (o : Outcome) (answer answer′ : List ℕ) (r : Ran) : Type 0 where
+  pub says : r ≡ ranOf o
+  pub answer-is : answer′ ≡ answerAfter answer o
+
+-- the streams, where there is a value
+abbrev pub LeftBy : Outcome → (buf buf′ : List ℤ) → Type 0
+LeftBy (refusal r) buf buf′ = Unit {0}
+LeftBy (value text work steps room held) buf buf′ = buf′ ≡ held ++ drop (length held) buf
+
+pub record Performs (o : Outcome) (buf buf′ : List ℤ) (answer answer′ : List ℕ) (r : Ran) : Type 0 where
+  pub shows : Shows o answer answer′ r
+  pub left : LeftBy o buf buf′
+
+-- the used part of a stream buffer: all zero after a refusal
+abbrev pub usedAfter : List ℤ → Outcome → List ℤ
+usedAfter buf (refusal r) = replicate (length buf) (pos 0)
+usedAfter buf (value text work steps room held) = held ++ drop (length held) buf
+
+pub record Executes (o : Outcome) (buf buf′ : List ℤ) (answer answer′ : List ℕ) (r : Ran) : Type 0 where
+  pub shows : Shows o answer answer′ r
+  pub used : buf′ ≡ usedAfter buf o

@@ -1,0 +1,73 @@
+// A job that meets none of 1 to 7: its inputs loaded (9), its formula walked under one unit (8 and 9), its answer shown (10).
+use crate::Ran;
+use crate::result::show;
+use inputs::loading::Loaded;
+use inputs::loading::load;
+use runner::Walked;
+use runner::walk;
+use snesl::limits::Formula;
+use snesl::refusal::Refusal;
+use streams::clear;
+ghost use mathlib.Core.Path.{_≡_};
+ghost use mathlib.Core.List.{[], _∷_};
+ghost use Prim.Native.Nat.{_≤_};
+ghost use lib.ListN.{length};
+ghost use Rattle.snesl.specs.Limits.{mostElements};
+ghost use Rattle.runner.specs.Places.{mostWords};
+ghost use Rattle.sheet.specs.Runs.{Admitted, execution, Performs, Executes};
+
+// The most words that an input's binding takes, and those that a nesting of the walk takes.
+const INPUT_WORDS: usize = 29;
+
+const NESTING_WORDS: usize = 69;
+
+// The stack of words of the deepest walk over the most inputs.
+const WORDS: usize = NESTING_WORDS * (Formula::NESTING + 1) + INPUT_WORDS * Formula::INPUTS;
+
+// With a value the buffer holds the streams; with a refusal it holds whatever was left there.
+fn perform(
+    job: &[u8],
+    formula: Formula,
+    env: &mut [u32],
+    buf: &mut [i32],
+    state: &mut [usize],
+    answer: &mut [u8],
+) -> Ran
+    requires { ⌜ Admitted (now job) formula ⌝ }
+    requires { ⌜ (mostWords ≤ length (now env)) × (length (now buf) ≤ mostElements) × (now state ≡ 0 ∷ 0 ∷ 0 ∷ 0 ∷ []) ⌝ }
+    ensures { λ r. ⌜ ((g : Admitted (now (job .entry)) formula) → Performs (execution g (length (now (buf .entry))) (length (now (answer .entry)))) (now (buf .entry)) (now (buf .exit)) (now (answer .entry)) (now (answer .exit)) r) ⌝ }
+{
+    match load(job, formula, env, buf, state) {
+        Loaded::Full(id) => Ran::Refused(Refusal::NoRoom(id)),
+        Loaded::At(sp) => match walk(
+            job,
+            formula.expression,
+            Formula::NESTING + 1,
+            1,
+            sp,
+            env,
+            buf,
+            state,
+        ) {
+            Walked::Stopped(refusal) => Ran::Refused(refusal),
+            Walked::Tree(depth, _) => show(depth, sp - (3 * depth + 3), env, buf, state, answer),
+        },
+    }
+}
+
+// On the used part of the stream buffer, which is all zero after a refusal.
+pub fn execute(job: &[u8], formula: Formula, buf: &mut [i32], answer: &mut [u8]) -> Ran
+    requires { ⌜ Admitted (now job) formula ⌝ }
+    requires { ⌜ length (now buf) ≤ mostElements ⌝ }
+    ensures { λ r. ⌜ ((g : Admitted (now (job .entry)) formula) → Executes (execution g (length (now (buf .entry))) (length (now (answer .entry)))) (now (buf .entry)) (now (buf .exit)) (now (answer .entry)) (now (answer .exit)) r) ⌝ }
+{
+    let mut env = [0u32; WORDS];
+    let mut state = [0usize; 4];
+    match perform(job, formula, &mut env, buf, &mut state, answer) {
+        Ran::Value(counts) => Ran::Value(counts),
+        Ran::Refused(refusal) => {
+            clear(buf, 0);
+            Ran::Refused(refusal)
+        }
+    }
+}
