@@ -25,7 +25,7 @@ use Rattle.snesl.specs.Checking.{depths, turnedOnto, turned, inputNames}
 use Rattle.snesl.specs.Inputs.{Values, wrong, right, valueFirst, inputTrees, inputValues, inputStreams, inputOver}
 use Rattle.steps.specs.Holding.{keeps}
 use Rattle.steps.proofs.Stores.{room-append}
-use Rattle.runner.specs.Places.{places, shaped-none, shallow-none}
+use Rattle.leaves.specs.Places.{places, shaped-none, shallow-none}
 use Rattle.valuetext.specs.Storing.{valueStore}
 use Rattle.valuetext.proofs.Represented.{order-length}
 use Rattle.inputs.specs.declared.loading.Loaded.{Loaded}

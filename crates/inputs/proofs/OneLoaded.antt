@@ -27,8 +27,8 @@ use Rattle.snesl.specs.Text.{valueOf}
 use Rattle.snesl.specs.Inputs.{inputTree}
 use Rattle.steps.specs.Holding.{counters, Held, keeps}
 use Rattle.steps.proofs.Stores.{contents-append, room-append, newest}
-use Rattle.runner.specs.Places.{place, places, Shapely, shapely-leaf, shapely-node, Shaped, shaped-more, Shallow, shallow-more}
-use Rattle.runner.proofs.Places.{tree-kept, places-kept, shapely-kept, shaped-kept, place-newest}
+use Rattle.leaves.specs.Places.{place, places, Shapely, shapely-leaf, shapely-node, Shaped, shaped-more, Shallow, shallow-more}
+use Rattle.leaves.proofs.Places.{tree-kept, places-kept, shapely-kept, shaped-kept, place-newest}
 use Rattle.decimals.specs.Numbers.{pick}
 use Rattle.valuetext.specs.Storing.{valueStore, valueStoreIf, textElements, measured, measuredIf, countsFor, countsAfter, textStore, Fillable}
 use Rattle.valuetext.specs.declared.storing.Measured.{Measured}

@@ -20,7 +20,7 @@ use Rattle.snesl.specs.Checking.{Name, context, depths, turned, inputNames}
 use Rattle.snesl.specs.Inputs.{inputTree, inputTrees, inputStreams, inputOver}
 use Rattle.environment.specs.Words.{spelled}
 use Rattle.steps.specs.Holding.{Held, keeps}
-use Rattle.runner.specs.Places.{places, Shaped, Shallow}
+use Rattle.leaves.specs.Places.{places, Shaped, Shallow}
 use Rattle.valuetext.specs.Storing.{valueStore}
 use Rattle.inputs.specs.Supply.{Valued}
 use Rattle.inputs.specs.declared.loading.Loaded.{Loaded}

@@ -23,17 +23,19 @@ use Rattle.formula.proofs.Variables.{length-variables}
 use Rattle.steps.proofs.Stores.{kept}
 use Rattle.steps.proofs.Walking.{Grown, walked-grown}
 use Rattle.steps.proofs.Performing.{stopping-as}
-use Rattle.runner.specs.Places.{place, Shapely, shapely-node, Shallow, shallow-none, shallow-more}
-use Rattle.runner.specs.Walks.{Ready, Runs}
-use Rattle.runner.specs.Bodies.{Each, Inside, Enters}
-use Rattle.runner.specs.declared.Walked.{Walked}
-use Rattle.runner.specs.declared.Walked.the-variants as walked-as
-use Rattle.runner.specs.declared.bodies.Entered.{Entered}
-use Rattle.runner.specs.declared.bodies.Entered.the-variants as entered
-use Rattle.runner.proofs.Measures.{nested, length-listed}
-use Rattle.runner.proofs.Places.{place-kept, lookup-shapely, lookup-shallow, outer-flags}
-use Rattle.runner.proofs.Growing.{keeps-then}
-use Rattle.runner.proofs.Running.{ran-through, ran-stopped, Through, through, halted, ran-answer}
+use Rattle.leaves.specs.Places.{place, Shapely, shapely-node, Shallow, shallow-none, shallow-more}
+use Rattle.leaves.specs.Scenes.{Runs}
+use Rattle.runner.specs.Walks.{Ready}
+use Rattle.bodies.specs.Bodies.{Each, Inside, Enters}
+use Rattle.leaves.specs.declared.Walked.{Walked}
+use Rattle.leaves.specs.declared.Walked.the-variants as walked-as
+use Rattle.bodies.specs.declared.Entered.{Entered}
+use Rattle.bodies.specs.declared.Entered.the-variants as entered
+use Rattle.bodies.proofs.Lists.{length-listed}
+use Rattle.runner.proofs.Measures.{nested}
+use Rattle.leaves.proofs.Places.{place-kept, lookup-shapely, lookup-shallow, outer-flags}
+use Rattle.leaves.proofs.Growing.{keeps-then}
+use Rattle.leaves.proofs.Running.{ran-through, ran-stopped, Through, through, halted, ran-answer}
 use Rattle.runner.proofs.Lifting.{lifted-words}
 
 module _ {t : List ℕ} {k levels sp : ℕ} {env : List ℕ} {buf : List ℤ} {state : List ℕ} {x y : Variable} {j : ℕ} (g : Each t k levels sp env buf state x y j) (n : ℕ) where

@@ -26,19 +26,20 @@ use Rattle.environment.specs.Words.{treeWords, treeSize, Sought}
 use Rattle.steps.specs.Walking.{walked}
 use Rattle.steps.specs.Holding.{of-const, mostStreams}
 use Rattle.steps.proofs.Walking.{walked-done}
-use Rattle.runner.specs.Walks.{Ready, Binding, Ran, Runs}
-use Rattle.runner.specs.Arms.{Single, One, Two}
-use Rattle.runner.specs.Bodies.{Each}
-use Rattle.runner.specs.declared.Walked.{Walked}
-use Rattle.runner.specs.declared.Walked.the-variants as walked-as
+use Rattle.leaves.specs.Scenes.{Ran, Runs}
+use Rattle.runner.specs.Walks.{Ready, Binding}
+use Rattle.leaves.specs.Arms.{Single, One, Two}
+use Rattle.bodies.specs.Bodies.{Each}
+use Rattle.leaves.specs.declared.Walked.{Walked}
+use Rattle.leaves.specs.declared.Walked.the-variants as walked-as
 use Rattle.runner.proofs.Reading.{at-var, at-bind, at-const, at-iota, at-plus, at-sum, at-each}
 use Rattle.formula.specs.declared.head.Head.the-variants as head
 use Rattle.formula.specs.Heads.{headOf}
 use Rattle.formula.proofs.Heads.{told}
 use Rattle.runner.proofs.Measures.{nested, spans}
-use Rattle.runner.proofs.Places.{lookup-places, lookup-shapely, lookup-shallow}
-use Rattle.runner.proofs.Operands.{sought}
-use Rattle.runner.proofs.Running.{ran-through, ran-as, ran-answer}
+use Rattle.leaves.proofs.Places.{lookup-places, lookup-shapely, lookup-shallow}
+use Rattle.leaves.proofs.Operands.{sought}
+use Rattle.leaves.proofs.Running.{ran-through, ran-as, ran-answer}
 
 -- and a whole record within its limits
 absent-not : {X : Type 0} {t : List ℕ} {levels k : ℕ} {Γ : List ℕ} {names : All Name Γ} {d next : ℕ} {e : Term Γ d} → Formed t levels k Γ names d e next

@@ -22,15 +22,16 @@ use Rattle.steps.specs.Holding.{mostStreams}
 use Rattle.steps.proofs.Stores.{kept}
 use Rattle.steps.proofs.Walking.{walked-seq, Grown, walked-grown}
 use Rattle.steps.proofs.Performing.{stopping-as}
-use Rattle.runner.specs.Places.{place, places, Shapely, Shaped, shaped-more, shallow-more, wordsFor}
-use Rattle.runner.specs.Walks.{Ready, Binding, Ran, Runs}
-use Rattle.runner.specs.declared.Walked.{Walked}
-use Rattle.runner.specs.declared.Walked.the-variants as walked-as
-use Rattle.runner.proofs.Differences.{back-up}
+use Rattle.leaves.specs.Places.{place, places, Shapely, Shaped, shaped-more, shallow-more, wordsFor}
+use Rattle.leaves.specs.Scenes.{Ran, Runs}
+use Rattle.runner.specs.Walks.{Ready, Binding}
+use Rattle.leaves.specs.declared.Walked.{Walked}
+use Rattle.leaves.specs.declared.Walked.the-variants as walked-as
+use Rattle.bodies.proofs.Differences.{back-up}
 use Rattle.runner.proofs.Measures.{nested, spans, shallow-type, count-code}
-use Rattle.runner.proofs.Growing.{keeps-then, onward-as, onward-stop}
-use Rattle.runner.proofs.Scenes.{grown-shaped, grown-spells}
-use Rattle.runner.proofs.Running.{ran-through, ran-stopped, Through, through, halted, ran-answer}
+use Rattle.leaves.proofs.Growing.{keeps-then, onward-as, onward-stop}
+use Rattle.bodies.proofs.Scenes.{grown-shaped, grown-spells}
+use Rattle.leaves.proofs.Running.{ran-through, ran-stopped, Through, through, halted, ran-answer}
 use Rattle.runner.proofs.Lifting.{behind, lifted-words}
 
 module _ {t : List ℕ} {k levels sp : ℕ} {env : List ℕ} {buf : List ℤ} {state : List ℕ} {x : Variable} (g : Binding t k levels sp env buf state x) where

@@ -1,16 +1,5 @@
-pub mod Differences
-pub mod Places
 pub mod Reading
 pub mod Measures
-pub mod Running
-pub mod Operands
-pub mod Growing
-pub mod Singles
-pub mod CountingUp
-pub mod Iota
-pub mod Scenes
-pub mod Distributing
-pub mod Entering
 pub mod Lifting
 pub mod Lets
 pub mod Comprehensions

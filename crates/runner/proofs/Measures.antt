@@ -1,41 +1,24 @@
 -- How far a formed expression reaches, how many streams its code defines, and how deep its type is.
-use Prim.Native.Nat.{ℕ, suc, _+_, _*_, _≤_, _<_}
-use mathlib.Core.List.{List, [], _∷_}
-use mathlib.Core.Option.{Option, some, none}
-use mathlib.Core.Path.{_≡_, refl, sym, _∙_, ap}
+use Prim.Native.Nat.{ℕ, _+_, _*_, _≤_, _<_}
+use mathlib.Core.List.{List}
+use mathlib.Core.Path.{_≡_, refl, sym, ap}
 use native.Mathlib.Omega.{arith}
 use borrow.Author.Tests.{ltb-true}
 use lib.ListN.{length}
-use Rattle.laws.proofs.Never.{never}
-use Rattle.snesl.specs.declared.code.Variable.{Variable}
 use Rattle.snesl.specs.Limits.{mostDepth}
 use Rattle.snesl.specs.Terms as terms
-use Rattle.snesl.specs.Terms.{_∋_, Term, All, _▹_, lookup}
+use Rattle.snesl.specs.Terms.{Term, All, _▹_, lookup}
 use Rattle.snesl.specs.Trees.{Tree, outer}
 use Rattle.snesl.specs.Programs.{Program, done, define, withCtrl, _⨾_, count}
-use Rattle.snesl.specs.Translation.{size, within, tree, controlled, distrs, code}
-use Rattle.snesl.specs.Checking.{Name, find, asInt, listedInts, listedFirst, pointers}
+use Rattle.snesl.specs.Translation.{size, within, tree, controlled, code}
+use Rattle.snesl.specs.Checking.{Name, pointers}
 use Rattle.snesl.specs.Formed.{Formed, formed-var, formed-bind, formed-const, formed-iota, formed-plus, formed-sum, formed-each}
 use Rattle.formula.specs.declared.head.Head.the-variants.{Var, Const, Iota, Plus, Sum, Each}
 use Rattle.formula.specs.Heads.{headOf}
 use Rattle.formula.proofs.Heads.{told}
-use Rattle.runner.specs.Places.{Shallow, shallow-more}
-use Rattle.runner.proofs.Places.{lookup-shallow}
-
--- as many pointers as names were listed
-pub listed-first : {Γ : List ℕ} → (u : Variable) (o : Option (Γ ∋ 0)) (l : Option (List (Variable × (Γ ∋ 0)))) (ls : List (Variable × (Γ ∋ 0)))
-    → listedFirst u o l ≡ some ls → (v : Γ ∋ 0) × (rest : List (Variable × (Γ ∋ 0))) × (o ≡ some v) × (l ≡ some rest) × ((u, v) ∷ rest ≡ ls)
-listed-first u none l ls e = never (cc)
-listed-first u (some v) none ls e = never (cc)
-listed-first u (some v) (some rest) ls e = (v, rest, refl, refl, cc)
-
-pub length-listed : {Γ : List ℕ} → (names : All Name Γ) (us : List Variable) (ls : List (Variable × (Γ ∋ 0))) → listedInts names us ≡ some ls
-    → length (pointers ls) ≡ length us
-unfolding listedInts
-length-listed names [] ls e = let q : [] ≡ ls = cc in ap (λ l. length (pointers l)) (sym q)
-length-listed names (u ∷ us) ls e =
-    let f = listed-first u (asInt (find u names)) (listedInts names us) ls e in
-    ap (λ l. length (pointers l)) (sym (f .4)) ∙ ap suc (length-listed names us (f .1) (f .3))
+use Rattle.leaves.specs.Places.{Shallow, shallow-more}
+use Rattle.leaves.proofs.Places.{lookup-shallow}
+use Rattle.bodies.proofs.Lists.{length-listed, count-distrs}
 
 -- an expression's bytes
 pub record Spans {Γ : List ℕ} {d : ℕ} (t : List ℕ) (k : ℕ) (e : Term Γ d) (next : ℕ) : Type 0 where
@@ -91,11 +74,6 @@ unfolding count _⨾_
 count-seq done q = omega arith
 count-seq (define t p) q = omega (arith, count-seq p q)
 count-seq (withCtrl outs c ins b p) q = omega (arith, count-seq p q)
-
-pub count-distrs : {Γ : List ℕ} → (b : ℕ) (us : List (Γ ∋ 0)) (δ : All (Tree ℕ) Γ) (p : Program) → count (distrs b us δ p) ≡ length us + count p
-unfolding count distrs
-count-distrs b [] δ p = omega arith
-count-distrs b (u ∷ us) δ p = omega (arith, count-distrs b us δ p)
 
 pub count-code : {Γ : List ℕ} {d : ℕ} → (e : Term Γ d) (δ : All (Tree ℕ) Γ) (s : ℕ) → count (code e δ s) ≡ size e
 unfolding code size count _⨾_

@@ -4,7 +4,6 @@ use Prim.Native.Nat.{ℕ, zero, suc, _+_, _<_}
 use mathlib.Core.List.{List, _∷_}
 use mathlib.Core.Option.{some}
 use mathlib.Core.Path.{_≡_, refl, ap, subst}
-use native.Mathlib.Omega.{arith}
 use borrow.Author.Tests.{ltb-true}
 use lib.IntN.{ℤ}
 use Rattle.laws.proofs.Never.{never}
@@ -16,13 +15,9 @@ use Rattle.snesl.specs.Records as records
 use Rattle.snesl.specs.Records.{single, letting, eaching, headAt}
 use Rattle.snesl.specs.Checking.{Name, Found, missing, found, find, asInt, asInts, Sequence, noSequence, sequence, asSequence, listedInts, listedNames, pointers}
 use Rattle.snesl.specs.Formed.{Formed, formed-var, formed-bind, formed-const, formed-iota, formed-plus, formed-sum, formed-each}
+use Rattle.bodies.proofs.Lists.{found-int}
 
--- what was found where an int, a sequence or a sequence of ints was
-pub found-int : {Γ : List ℕ} {v : Γ ∋ 0} → (f : Found Γ) → asInt f ≡ some v → f ≡ found 0 v
-found-int missing e = never (cc)
-found-int (found zero x) e = cc
-found-int (found (suc d) x) e = never (cc)
-
+-- what was found where a sequence or a sequence of ints was
 abbrev foundIn : {Γ : List ℕ} → Sequence Γ → Found Γ
 foundIn noSequence = missing
 foundIn (sequence c v) = found (suc c) v

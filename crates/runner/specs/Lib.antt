@@ -1,4 +1,1 @@
-pub mod Places
 pub mod Walks
-pub mod Arms
-pub mod Bodies

@@ -1,37 +1,15 @@
--- What the walk over a checked formula's bytes needs and what it answers and leaves.
+-- What the walk needs at a checked formula's byte: the expression that stands there, and room for it.
 use Prim.Native.Nat.{ℕ, suc, _+_, _*_, _-_, _≤_}
-use mathlib.Core.List.{List, _∷_, _++_}
-use mathlib.Core.Path.{_≡_}
+use mathlib.Core.List.{List, _∷_}
 use lib.IntN.{ℤ}
-use lib.ListN.{length, drop}
+use lib.ListN.{length}
 use Rattle.snesl.specs.declared.code.Variable.{Variable}
 use Rattle.snesl.specs.Limits.{mostBytes}
-use Rattle.snesl.specs.Terms.{Term, All, _▹_}
-use Rattle.snesl.specs.Trees.{Tree, mapTree}
-use Rattle.snesl.specs.Machine.{State, Result, went, stopped}
-use Rattle.snesl.specs.Outcome.{refusalOf}
-use Rattle.snesl.specs.Checking.{Name}
+use Rattle.snesl.specs.Terms.{Term, _▹_}
 use Rattle.snesl.specs.Formed.{Formed}
-use Rattle.environment.specs.Words.{treeWords, treeSize, spelled}
-use Rattle.steps.specs.Holding.{Held, keeps, mostStreams}
-use Rattle.steps.specs.Walking.{walked as walks}
-use Rattle.snesl.specs.Translation.{code, tree}
-use Rattle.runner.specs.Places.{place, places, Shapely, Shaped, Shallow, wordsFor}
-use Rattle.runner.specs.declared.Walked.{Walked}
-use Rattle.runner.specs.declared.Walked.the-variants as walked
-
--- The words from sp on spell an environment whose streams are in the machine's store, and the machine is in the buffer.
-pub record Scene (env : List ℕ) (sp : ℕ) (buf : List ℤ) (state : List ℕ) : Type 0 where
-  pub context : List ℕ
-  pub names : All Name context
-  pub trees : All (Tree ℕ) context
-  pub machine : State
-  pub rest : List ℕ
-  pub spells : drop sp env ≡ spelled names (places (machine .store) trees) ++ rest
-  pub shaped : Shaped (machine .store) context trees
-  pub shallow : Shallow context
-  pub held : Held machine buf state
-  pub within : sp ≤ length env
+use Rattle.steps.specs.Holding.{mostStreams}
+use Rattle.leaves.specs.Places.{wordsFor}
+use Rattle.leaves.specs.Scenes.{Scene}
 
 -- At byte k stands a typed expression over that environment, with room for its walk.
 pub record Ready (t : List ℕ) (k levels sp : ℕ) (env : List ℕ) (buf : List ℤ) (state : List ℕ) : Type 0 where
@@ -58,27 +36,3 @@ pub record Binding (t : List ℕ) (k levels sp : ℕ) (env : List ℕ) (buf : Li
   pub short : length t ≤ mostBytes
   pub space : wordsFor (suc levels) ≤ sp
   pub few : length (scene .machine .store) + 2 * (length t - k) ≤ mostStreams
-
--- the answer of a walk that ends like this
-abbrev pub answer : (depth next : ℕ) → Result → Walked
-answer depth next (went m) = walked.Tree depth next
-answer depth next (stopped why s) = walked.Stopped (refusalOf why s)
-
--- After a walk that went through to m: the machine is in the buffer, what stands behind its streams is as it was, and the words of the result's tree stand just
--- below sp, with everything from sp on as it was.
-pub record Left (m : State) {d : ℕ} (t : Tree ℕ d) (sp : ℕ) (env env′ : List ℕ) (buf buf′ : List ℤ) (state : List ℕ) : Type 0 where
-  pub held : Held m buf′ state
-  pub kept : keeps (m .store) buf buf′
-  pub shapely : Shapely (m .store) d t
-  pub words : drop (sp - treeSize d) env′ ≡ treeWords (mapTree (place (m .store)) t) ++ drop sp env
-
--- What a walk that ends like `res`, with its result at the tree t, answers and leaves.
-pub record Ran (res : Result) {d : ℕ} (t : Tree ℕ d) (next sp : ℕ) (env env′ : List ℕ) (buf buf′ : List ℤ) (state : List ℕ) (r : Walked) : Type 0 where
-  pub says : r ≡ answer d next res
-  pub leaves : (m : State) → res ≡ went m → Left m t sp env env′ buf buf′ state
-
--- the same of an expression e over a scene, under n units: its code from the next free id on
-abbrev pub Runs : {env : List ℕ} {sp : ℕ} {buf : List ℤ} {state : List ℕ} → (s : Scene env sp buf state) {d : ℕ} → Term (s .context) d → (n next : ℕ)
-    → List ℕ → List ℤ → List ℕ → Walked → Type 0
-Runs {env} {sp} {buf} s e n next env′ buf′ state′ r =
-    Ran (walks (length buf) n (code e (s .trees) (length (s .machine .store))) (s .machine)) (tree e (s .trees) (length (s .machine .store))) next sp env env′ buf buf′ state′ r

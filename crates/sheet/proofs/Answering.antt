@@ -21,7 +21,7 @@ use Rattle.snesl.specs.Text.{show}
 use Rattle.snesl.specs.Outcome.{refusal, value, elementsOf, textOfFirst, answerText, answered, answerAfter}
 use Rattle.snesl.proofs.Representing.Representation.{holds-streams, values-represent}
 use Rattle.snesl.proofs.Representing.Trees.{mapTree-mapTree}
-use Rattle.runner.specs.Places.{place}
+use Rattle.leaves.specs.Places.{place}
 use Rattle.rendering.specs.Standing.{Stands}
 use Rattle.rendering.specs.Rendering.{ValueStands, ShowsValue}
 use Rattle.sheet.specs.declared.Ran.the-variants.{Value, Refused}

@@ -34,10 +34,11 @@ use Rattle.snesl.proofs.Statements.Correctness.{a-run-has-a-value}
 use Rattle.steps.specs.Holding.{keeps}
 use Rattle.steps.specs.Walking.{walked}
 use Rattle.steps.proofs.Stores.{room-append}
-use Rattle.runner.specs.Places.{wordsFor, mostWords}
-use Rattle.runner.specs.Walks.{Scene, Ready, answer, Left, Runs}
-use Rattle.runner.specs.declared.Walked.{Walked}
-use Rattle.runner.specs.declared.Walked.the-variants as walks
+use Rattle.leaves.specs.Places.{wordsFor, mostWords}
+use Rattle.leaves.specs.Scenes.{Scene, answer, Left, Runs}
+use Rattle.runner.specs.Walks.{Ready}
+use Rattle.leaves.specs.declared.Walked.{Walked}
+use Rattle.leaves.specs.declared.Walked.the-variants as walks
 use Rattle.runner.proofs.Measures.{shallow-type}
 use Rattle.inputs.specs.Supply.{Valued}
 use Rattle.inputs.specs.Loading.{bindingWords, inputsBound, Stands, Loads, loads, fills}

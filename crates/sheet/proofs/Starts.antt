@@ -19,7 +19,7 @@ use Rattle.snesl.specs.Machine.{State}
 use Rattle.snesl.specs.Representation.{segments, Holds, holds-leaf, holds-node}
 use Rattle.steps.specs.Holding.{Held}
 use Rattle.streams.proofs.Store as store
-use Rattle.runner.specs.Places.{place}
+use Rattle.leaves.specs.Places.{place}
 use Rattle.rendering.specs.Standing.{Stands}
 
 -- ---- the loop

@@ -15,7 +15,7 @@ use Rattle.snesl.specs.Demands.{Accepted}
 use Rattle.snesl.specs.Outcome.{Outcome, refusal, value, executed, outcome, streamsAfter, answerAfter}
 use Rattle.environment.specs.Words.{treeWords}
 use Rattle.steps.specs.Holding.{Held}
-use Rattle.runner.specs.Places.{place}
+use Rattle.leaves.specs.Places.{place}
 use Rattle.sheet.specs.declared.Ran.{Ran}
 use Rattle.sheet.specs.declared.Ran.the-variants.{Value, Refused}
 

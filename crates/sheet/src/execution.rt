@@ -3,7 +3,7 @@ use crate::Ran;
 use crate::result::show;
 use inputs::loading::Loaded;
 use inputs::loading::load;
-use runner::Walked;
+use leaves::Walked;
 use runner::walk;
 use snesl::limits::Formula;
 use snesl::refusal::Refusal;
@@ -13,7 +13,7 @@ ghost use mathlib.Core.List.{[], _∷_};
 ghost use Prim.Native.Nat.{_≤_};
 ghost use lib.ListN.{length};
 ghost use Rattle.snesl.specs.Limits.{mostElements};
-ghost use Rattle.runner.specs.Places.{mostWords};
+ghost use Rattle.leaves.specs.Places.{mostWords};
 ghost use Rattle.sheet.specs.Runs.{Admitted, execution, Performs, Executes};
 
 // The most words that an input's binding takes, and those that a nesting of the walk takes.

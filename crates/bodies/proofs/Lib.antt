@@ -1,0 +1,5 @@
+pub mod Differences
+pub mod Lists
+pub mod Scenes
+pub mod Distributing
+pub mod Entering
