@@ -8,6 +8,7 @@ use native.Mathlib.Omega.{arith}
 use lib.Dec.{leb}
 use lib.IntN.{ℤ, pos}
 use lib.ListN.{length, drop, replicate, take-append-drop}
+use lib.Seq.{take-length}
 use Rattle.laws.specs.Parts.{cleared}
 use Rattle.laws.proofs.Never.{never}
 use Rattle.environment.proofs.Stack.{drop-above}
@@ -46,8 +47,7 @@ use Rattle.inputs.specs.declared.loading.Loaded.{Loaded}
 use Rattle.inputs.specs.declared.loading.Loaded.the-variants.{At, Full}
 use Rattle.sheet.specs.declared.Ran.{Ran as Ran-answer}
 use Rattle.sheet.specs.declared.Ran.the-variants.{Value, Refused}
-use Rattle.sheet.specs.declared.Counts.{Counts}
-use Rattle.sheet.specs.Runs.{ranOf, Admitted, execution, Finished, Shows, LeftBy, Performs, Executes}
+use Rattle.sheet.specs.Runs.{ranOf, Admitted, execution, Finished, Shows, LeftBy, Performs, spoiledFrom, Executes}
 
 -- ---- loading
 
@@ -270,24 +270,26 @@ module _ {t : List ℕ} {f : Formula} (g : Admitted t f) {env env₁ : List ℕ}
 
 -- ---- the used part afterwards
 
-module _ {o : Outcome} {buf buf₁ : List ℤ} {ans ans′ : List ℕ} {r : Ran-answer} (p : Performs o buf buf₁ ans ans′ r) where
-  pub kept-value : (c : Counts) → r ≡ Value c → Executes o buf buf₁ ans ans′ (Value c)
-  kept-value c e = go o p
-    where
-      go : (o : Outcome) → Performs o buf buf₁ ans ans′ r → Executes o buf buf₁ ans ans′ (Value c)
-      go (refusal x) p = never (cc (p .shows .says))
-      go (value text w s m held) p = record { shows = subst (λ (x : Ran-answer). Shows (value text w s m held) ans ans′ x) e (p .shows); used = p .left }
+nothing-cleared : (l : List ℤ) → cleared (pos 0) (length l) l ≡ l
+unfolding cleared
+nothing-cleared l =
+    let none-left : length l - length l ≡ 0 = omega arith in
+    ap₂ (λ (a : List ℤ) (n : ℕ). a ++ replicate n (pos 0)) (take-length l) none-left ∙ append-nil l
 
-  pub cleared-refusal : (x : Refusal) (buf₂ : List ℤ) → r ≡ Refused x → length buf₁ ≡ length buf → buf₂ ≡ cleared (pos 0) 0 buf₁
-      → Executes o buf buf₂ ans ans′ (Refused x)
-  unfolding cleared
-  cleared-refusal x buf₂ e long c = go o p
-    where
-      go : (o : Outcome) → Performs o buf buf₁ ans ans′ r → Executes o buf buf₂ ans ans′ (Refused x)
-      go (refusal y) p =
-          let all : length buf₁ - 0 ≡ length buf = omega arith in
-          record {
-            shows = subst (λ (z : Ran-answer). Shows (refusal y) ans ans′ z) e (p .shows);
-            used = c ∙ ap (λ (n : ℕ). replicate n (pos 0)) all;
-          }
-      go (value text w s m held) p = never (cc (p .shows .says))
+all-cleared : (l : List ℤ) (n : ℕ) → length l ≡ n → cleared (pos 0) 0 l ≡ replicate n (pos 0)
+unfolding cleared
+all-cleared l n e =
+    let all : length l - 0 ≡ n = omega arith in
+    ap (λ (k : ℕ). replicate k (pos 0)) all
+
+pub settled : {o : Outcome} {buf buf₁ buf₂ : List ℤ} {ans ans′ : List ℕ} {r : Ran-answer} {from : ℕ} → Performs o buf buf₁ ans ans′ r
+    → length buf₁ ≡ length buf → from ≡ spoiledFrom r (length buf₁) → buf₂ ≡ cleared (pos 0) from buf₁
+    → Executes o buf buf₂ ans ans′ r
+settled {o} {buf} {buf₁} {buf₂} {ans} {ans′} {r} p long f e = go o r p (e ∙ ap (λ (k : ℕ). cleared (pos 0) k buf₁) f)
+  where
+    go : (o : Outcome) (r : Ran-answer) → Performs o buf buf₁ ans ans′ r → buf₂ ≡ cleared (pos 0) (spoiledFrom r (length buf₁)) buf₁
+        → Executes o buf buf₂ ans ans′ r
+    go (value text w s m held) (Value c) p e = record { shows = p .shows; used = e ∙ (nothing-cleared buf₁ ∙ p .left) }
+    go (refusal y) (Refused x) p e = record { shows = p .shows; used = e ∙ all-cleared buf₁ (length buf) long }
+    go (value text w s m held) (Refused x) p e = never (cc (p .shows .says))
+    go (refusal y) (Value c) p e = never (cc (p .shows .says))

@@ -70,6 +70,11 @@ pub record Performs (o : Outcome) (buf buf′ : List ℤ) (answer answer′ : Li
   pub shows : Shows o answer answer′ r
   pub left : LeftBy o buf buf′
 
+-- from where on a buffer of so many elements is to be cleared
+abbrev pub spoiledFrom : Ran → (lent : ℕ) → ℕ
+spoiledFrom (Value c) lent = lent
+spoiledFrom (Refused r) lent = 0
+
 -- the used part of a stream buffer: all zero after a refusal
 abbrev pub usedAfter : List ℤ → Outcome → List ℤ
 usedAfter buf (refusal r) = replicate (length buf) (pos 0)

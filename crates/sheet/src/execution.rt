@@ -14,7 +14,7 @@ ghost use Prim.Native.Nat.{_≤_};
 ghost use lib.ListN.{length};
 ghost use Rattle.snesl.specs.Limits.{mostElements};
 ghost use Rattle.leaves.specs.Places.{mostWords};
-ghost use Rattle.sheet.specs.Runs.{Admitted, execution, Performs, Executes};
+ghost use Rattle.sheet.specs.Runs.{Admitted, execution, Performs, spoiledFrom, Executes};
 
 // The most words that an input's binding takes, and those that a nesting of the walk takes.
 const INPUT_WORDS: usize = 29;
@@ -55,6 +55,16 @@ fn perform(
     }
 }
 
+// From where on the buffer is spoiled: a value's streams stay, and after a refusal nothing does.
+fn spoiled_from(ran: Ran, lent: usize) -> usize
+    ensures { λ r. ⌜ r ≡ spoiledFrom ran lent ⌝ }
+{
+    match ran {
+        Ran::Value(_) => lent,
+        Ran::Refused(_) => 0,
+    }
+}
+
 // On the used part of the stream buffer, which is all zero after a refusal.
 pub fn execute(job: &[u8], formula: Formula, buf: &mut [i32], answer: &mut [u8]) -> Ran
     requires { ⌜ Admitted (now job) formula ⌝ }
@@ -63,11 +73,8 @@ pub fn execute(job: &[u8], formula: Formula, buf: &mut [i32], answer: &mut [u8])
 {
     let mut env = [0u32; WORDS];
     let mut state = [0usize; 4];
-    match perform(job, formula, &mut env, buf, &mut state, answer) {
-        Ran::Value(counts) => Ran::Value(counts),
-        Ran::Refused(refusal) => {
-            clear(buf, 0);
-            Ran::Refused(refusal)
-        }
-    }
+    let ran = perform(job, formula, &mut env, buf, &mut state, answer);
+    let from = spoiled_from(ran, buf.len());
+    clear(buf, from);
+    ran
 }

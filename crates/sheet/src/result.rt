@@ -42,10 +42,13 @@ pub fn show(
         return Ran::Refused(Refusal::NoAnswerRoom(bytes));
     }
     value_text(buf, &places, depth as u8, answer);
+    let room = state[1];
+    let work = state[2];
+    let steps = state[3];
     Ran::Value(Counts {
         text: bytes,
-        work: state[2],
-        steps: state[3],
-        room: state[1],
+        work,
+        steps,
+        room,
     })
 }

@@ -41,14 +41,14 @@ cast-value-text-2 c = search needs
 value-text-requires-2 : tie.Need-value-text-requires-2
 value-text-requires-2 c κs = value-stands (c .before .before .before .before .before .before .before .before .before .before .before .before .before .pre) (c .before .before .before .before .before .before .before .before .tree-starts .last .1 .1 .1 .0) (c .before .before .before .before .before .before .before .before .tree-starts .ensures) (c .before .before .before .before .before .before .before .before .tree-starts .kept .1 .1 .1 .0)
 
-shared-slice-read-t11 : tie.Need-shared-slice-read-t11
-shared-slice-read-t11 c = omega (arith, four (c .before .before .before .before .before .before .before .before .before .before .before .before .before .before .before .before .before .pre))
+shared-slice-read-room : tie.Need-shared-slice-read-room
+shared-slice-read-room c = omega (arith, four (c .before .before .before .before .before .before .before .before .before .before .before .before .before .before .before .before .before .pre))
 
-shared-slice-read-t27 : tie.Need-shared-slice-read-t27
-shared-slice-read-t27 c = omega (arith, four (c .before .before .before .before .before .before .before .before .before .before .before .before .before .before .before .before .before .before .pre))
+shared-slice-read-work : tie.Need-shared-slice-read-work
+shared-slice-read-work c = omega (arith, four (c .before .before .before .before .before .before .before .before .before .before .before .before .before .before .before .before .before .before .pre))
 
-shared-slice-read-t29 : tie.Need-shared-slice-read-t29
-shared-slice-read-t29 c = omega (arith, four (c .before .before .before .before .before .before .before .before .before .before .before .before .before .before .before .before .before .before .before .pre))
+shared-slice-read-steps : tie.Need-shared-slice-read-steps
+shared-slice-read-steps c = omega (arith, four (c .before .before .before .before .before .before .before .before .before .before .before .before .before .before .before .before .before .before .before .pre))
 
 same-length : tie.Need-same-length
 same-length c = search needs
@@ -72,8 +72,8 @@ show-spec =
     slice-aggregate-value-text-3
     cast-value-text-2
     value-text-requires-2
-    shared-slice-read-t11
-    shared-slice-read-t27
-    shared-slice-read-t29
+    shared-slice-read-room
+    shared-slice-read-work
+    shared-slice-read-steps
     same-length
     returns-2)
