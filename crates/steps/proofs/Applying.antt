@@ -21,10 +21,10 @@ use Rattle.snesl.specs.declared.code.Transducer.the-variants.{Const, ToFlags, U
 use Rattle.snesl.specs.Streams.{Stream, units, elements, Store, room}
 use Rattle.snesl.specs.Transducers as snesl
 use Rattle.snesl.specs.Transducers.{Answer, made, unfit, unless, alone, misfit, countF, apply, flagOf}
-use Rattle.streams.specs.Answers.{Answers, answered, after}
+use Rattle.streams.specs.Answers.{Answers, answered, after, mostElements}
 use Rattle.streams.specs.declared.output.Output.{Output}
 use Rattle.streams.proofs.Store.{Holds, apply-constant, apply-to-flags, apply-usum, apply-map-two-plus, apply-scan-plus, apply-distr, apply-sum-plus}
-use Rattle.steps.specs.Holding.{Operands, of-toFlags, of-usum, of-mapTwoPlus, of-scanPlus, of-distr, of-sumPlus, IntsAt, FlagsAt, Applies, Transduced, mostElements}
+use Rattle.steps.specs.Holding.{Operands, of-toFlags, of-usum, of-mapTwoPlus, of-scanPlus, of-distr, of-sumPlus, IntsAt, FlagsAt, Applies, Transduced}
 use Rattle.steps.proofs.Stores.{nothing-written, ints-within, ints-part, flags-within, flags-part}
 
 -- what a call that leaves exactly what its contract says of all its answers says of those that matter here

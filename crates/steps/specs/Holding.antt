@@ -13,17 +13,14 @@ use Rattle.snesl.specs.declared.refusal.Refusal.{Refusal}
 use Rattle.snesl.specs.Streams.{Stream, ints, flags, len, elements, Store, _!_, contents, room}
 use Rattle.laws.specs.Parts.{written}
 use Rattle.snesl.specs.Transducers.{Answer, made}
-use Rattle.streams.specs.Answers.{answered}
+use Rattle.streams.specs.Answers.{answered, mostElements}
 use Rattle.streams.specs.declared.output.Output.{Output}
 use Rattle.snesl.specs.Machine.{State, Stop, Result, went, stopped}
 use Rattle.snesl.specs.Outcome.{refusalOf}
 use Rattle.steps.specs.declared.Executed.{Executed}
 use Rattle.steps.specs.declared.Executed.the-variants.{Made, Stopped}
 
--- the most elements that a stream buffer has, and the most streams that a run defines: numbers that follow from these don't wrap
-abbrev pub mostElements : ℕ
-mostElements = 65536
-
+-- the most streams that a run defines: with the most elements that a stream buffer has, numbers that follow from these don't wrap
 abbrev pub mostStreams : ℕ
 mostStreams = 1048576
 

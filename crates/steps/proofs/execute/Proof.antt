@@ -9,7 +9,7 @@ use Rattle.steps.proofs.execute.Statement.{statement}
 use Rattle.steps.proofs.execute.Tie as tie
 
 advance-requires : tie.Need-advance-requires
-advance-requires c κs = grows (c .before .before .before .pre .1 .held) 0 0 0 (omega arith) (omega arith) (omega arith)
+advance-requires c κs = grows (c .before .before .before .pre .1 .held) _ _ _ (omega arith) (omega arith) (omega arith)
 
 same-length : tie.Need-same-length
 same-length c = search needs
