@@ -1,8 +1,8 @@
 -- Trees left on the stack: copied from an entry, put there place by place, or moved up from further below.
-use Prim.Native.Nat.{ℕ, suc, _+_, _-_, _*_, _≤_, _<_}
+use Prim.Native.Nat.{ℕ, _+_, _-_, _*_, _≤_, _<_}
 use native.Mathlib.Omega.{arith}
 use mathlib.Core.Bool.{Bool}
-use mathlib.Core.List.{List, [], _∷_, _++_, append-assoc}
+use mathlib.Core.List.{List, [], _∷_, _++_}
 use mathlib.Core.Path.{_≡_, refl, sym, ap, _∙_, subst}
 use lib.ListN.{length, getD, drop, length-append}
 use lib.Seq.{sets}
@@ -15,10 +15,10 @@ use Rattle.snesl.specs.Programs.{count, _⨾_}
 use Rattle.telling.specs.declared.Progress.{Progress}
 use Rattle.telling.specs.Telling.{Tellable, Tells}
 use Rattle.telling.specs.Iota.{iotaCode}
-use Rattle.environment.specs.Words.{placeWords, treeWords, treeSize, Sought, Entry}
+use Rattle.environment.specs.Words.{treeWords, treeSize, Sought, Entry}
 use Rattle.environment.proofs.Finding.{length-tree}
-use Rattle.environment.proofs.Stack.{from-written, above-written, length-written, drop-above, front-is}
-use Rattle.bindings.specs.Bindings.{placed, placesOf, Seeks, SeeksTree, SeeksIota, Standing}
+use Rattle.environment.proofs.Stack.{from-written, length-written}
+use Rattle.bindings.specs.Bindings.{placesOf, Seeks, SeeksTree, SeeksIota, Standing}
 use Rattle.bindings.proofs.Places.{At, entry}
 
 -- words written behind words are words written

@@ -1,17 +1,16 @@
 -- Trees of ids as trees of places: what is read off an entry's words are the ids of the variable's tree.
-use Prim.Native.Nat.{ℕ, suc, _+_, _*_, _≤_, _<_}
+use Prim.Native.Nat.{ℕ, suc, _+_, _*_, _≤_}
 use native.Mathlib.Omega.{arith}
-use mathlib.Core.List.{List, [], _∷_, _++_, append-assoc}
-use mathlib.Core.Path.{_≡_, refl, sym, ap, _∙_, subst}
-use lib.ListN.{length, getD, drop}
+use mathlib.Core.List.{List}
+use mathlib.Core.Path.{_≡_, refl, ap, _∙_, subst}
+use lib.ListN.{length, getD}
 use Rattle.laws.specs.Parts.{part}
 use Rattle.snesl.specs.declared.code.Variable.{Variable}
-use Rattle.snesl.specs.Terms.{_∋_, here, there, All, ∅, _▹_, lookup}
-use Rattle.snesl.specs.Trees.{Tree, leaf, node, root, inner, outer, order, mapTree}
-use Rattle.environment.specs.Words.{Place, placeWords, treeWords, treeSize, spelled, Sought, Entry}
-use Rattle.environment.proofs.Finding.{length-tree}
+use Rattle.snesl.specs.Terms.{_∋_, here, there, All, _▹_, lookup}
+use Rattle.snesl.specs.Trees.{Tree, leaf, node, root, inner, outer, mapTree}
+use Rattle.environment.specs.Words.{Place, placeWords, treeWords, treeSize, Sought, Entry}
 use Rattle.environment.proofs.Entries.{id-is, leaf-place, inner-words, outer-place}
-use Rattle.bindings.specs.Bindings.{placed, placesOf, placesIn, idWords, Bound, Seeks}
+use Rattle.bindings.specs.Bindings.{placed, placesOf, placesIn, Seeks}
 
 pub lookup-places : {Γ : List ℕ} {d : ℕ} (v : Γ ∋ d) (δ : All (Tree ℕ) Γ) → lookup v (placesIn δ) ≡ placesOf (lookup v δ)
 unfolding lookup placesIn

@@ -1,10 +1,9 @@
 -- The environment of a listing's walk on the stack of words (environment's Words): a stream is its id, and its two other words are 0.
-use Prim.Native.Nat.{ℕ, suc, _+_, _-_, _*_, _≤_}
+use Prim.Native.Nat.{ℕ, _+_, _-_, _≤_}
 use mathlib.Core.Bool.{Bool}
 use mathlib.Core.List.{List, [], _∷_, _++_}
 use mathlib.Core.Path.{_≡_}
 use lib.ListN.{length, drop}
-use Rattle.laws.specs.Parts.{part}
 use Rattle.snesl.specs.declared.code.Variable.{Variable}
 use Rattle.snesl.specs.Terms.{_∋_, All, ∅, _▹_, lookup}
 use Rattle.snesl.specs.Trees.{Tree, root, mapTree}
@@ -12,7 +11,7 @@ use Rattle.snesl.specs.Checking.{Name, find, found}
 use Rattle.telling.specs.declared.Progress.{Progress}
 use Rattle.telling.specs.Telling.{Tellable}
 use Rattle.telling.specs.Iota.{iotaCode}
-use Rattle.environment.specs.Words.{Place, placeWords, treeWords, treeSize, spelled}
+use Rattle.environment.specs.Words.{Place, treeWords, treeSize, spelled}
 
 abbrev pub placed : ℕ → Place
 placed s = record { id = s; first = 0; second = 0 }

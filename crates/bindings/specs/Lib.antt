@@ -1,3 +1,1 @@
 pub mod Bindings
-pub mod Entering
-pub mod Ids

@@ -62,9 +62,9 @@ pub fn iota_tree(
     requires { ⌜ SeeksIota (now env) sp listing w x ⌝ }
     ensures { λ r. ⌜ ((g : SeeksIota (now (env .entry)) sp listing w x) → Tells listing lo (iotaCode (root (lookup (g .seeks .pointer) (g .seeks .trees))) (w .id)) (now (text .entry)) (now (text .exit)) w r × Standing (now (env .entry)) sp (now (env .exit)) (node (leaf (w .id + 3)) (w .id))) ⌝ }
 {
-    let id = w.id;
+    let flags = w.id;
     let r = int_of(env, sp, x);
-    put_place(env, sp - 6, id + 3, 0, 0);
-    put_place(env, sp - 3, id, 0, 0);
+    put_place(env, sp - 6, flags + 3, 0, 0);
+    put_place(env, sp - 3, flags, 0, 0);
     iota(listing, lo, text, w, StreamId(r))
 }

@@ -35,7 +35,7 @@ use Rattle.bodies.specs.Bodies.{Distributing, Bound, Distributed, listed
 use Rattle.bodies.specs.declared.Listed.{Listed}
 use Rattle.bodies.specs.declared.Listed.the-variants as listed
 use Rattle.bodies.proofs.Lists.{found-int, listed-first, length-listed}
-use Rattle.formula.proofs.Variables.{length-variables}
+use Rattle.records.proofs.Variables.{length-variables}
 use Rattle.leaves.proofs.Places.{place-kept}
 use Rattle.leaves.proofs.Growing.{keeps-then, onward-as, onward-stop}
 use Rattle.bodies.proofs.Scenes.{later}

@@ -25,7 +25,7 @@ use Rattle.environment.specs.Words.{placeWords, treeWords, treeSize, spelled, E
 use Rattle.environment.proofs.Stack.{part-drop, front-is, drop-above, drop-written, length-written, from-written, lowered}
 use Rattle.environment.proofs.Finding.{length-tree}
 use Rattle.environment.proofs.Entries.{bound}
-use Rattle.formula.proofs.Variables.{length-variables}
+use Rattle.records.proofs.Variables.{length-variables}
 use Rattle.steps.specs.Walking.{stepped, walked}
 use Rattle.steps.specs.Holding.{FlagsAt, startOf, lengthOf, of-usum, Executable, Performed, Stopping}
 use Rattle.steps.specs.declared.Executed.{Executed}

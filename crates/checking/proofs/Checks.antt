@@ -22,7 +22,7 @@ use Rattle.checking.specs.declared.check.Walked.the-variants as walked
 use Rattle.formula.specs.declared.read.FormulaRead.the-variants as formula
 use Rattle.formula.specs.declared.read.JobRead.the-variants as job
 use Rattle.formula.specs.Reading.{formulaOf, jobOf}
-use Rattle.checking.specs.Scopes.{scope}
+use Rattle.scopes.specs.Scopes.{scope}
 use Rattle.checking.specs.Checks.{checkFront, Entry, again, entered, enterIn, enteredBy, Declares, Top, Enters, judge, walkedOf, mostPushed, Ready, Walks}
 use Rattle.checking.proofs.Entering.{few, whole}
 use Rattle.checking.proofs.Walks.{was-refused, was-found}

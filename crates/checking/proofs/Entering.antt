@@ -12,9 +12,9 @@ use Rattle.snesl.specs.declared.refusal.Refusal.the-variants.{NoRecord, OverLim
 use Rattle.snesl.specs.Limits.{mostInputs, mostDepth, lastVariable}
 use Rattle.snesl.specs.Records as records
 use Rattle.snesl.specs.Records.{byteAt, markAt, markIN, Input, inputAt, inputOk, inputFirst, inputsAt, refused, declared}
-use Rattle.checking.specs.declared.scope.Kind.{Kind}
-use Rattle.checking.specs.declared.scope.Kind.the-variants as kind
-use Rattle.checking.specs.Scopes.{scope, depthIn, Pushed}
+use Rattle.scopes.specs.declared.scope.Kind.{Kind}
+use Rattle.scopes.specs.declared.scope.Kind.the-variants as kind
+use Rattle.scopes.specs.Scopes.{scope, depthIn, Pushed}
 use Rattle.checking.specs.Checks.{Entry, again, entered, enterFirst, enterIn, enteredBy, Declares, Top}
 
 -- the first of some inputs that were read

@@ -17,12 +17,12 @@ use Rattle.snesl.specs.Records as records
 use Rattle.snesl.specs.Records.{Raw, Input}
 use Rattle.snesl.specs.Checking as checking
 use Rattle.snesl.specs.Checking.{Name, same, Found, missing, found, later, find, isBound, asInt, Sequence, asSequence, asInts, names, usable, listedFirst, listedInts, pointers, listedNames, Typed, refused, typed, demand, typedIf, typedSequence, typedThen, turned, inputNames, repeated, checkInputs}
-use Rattle.checking.specs.declared.scope.Kind.{Kind}
-use Rattle.checking.specs.declared.scope.Kind.the-variants as kind
+use Rattle.scopes.specs.declared.scope.Kind.{Kind}
+use Rattle.scopes.specs.declared.scope.Kind.the-variants as kind
 use Rattle.checking.specs.declared.check.Checked.{Checked}
 use Rattle.checking.specs.declared.check.Checked.the-variants.{Depth, Refused}
-use Rattle.checking.specs.Scopes.{depthIn}
-use Rattle.checking.specs.Judging.{isBoundIn, isIntIn, firstUsable, usableIn, intsIn, listedWords, Body, stop, inside, sequenceIn, eachIn}
+use Rattle.scopes.specs.Scopes.{depthIn}
+use Rattle.scopes.specs.UsingLists.{isBoundIn, isIntIn, firstUsable, usableIn, intsIn, listedWords, Body, stop, inside, sequenceIn, eachIn}
 use Rattle.checking.specs.Checks.{checkedOf, varIn, wantIn, plusIn, thenDepth, bodyThen, closed, judge, Entry, again, entered, enterFirst, enterIn}
 
 -- the pairs of a scope

@@ -1,5 +1,3 @@
-pub mod Scopes
-pub mod Listing
 pub mod Turning
 pub mod Walking
 pub mod Walks

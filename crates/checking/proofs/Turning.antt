@@ -7,7 +7,7 @@ use borrow.Author.Tests.{eq-eqb, ne-eqb}
 use Rattle.snesl.specs.declared.refusal.Refusal.the-variants.{WrongType}
 use Rattle.checking.specs.declared.check.Checked.{Checked}
 use Rattle.checking.specs.declared.check.Checked.the-variants.{Depth, Refused}
-use Rattle.checking.specs.declared.scope.Kind.the-variants as kind
+use Rattle.scopes.specs.declared.scope.Kind.the-variants as kind
 use Rattle.checking.specs.Checks.{wantIn, plusIn}
 
 module _ (p wanted gives d : ℕ) where

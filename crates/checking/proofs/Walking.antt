@@ -16,12 +16,12 @@ use Rattle.checking.specs.declared.check.Checked.{Checked}
 use Rattle.checking.specs.declared.check.Checked.the-variants.{Depth, Refused}
 use Rattle.checking.specs.declared.check.Turn.{Turn}
 use Rattle.checking.specs.declared.check.Turn.the-variants as turn
-use Rattle.formula.specs.declared.head.Shape.{Shape}
-use Rattle.formula.specs.Heads.{headOf}
-use Rattle.checking.specs.Scopes.{scope, depthIn}
+use Rattle.records.specs.declared.head.Shape.{Shape}
+use Rattle.records.specs.Heads.{headOf}
+use Rattle.scopes.specs.Scopes.{scope, depthIn}
 use Rattle.checking.specs.Checks.{varIn, wantIn, plusIn, judge, leafIn, turnIn, mostPushed, Ready}
-use Rattle.formula.proofs.Variables.{length-variables}
-use Rattle.formula.proofs.Heads.{Reading, none, beyond, aVar, aLet, aConst, anIota, aPlus, aSum, anEach, reading}
+use Rattle.records.proofs.Variables.{length-variables}
+use Rattle.records.proofs.Heads.{Reading, none, beyond, aVar, aLet, aConst, anIota, aPlus, aSum, anEach, reading}
 
 module _ {e : Raw} {next after : ℕ} where
   never-deep : (k : ℕ) (h : records.Head) → tooDeep k h ≡ scanned e next after → ⊥

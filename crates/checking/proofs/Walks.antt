@@ -19,15 +19,15 @@ use Rattle.checking.specs.declared.check.Turn.{Turn}
 use Rattle.checking.specs.declared.check.Turn.the-variants as turn
 use Rattle.checking.specs.declared.check.Walked.{Walked}
 use Rattle.checking.specs.declared.check.Walked.the-variants as walked
-use Rattle.checking.specs.declared.listed.Prepared.{Prepared}
-use Rattle.checking.specs.declared.scope.Kind.{Kind}
-use Rattle.checking.specs.declared.scope.Kind.the-variants as kind
-use Rattle.formula.specs.Heads.{headOf}
-use Rattle.checking.specs.Scopes.{scope, depthIn, Pushed}
-use Rattle.checking.specs.Judging.{Body, stop, inside, isBoundIn, usableIn, intsIn, listedWords, sequenceIn, eachIn, Inside, Stopped, Prepares}
+use Rattle.scopes.specs.declared.listed.Prepared.{Prepared}
+use Rattle.scopes.specs.declared.scope.Kind.{Kind}
+use Rattle.scopes.specs.declared.scope.Kind.the-variants as kind
+use Rattle.records.specs.Heads.{headOf}
+use Rattle.scopes.specs.Scopes.{scope, depthIn, Pushed}
+use Rattle.scopes.specs.UsingLists.{Body, stop, inside, isBoundIn, usableIn, intsIn, listedWords, sequenceIn, eachIn, Inside, Stopped, Prepares}
 use Rattle.checking.specs.Checks.{thenDepth, bodyThen, closed, judge, turnIn, walkedOf, mostPushed, Ready, Walks}
-use Rattle.formula.proofs.Variables.{length-variables}
-use Rattle.checking.proofs.Listing.{length-words}
+use Rattle.records.proofs.Variables.{length-variables}
+use Rattle.scopes.proofs.Listing.{length-words}
 use Rattle.checking.proofs.Walking.{Lets, Eaches, Turned, turned-is}
 
 -- ---- the stack
@@ -205,11 +205,11 @@ module _ (t : List ℕ) (k levels : ℕ) (env : List ℕ) (sp floor : ℕ) where
     parted g = ap (judge (scope sp floor env)) (eaches g .is)
 
     pub each-refused :
-        {mid : List ℕ} (f : Refusal) → Stopped (eachIn (scope sp floor env) k x y (variablesAt t (k + 5) j)) sp env mid f
+        {mid : List ℕ} (f : Refusal) → Stopped (eachIn (scope sp floor env) k x y (variablesAt t (k + 5) j)) env mid f
         → Walks t k levels env sp floor mid (walked.Refused f)
     each-refused f s =
         record {
-          above = s .above;
+          above = ap (drop sp) (s .kept);
           answer = λ g.
               sym (ap (walkedOf (g .next)) (parted g ∙ ap (λ z. bodyThen z (λ v. thenDepth (judge v (eaches g .body)) (closed k))) (s .is)));
         }

@@ -10,10 +10,10 @@ use Rattle.snesl.specs.declared.refusal.Refusal.the-variants.{NoRecord, OverLim
 use Rattle.snesl.specs.Limits.{mostDepth, mostListed, mostInputs}
 use Rattle.snesl.specs.Records as records
 use Rattle.snesl.specs.Checking as checking
-use Rattle.checking.specs.declared.scope.Kind.{Kind}
-use Rattle.checking.specs.declared.scope.Kind.the-variants as kind
-use Rattle.formula.specs.declared.head.Head.{Head}
-use Rattle.formula.specs.declared.head.Head.the-variants as head
+use Rattle.scopes.specs.declared.scope.Kind.{Kind}
+use Rattle.scopes.specs.declared.scope.Kind.the-variants as kind
+use Rattle.records.specs.declared.head.Head.{Head}
+use Rattle.records.specs.declared.head.Head.the-variants as head
 use Rattle.checking.specs.declared.check.Checked.{Checked}
 use Rattle.checking.specs.declared.check.Checked.the-variants.{Depth, Refused}
 use Rattle.checking.specs.declared.check.Turn.{Turn}
@@ -22,8 +22,8 @@ use Rattle.checking.specs.declared.check.Walked.{Walked}
 use Rattle.checking.specs.declared.check.Walked.the-variants as walked
 use Rattle.checking.specs.declared.check.Entered.{Entered}
 use Rattle.checking.specs.declared.check.Entered.the-variants as enters
-use Rattle.checking.specs.Scopes.{scope, depthIn}
-use Rattle.checking.specs.Judging.{Body, stop, inside, eachIn}
+use Rattle.scopes.specs.Scopes.{scope, depthIn}
+use Rattle.scopes.specs.UsingLists.{Body, stop, inside, eachIn}
 
 -- what the public functions answer of snesl's check
 abbrev pub checkedOf : {Γ : List ℕ} → checking.Typed Γ → Checked

@@ -1,13 +1,13 @@
 // Checking (document 01, refusals 5 and 6): the depth of a formula's type, or why it has none, in one walk over its records.
-use crate::listed::Prepared;
-use crate::listed::prepare;
-use crate::scope::Kind;
-use crate::scope::look;
-use crate::scope::push;
-use formula::head::Head;
-use formula::head::head_at;
 use formula::read::FormulaRead;
 use formula::read::read_formula;
+use records::head::Head;
+use records::head::head_at;
+use scopes::listed::Prepared;
+use scopes::listed::prepare;
+use scopes::scope::Kind;
+use scopes::scope::look;
+use scopes::scope::push;
 use snesl::code::Variable;
 use snesl::limits::Formula;
 use snesl::refusal::Refusal;
@@ -16,9 +16,9 @@ ghost use Prim.Native.Nat.{_*_, _≤_};
 ghost use lib.ListN.{length};
 ghost use Rattle.snesl.specs.Limits.{mostInputs};
 ghost use Rattle.snesl.specs.Records.{headAt, inputsAt, frontOf, readFormula};
-ghost use Rattle.formula.specs.Heads.{headOf};
+ghost use Rattle.records.specs.Heads.{headOf};
 ghost use Rattle.formula.specs.Reading.{formulaOf};
-ghost use Rattle.checking.specs.Scopes.{scope};
+ghost use Rattle.scopes.specs.Scopes.{scope};
 ghost use Rattle.checking.specs.Checks.{varIn, wantIn, plusIn, leafIn, turnIn, Ready, Walks, Declares, enteredBy, Enters, checkFront};
 
 // What checking answers.

@@ -1,9 +1,4 @@
-pub mod Bounds
-pub mod Bits
-pub mod Variables
-pub mod Heads
 pub mod Scanning
 pub mod Declaring
 pub mod Texts
 pub mod Fronts
-pub mod Parts

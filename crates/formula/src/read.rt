@@ -1,9 +1,9 @@
 // Reading a formula and a job: refusals 1 to 4, at each record in that order, first record first (document 01, "Refusal numbers").
-use crate::head::Head;
-use crate::head::has_bytes;
-use crate::head::head_at;
-use crate::head::mark_at;
-use crate::marks;
+use records::head::Head;
+use records::head::has_bytes;
+use records::head::head_at;
+use records::head::mark_at;
+use records::marks;
 use snesl::limits::Formula;
 use snesl::limits::Job;
 use snesl::refusal::Refusal;

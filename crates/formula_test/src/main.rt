@@ -2,7 +2,7 @@
 // with I one digit, as in the vectors for document 01 (`-` for no bytes); a part is printed as its bytes.
 use checking::check::Checked;
 use checking::check::check;
-use formula::find::find;
+use finder::find::find;
 use libc::STDIN_FILENO;
 use libc::STDOUT_FILENO;
 use snesl::refusal::Refusal;

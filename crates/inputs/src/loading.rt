@@ -2,9 +2,9 @@
 use crate::places::push_places;
 use crate::texts::text_end;
 use environment::put_name;
+use levels::counts::LEVELS;
 use snesl::code::Variable;
 use snesl::limits::Formula;
-use valuetext::counts::LEVELS;
 use valuetext::storing::Measured;
 use valuetext::storing::fill_text;
 use valuetext::storing::measure_text;

@@ -1,6 +1,6 @@
 // Refusal 7 over all inputs, in order.
+use levels::counts::LEVELS;
 use snesl::limits::Formula;
-use valuetext::counts::LEVELS;
 use valuetext::storing::Measured;
 use valuetext::storing::measure_text;
 ghost use mathlib.Core.Path.{_≡_};

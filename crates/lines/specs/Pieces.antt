@@ -2,11 +2,10 @@
 use Prim.Native.Nat.{ℕ}
 use mathlib.Core.Bool.{Bool, true, false}
 use mathlib.Core.List.{List, [], _∷_, _++_}
-use Rattle.snesl.specs.declared.code.Instruction.{Instruction}
-use Rattle.snesl.specs.declared.code.Instruction.the-variants.{Define, WithCtrl, Close}
+use Rattle.snesl.specs.declared.code.Instruction.the-variants.{WithCtrl}
 use Rattle.snesl.specs.Ascii.{ascii, pieces}
 use Rattle.snesl.specs.Text.{comma}
-use Rattle.snesl.specs.Listing.{idText, defineLine, closeLine}
+use Rattle.snesl.specs.Listing.{idText}
 
 -- an id of a list, behind a comma unless it is the first
 abbrev pub nextText : (first : Bool) → ℕ → List ℕ
@@ -21,8 +20,3 @@ restText first (s ∷ ss) = nextText first s ++ restText false ss
 -- ] := WithCtrl(s3,[
 abbrev pub controlText : ℕ → List ℕ
 controlText c = pieces (ascii "] := WithCtrl(" ∷ idText c ∷ ascii ",[" ∷ [])
-
-abbrev pub instructionText : Instruction → List ℕ
-instructionText (Define s t) = defineLine (s .0) t
-instructionText (WithCtrl c) = controlText (c .0)
-instructionText Close = closeLine

@@ -3,5 +3,5 @@ pub mod Short
 pub mod Runs
 pub mod Declaring
 pub mod Wholes
-pub mod Refusing
 pub mod Listing
+pub mod Reporting

@@ -1,8 +1,8 @@
 -- A formula that was read and checked is ready for the walk, and what the walk writes is its listing.
-use Prim.Native.Nat.{ℕ, zero, suc, _+_, _-_, _*_, _≤_, _<_, _^_}
+use Prim.Native.Nat.{ℕ, zero, suc, _+_, _-_, _*_, _≤_, _<_}
 use native.Mathlib.Omega.{arith}
 use mathlib.Core.Bool.{Bool, true, false}
-use mathlib.Core.List.{List, [], _∷_, _++_, append-nil, List·Memᴰ·head, List·Memᴰ·not-nil, List·Memᴰ·eq-of-singleton, List·Memᴰ·append-cases, Memᴰ·append-left, Memᴰ·append-right}
+use mathlib.Core.List.{List, [], _∷_, _++_, append-nil, List·Memᴰ·not-nil, List·Memᴰ·eq-of-singleton, List·Memᴰ·append-cases, Memᴰ·append-left, Memᴰ·append-right}
 use mathlib.Core.Logic.{⊎-elim}
 use mathlib.Core.Path.{_≡_, refl, sym, ap, _∙_, subst}
 use borrow.Author.Tests.{le-leb, lt-leb}
@@ -11,8 +11,8 @@ use lib.Seq.{sets, sets-eq}
 use Rattle.snesl.specs.declared.limits.Formula.{Formula}
 use Rattle.snesl.specs.declared.refusal.Refusal.{Refusal}
 use Rattle.snesl.specs.declared.refusal.Refusal.the-variants.{NoAnswerRoom}
-use Rattle.snesl.specs.Limits.{mostBytes, mostInputs, mostNesting, mostDepth}
-use Rattle.snesl.specs.Terms.{Term, All, ∅, _▹_}
+use Rattle.snesl.specs.Limits.{mostInputs, mostDepth}
+use Rattle.snesl.specs.Terms.{All, ∅, _▹_}
 use Rattle.snesl.specs.Trees.{Tree, order}
 use Rattle.snesl.specs.Programs.{count}
 use Rattle.snesl.specs.Translation.{size, tree, code}
@@ -26,7 +26,7 @@ use Rattle.snesl.specs.Listing as listing
 use Rattle.snesl.specs.Listing.{linesOf, resultLine, roomFor, listedTyped, listedFront}
 use Rattle.snesl.proofs.Compiled.Members.{_∈_}
 use Rattle.snesl.proofs.Compiled.Freshness.{count-code, defined-next, result-ids}
-use Rattle.snesl.proofs.Formed.{FrontRead, FormulaFormed, formula-read, formula-formed, spans}
+use Rattle.snesl.proofs.Formed.{FrontRead, FormulaFormed, formula-read, formula-formed}
 use Rattle.decimals.specs.Writing.{Writes}
 use Rattle.decimals.proofs.Stores.{sets-none}
 use Rattle.formula.specs.declared.read.FormulaRead.the-variants as read
@@ -44,7 +44,7 @@ use Rattle.lister.specs.declared.list.Listed.{Listed}
 use Rattle.lister.specs.declared.list.Listed.the-variants.{Length, Refused}
 use Rattle.lister.specs.Inputs.{Declares, Enters}
 use Rattle.lister.specs.Lists.{wholeText, fromStart, WholeReady, Found, listedAnswer, textAfter}
-use Rattle.lister.proofs.Declaring.{First, first-of}
+use Rattle.lister.proofs.Declaring.{first-of}
 use Rattle.lister.proofs.Shallow.{Shallow, shallow-none, shallow-more, depth-within, words-within, ids-within}
 use Rattle.lister.proofs.Short.{lines-short, result-short}
 
@@ -100,7 +100,7 @@ no-room : (text : List ℕ) (lent : ℕ) → lent < length text → roomFor lent
 no-room text lent h =
     subst (λ (b : Bool). _≡_ {A = listing.Listed} (elim b [ true ↦ listing.listed text | false ↦ listing.unlisted (NoAnswerRoom (length text)) ]) (listing.unlisted (NoAnswerRoom (length text)))) (sym (lt-leb (length text) lent h)) refl
 
-stored : (w old : List ℕ) → length w ≤ length old → sets old 0 w ≡ w ++ drop (length w) old
+pub stored : (w old : List ℕ) → length w ≤ length old → sets old 0 w ≡ w ++ drop (length w) old
 stored w old h =
     let z : 0 + length w ≡ length w = omega arith in
     sets-eq w old 0 (omega arith) ∙ ap (λ n. w ++ drop n old) z

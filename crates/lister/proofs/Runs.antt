@@ -1,9 +1,9 @@
 -- The places of an input's tree, one after another: ids that run up.
-use Prim.Native.Nat.{ℕ, zero, suc, _+_, _*_, _≤_, _<_}
+use Prim.Native.Nat.{ℕ, zero, suc, _+_, _*_, _≤_}
 use native.Mathlib.Omega.{arith}
 use native.Mathlib.Nat.{add-zero}
 use mathlib.Core.List.{List, [], _∷_, _++_}
-use mathlib.Core.Path.{_≡_, refl, sym, ap, ap₂, _∙_, subst}
+use mathlib.Core.Path.{_≡_, refl, sym, ap, _∙_}
 use lib.ListN.{length, length-append}
 use Rattle.laws.specs.Parts.{written}
 use Rattle.laws.proofs.Parts.{sets-written}
@@ -13,7 +13,7 @@ use Rattle.environment.specs.Words.{treeWords}
 use Rattle.environment.proofs.Stack.{length-written}
 use Rattle.bindings.specs.Bindings.{placesOf, idWords}
 use Rattle.bindings.proofs.Leaving.{written-append}
-use Rattle.bindings.proofs.IdSearch.{tree-ids}
+use Rattle.treeids.proofs.IdSearch.{tree-ids}
 
 -- s, s + 1, .., n of them
 pub run : ℕ → ℕ → List ℕ

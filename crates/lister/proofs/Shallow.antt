@@ -1,10 +1,9 @@
 -- Types are no deeper than the limit says and using lists no longer: so a walk's stack is bounded, and a code's ids are.
-use Prim.Native.Nat.{ℕ, zero, suc, _+_, _-_, _*_, _≤_, _<_, max}
+use Prim.Native.Nat.{ℕ, suc, _+_, _-_, _*_, _≤_}
 use native.Mathlib.Omega.{arith}
 use mathlib.Core.Bool.{true}
 use mathlib.Core.List.{List, [], _∷_}
-use mathlib.Core.Option.{some}
-use mathlib.Core.Path.{_≡_, refl, sym, ap, _∙_, subst}
+use mathlib.Core.Path.{_≡_, refl, sym, ap}
 use borrow.Author.Tests.{ltb-true}
 use lib.Dec.{ltb}
 use lib.ListN.{length}
@@ -12,13 +11,13 @@ use Rattle.snesl.specs.declared.code.Variable.{Variable}
 use Rattle.snesl.specs.Limits.{mostListed, mostDepth}
 use Rattle.snesl.specs.Terms.{_∋_, here, there, Term, listedTypes, All}
 use Rattle.snesl.specs.Translation.{size}
-use Rattle.snesl.specs.Records.{headAt, eaching, variablesAt}
-use Rattle.snesl.specs.Checking.{Name, listedInts, pointers}
+use Rattle.snesl.specs.Records.{headAt, eaching}
+use Rattle.snesl.specs.Checking.{Name, pointers}
 use Rattle.snesl.specs.Formed.{Formed, formed-var, formed-bind, formed-const, formed-iota, formed-plus, formed-sum, formed-each}
-use Rattle.formula.specs.declared.head.Head.the-variants.{Each}
-use Rattle.formula.specs.Heads.{headOf}
-use Rattle.formula.proofs.Heads.{told}
-use Rattle.bindings.proofs.Copying.{listed-count}
+use Rattle.records.specs.declared.head.Head.the-variants.{Each}
+use Rattle.records.specs.Heads.{headOf}
+use Rattle.records.proofs.Heads.{told}
+use Rattle.entering.proofs.Copying.{listed-count}
 use Rattle.walker.specs.Walking.{words}
 
 -- every variable's type is within the limit

@@ -1,11 +1,10 @@
 -- How long a listing can get: 200 bytes for each byte of the formula, more than any record's lines take. So its length can be counted.
-use Prim.Native.Nat.{ℕ, zero, suc, _+_, _-_, _*_, _≤_, _<_, _^_}
+use Prim.Native.Nat.{ℕ, suc, _+_, _-_, _*_, _≤_, _<_, _^_}
 use native.Mathlib.Omega.{arith}
 use mathlib.Core.Bool.{Bool, true, false}
 use mathlib.Core.List.{List, [], _∷_, _++_, append-nil, List·Memᴰ·head, List·Memᴰ·tail, List·Memᴰ·not-nil, List·Memᴰ·cases-cons, List·Memᴰ·eq-of-singleton, Memᴰ·append-left, Memᴰ·append-right}
 use mathlib.Core.Logic.{⊎-elim}
-use mathlib.Core.Path.{_≡_, refl, sym, ap, _∙_, subst}
-use borrow.Author.Tests.{ltb-true}
+use mathlib.Core.Path.{_≡_, refl, ap, _∙_, subst}
 use lib.Dec.{eqb, ltb}
 use lib.IntN.{ℤ, pos, negsuc}
 use lib.ListN.{length, getD, length-append}
@@ -13,33 +12,33 @@ use lib.Signed.{mag}
 use Rattle.snesl.specs.declared.code.Transducer.{Transducer}
 use Rattle.snesl.specs.declared.code.Transducer.the-variants.{Const, ToFlags, Usum, MapTwoPlus, ScanPlus, Distr, SumPlus}
 use Rattle.snesl.specs.Ascii.{ascii, pieces}
-use Rattle.snesl.specs.Text.{showNumber, showInt}
+use Rattle.snesl.specs.Text.{showInt}
 use Rattle.snesl.specs.Limits.{mostDepth}
-use Rattle.snesl.specs.Terms.{_∋_, Term, each, listedTypes, All, ∅, _▹_, lookup}
+use Rattle.snesl.specs.Terms.{_∋_, Term, each, listedTypes, All, _▹_, lookup}
 use Rattle.snesl.specs.Trees.{Tree, leaf, node, root, inner, outer, order}
 use Rattle.snesl.specs.Transducers.{operands}
-use Rattle.snesl.specs.Programs.{Program, done, define, withCtrl, _⨾_, count, dv, fv, member, among, insert, ascending, Within}
+use Rattle.snesl.specs.Programs.{done, define, withCtrl, _⨾_, count, dv, fv, member, among, insert, ascending, Within}
 use Rattle.snesl.specs.Translation.{id, size, numbered, within, tree, distrs, controlled, code}
 use Rattle.snesl.specs.Ids.{idsOf, Below}
-use Rattle.snesl.specs.Records.{signed, intAt, headAt, single}
+use Rattle.snesl.specs.Records.{signed, intAt, single}
 use Rattle.snesl.specs.Records as records
-use Rattle.snesl.specs.Checking.{Name, listedInts, pointers}
+use Rattle.snesl.specs.Checking.{Name, pointers}
 use Rattle.snesl.specs.Listing.{idText, idsText, nameText, defineLine, withCtrlLine, closeLine, linesOf, treeText, resultLine}
 use Rattle.snesl.specs.Formed.{Formed, formed-var, formed-bind, formed-const, formed-iota, formed-plus, formed-sum, formed-each}
-use Rattle.snesl.proofs.Compiled.Members.{_∈_, of-among, to-among, of-ascending, to-ascending}
+use Rattle.snesl.proofs.Compiled.Members.{_∈_, of-among, to-among, of-ascending}
 use Rattle.snesl.proofs.Compiled.Ascending.{ascending-same}
-use Rattle.snesl.proofs.Compiled.Freshness.{copies, front, code-each, count-front, count-code, ids-root, ids-outer, ids-lookup, order-inner, order-root, defined-next, result-ids, free-ids}
+use Rattle.snesl.proofs.Compiled.Freshness.{copies, front, code-each, count-front, count-code, ids-root, ids-outer, ids-lookup, order-inner, order-root, defined-next, free-ids}
 use Rattle.snesl.proofs.Compiled.WellFormed.{below-result, below-within}
 use Rattle.decimals.proofs.NumberWriting.{at-most-20}
 use Rattle.lines.specs.Pieces.{nextText, restText}
 use Rattle.lines.proofs.IdLists.{ids-text}
-use Rattle.formula.specs.declared.head.Shape.{Shape}
-use Rattle.formula.proofs.Heads.{Reading, none, beyond, aVar, aLet, aConst, anIota, aPlus, aSum, anEach, reading}
+use Rattle.records.specs.declared.head.Shape.{Shape}
+use Rattle.records.proofs.Heads.{Reading, none, beyond, aVar, aLet, aConst, anIota, aPlus, aSum, anEach, reading}
 use Rattle.telling.specs.Iota.{onesCode, iotaCode}
 use Rattle.telling.proofs.Telling.{lines-seq}
 use Rattle.telling.proofs.Controlled.{ones-code}
-use Rattle.bindings.proofs.IdSearch.{length-order}
-use Rattle.bindings.proofs.Copying.{listed-count}
+use Rattle.treeids.proofs.IdSearch.{length-order}
+use Rattle.entering.proofs.Copying.{listed-count}
 use Rattle.lister.proofs.Shallow.{Shallow, shallow-more, shallow-body, depth-within, listing-few}
 
 -- ---- numbers and ids

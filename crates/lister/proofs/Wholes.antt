@@ -2,15 +2,14 @@
 use Prim.Native.Nat.{ℕ, suc, _+_, _-_, _*_, _≤_, _<_, _^_}
 use native.Mathlib.Omega.{arith}
 use mathlib.Core.Bool.{true}
-use mathlib.Core.List.{List, [], _∷_, _++_}
-use mathlib.Core.Path.{_≡_, refl, sym, ap, _∙_, subst}
+use mathlib.Core.List.{List, [], _∷_}
+use mathlib.Core.Path.{_≡_, sym, subst}
 use lib.ListN.{length, drop}
-use Rattle.laws.specs.Parts.{part}
 use Rattle.snesl.specs.Ascii.{ascii, pieces}
 use Rattle.snesl.specs.Limits.{mostNesting}
 use Rattle.snesl.specs.Trees.{Tree}
-use Rattle.snesl.specs.Translation.{tree, code}
-use Rattle.snesl.specs.Listing.{linesOf, treeText, resultLine}
+use Rattle.snesl.specs.Translation.{tree}
+use Rattle.snesl.specs.Listing.{treeText, resultLine}
 use Rattle.decimals.specs.Writing.{Writes}
 use Rattle.decimals.proofs.Stores.{writes-then}
 use Rattle.lines.specs.Counting.{Countable}
@@ -19,7 +18,7 @@ use Rattle.environment.specs.Words.{treeWords, treeSize}
 use Rattle.environment.proofs.Finding.{length-tree}
 use Rattle.environment.proofs.Stack.{front-is}
 use Rattle.bindings.specs.Bindings.{placesOf}
-use Rattle.bindings.specs.Ids.{TreeAt}
+use Rattle.treeids.specs.Ids.{TreeAt}
 use Rattle.walker.specs.declared.walk.Walked.{Walked}
 use Rattle.walker.specs.Walking.{Ready, Walks}
 use Rattle.walker.proofs.Stacks.{words-hold, standing-above}

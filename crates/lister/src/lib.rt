@@ -1,4 +1,4 @@
-// The listing of a formula (document 01, "Two programs, one job"), and the line of a refusal.
-pub mod inputs;
+// The listing of a formula (document 01, "Two programs, one job"), and what the listing program prints.
+mod inputs;
 pub mod list;
 pub mod report;

@@ -1,6 +1,5 @@
 // The whole listing into a lent slice, or why there is none.
 use crate::inputs::enter_inputs;
-use bindings::ids::put_tree;
 use checking::check::Checked;
 use checking::check::check;
 use decimals::numbers::put;
@@ -10,6 +9,7 @@ use lines::pieces::put_bytes;
 use snesl::limits::Formula;
 use snesl::refusal::Refusal;
 use telling::Progress;
+use treeids::put_tree;
 use walker::walk::walk;
 ghost use mathlib.Core.Path.{_≡_};
 ghost use lib.ListN.{length, drop};

@@ -22,7 +22,7 @@ use Rattle.rendering.specs.Fitting.{flagAs, fitFor, fitOf, fittingFor, f
 use Rattle.rendering.specs.declared.fitting.Flag.the-variants.{F, T, Neither}
 use Rattle.rendering.specs.declared.fitting.Fit.the-variants.{Items, No}
 use Rattle.rendering.specs.declared.fitting.Fitting.the-variants.{Fits, Misfit}
-use Rattle.valuetext.proofs.Counting.{sum-front, sum-less}
+use Rattle.levels.proofs.Counting.{sum-front, sum-less}
 
 -- ---- an element as a flag
 

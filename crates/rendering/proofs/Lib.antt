@@ -4,3 +4,4 @@ pub mod TextLength
 pub mod WritingSteps
 pub mod WritingAt
 pub mod RenderingSteps
+pub mod RoundTrip

@@ -21,12 +21,12 @@ use Rattle.snesl.specs.Limits.{mostDepth, mostElements}
 use Rattle.snesl.specs.declared.refusal.Refusal.the-variants.{OverLimit, NoAnswerRoom, NoRepresentation}
 use Rattle.snesl.proofs.Representing.StreamRows.{streams-again, value-streams}
 use Rattle.decimals.specs.Numbers.{pick}
-use Rattle.valuetext.specs.Counts.{totalOf}
+use Rattle.levels.specs.Counts.{totalOf}
 use Rattle.rendering.specs.Standing.{StandsAt, Stands}
 use Rattle.rendering.specs.Showing.{Showable, Shown}
 use Rattle.rendering.specs.Fitting.{fittingFor, fittingOf, InRow}
 use Rattle.rendering.specs.Rendering.{ValueStands, ShowsValue, Rendering, refusedAs, textIn, fittingText, rowText, Row, rightLengths, toText}
-use Rattle.valuetext.specs.declared.counts.Total.the-variants.{Of, Over}
+use Rattle.levels.specs.declared.counts.Total.the-variants.{Of, Over}
 use Rattle.rendering.specs.declared.fitting.Fitting.the-variants.{Fits, Misfit}
 use Rattle.rendering.specs.declared.showing.Written.{Written}
 use Rattle.rendering.specs.declared.showing.Written.the-variants.{Bytes, Refused}
@@ -89,6 +89,13 @@ lens-same (suc d) vs =
     ∙ sym (map-append len (streams d (concat vs)) (flags (segments vs) ∷ []))
     ∙ ap (map len) (sym (streams-more d vs))
 
+-- a value's streams in a row, as the store of its text has them
+pub row-contents : (d : ℕ) (v : Val d) → contents (streams d (v ∷ [])) ≡ concat (streamsOf d v)
+row-contents d v = sym (contents-concat (streams d (v ∷ []))) ∙ ap concat (sym (value-streams d v))
+
+pub row-lengths : (d : ℕ) (v : Val d) → map len (streams d (v ∷ [])) ≡ map length (streamsOf d v)
+row-lengths d v = sym (lens-same d (v ∷ [])) ∙ ap (map length) (sym (value-streams d v))
+
 stands-row : (d a : ℕ) (b : List ℤ) (cs : List ℕ) (vs : List (Val d)) → Placed d a cs vs → StandsAt b a (contents (streams d vs)) → Stands d b cs vs
 unfolding Placed Stands represent order contents
 stands-row zero a b cs vs p s =
@@ -111,8 +118,8 @@ row-value d zs ls places k t m p =
     let w : (v : Val d) × (values (treeOf d ls zs) ≡ v ∷ []) × (concat (streamsOf d v) ≡ zs) × (map length (streamsOf d v) ≡ ls) =
     streams-again d ls zs k t m in
     let v : Val d = w .0 in
-    let c : contents (streams d (v ∷ [])) ≡ zs = sym (contents-concat (streams d (v ∷ []))) ∙ ap concat (sym (value-streams d v)) ∙ w .2 in
-    let n : map len (streams d (v ∷ [])) ≡ ls = sym (lens-same d (v ∷ [])) ∙ ap (map length) (sym (value-streams d v)) ∙ w .3 in
+    let c : contents (streams d (v ∷ [])) ≡ zs = row-contents d v ∙ w .2 in
+    let n : map len (streams d (v ∷ [])) ≡ ls = row-lengths d v ∙ w .3 in
     let q : Placed d 0 places (v ∷ []) =
     placed d 0 places (v ∷ []) (λ i h. p i (omega arith) ∙ ap (λ (l : List ℕ). 0 + sumOf (take i l)) (sym n)) in
     record {
@@ -215,7 +222,7 @@ module _ (zs : List ℤ) (ls : List ℕ) (d : ℕ) (old : List ℕ) where
   too-deep h = rw (lt-ltb mostDepth d h) (refl, refl)
 
   module _ (h : d ≤ mostDepth) where
-    text-by : (b : Bool) → rightLengths ls d (length zs) ≡ b
+    pub text-by : (b : Bool) → rightLengths ls d (length zs) ≡ b
         → toText zs ls d old ≡ pick b (rowText zs ls d old) (refusedAs (NoRepresentation (suc d)) old)
     text-by b e =
         ap₂ (λ (x y : Bool). pick x (refusedAs (OverLimit 0) old) (pick y (rowText zs ls d old) (refusedAs (NoRepresentation (suc d)) old)))

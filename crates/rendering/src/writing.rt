@@ -62,17 +62,17 @@ fn write_list(
     ensures { λ r. ⌜ Shown depth (now (elements .entry)) (now (cursors .entry)) (now (cursors .exit)) (now (answer .entry)) (now (answer .exit)) at r ⌝ }
 {
     let mut next = at;
-    let mut mark: u8 = 123;
+    let mut mark: u8 = b'{';
     loop {
         if stops(elements, cursors, depth as usize) {
-            if mark == 44 {
-                return put(answer, next, 125);
+            if mark == b',' {
+                return put(answer, next, b'}');
             }
-            next = put(answer, next, 123);
-            return put(answer, next, 125);
+            next = put(answer, next, b'{');
+            return put(answer, next, b'}');
         }
         next = put(answer, next, mark);
         next = write_item(elements, depth - 1, cursors, answer, next);
-        mark = 44;
+        mark = b',';
     }
 }

@@ -19,7 +19,7 @@ use Rattle.environment.specs.Words.{placeWords, treeWords, treeSize}
 use Rattle.steps.specs.Walking.{walked}
 use Rattle.steps.specs.Holding.{FlagsAt, startOf, lengthOf, mostStreams}
 use Rattle.snesl.specs.Records.{variablesAt}
-use Rattle.formula.proofs.Variables.{length-variables}
+use Rattle.records.proofs.Variables.{length-variables}
 use Rattle.steps.proofs.Stores.{kept}
 use Rattle.steps.proofs.Walking.{Grown, walked-grown}
 use Rattle.steps.proofs.Performing.{stopping-as}

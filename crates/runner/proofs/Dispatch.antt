@@ -33,9 +33,9 @@ use Rattle.bodies.specs.Bodies.{Each}
 use Rattle.leaves.specs.declared.Walked.{Walked}
 use Rattle.leaves.specs.declared.Walked.the-variants as walked-as
 use Rattle.runner.proofs.Reading.{at-var, at-bind, at-const, at-iota, at-plus, at-sum, at-each}
-use Rattle.formula.specs.declared.head.Head.the-variants as head
-use Rattle.formula.specs.Heads.{headOf}
-use Rattle.formula.proofs.Heads.{told}
+use Rattle.records.specs.declared.head.Head.the-variants as head
+use Rattle.records.specs.Heads.{headOf}
+use Rattle.records.proofs.Heads.{told}
 use Rattle.runner.proofs.Measures.{nested, spans}
 use Rattle.leaves.proofs.Places.{lookup-places, lookup-shapely, lookup-shallow}
 use Rattle.leaves.proofs.Operands.{sought}

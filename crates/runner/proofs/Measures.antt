@@ -13,9 +13,9 @@ use Rattle.snesl.specs.Programs.{Program, done, define, withCtrl, _⨾_, count}
 use Rattle.snesl.specs.Translation.{size, within, tree, controlled, code}
 use Rattle.snesl.specs.Checking.{Name, pointers}
 use Rattle.snesl.specs.Formed.{Formed, formed-var, formed-bind, formed-const, formed-iota, formed-plus, formed-sum, formed-each}
-use Rattle.formula.specs.declared.head.Head.the-variants.{Var, Const, Iota, Plus, Sum, Each}
-use Rattle.formula.specs.Heads.{headOf}
-use Rattle.formula.proofs.Heads.{told}
+use Rattle.records.specs.declared.head.Head.the-variants.{Var, Const, Iota, Plus, Sum, Each}
+use Rattle.records.specs.Heads.{headOf}
+use Rattle.records.proofs.Heads.{told}
 use Rattle.leaves.specs.Places.{Shallow, shallow-more}
 use Rattle.leaves.proofs.Places.{lookup-shallow}
 use Rattle.bodies.proofs.Lists.{length-listed, count-distrs}

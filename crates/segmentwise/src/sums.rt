@@ -4,7 +4,7 @@ ghost use lib.ListN.{length};
 ghost use Rattle.laws.specs.Parts.{part};
 ghost use Rattle.snesl.specs.Transducers as snesl;
 ghost use Rattle.snesl.specs.Transducers.{flagOf};
-ghost use Rattle.streams.specs.Answers.{Answers, mostElements};
+ghost use Rattle.streams.specs.Answers.{Answers, widestBuffer};
 ghost use Rattle.streams.specs.Walks.{Walked};
 use laws::range::Sum;
 use laws::range::narrow;
@@ -26,7 +26,7 @@ pub fn sum_plus(
     at: usize,
     len: usize,
 ) -> Output
-    requires { ⌜ («flags_at» + «flags_len» ≤ out) × (at + len ≤ out) × (out ≤ length (now buf)) × (length (now buf) ≤ mostElements) ⌝ }
+    requires { ⌜ («flags_at» + «flags_len» ≤ out) × (at + len ≤ out) × (out ≤ length (now buf)) × (length (now buf) ≤ widestBuffer) ⌝ }
     ensures { λ r. ⌜ Answers out (now (buf .entry)) (snesl.sumPlus flagOf n (part «flags_at» «flags_len» (now (buf .entry))) (part at len (now (buf .entry)))) r (now (buf .exit)) ⌝ }
 {
     let o = sum(buf, out, n, flags_at, flags_len, at, len);
@@ -43,7 +43,7 @@ fn sum(
     at: usize,
     len: usize,
 ) -> Output
-    requires { ⌜ («flags_at» + «flags_len» ≤ out) × (at + len ≤ out) × (out ≤ length (now buf)) × (length (now buf) ≤ mostElements) ⌝ }
+    requires { ⌜ («flags_at» + «flags_len» ≤ out) × (at + len ≤ out) × (out ≤ length (now buf)) × (length (now buf) ≤ widestBuffer) ⌝ }
     ensures { λ r. ⌜ Walked out (now (buf .entry)) (snesl.sumPlus flagOf n (part «flags_at» «flags_len» (now (buf .entry))) (part at len (now (buf .entry)))) r (now (buf .exit)) ⌝ }
 {
     let mut i = 0;

@@ -1,9 +1,9 @@
 // The answer of a run that went through: its text, from the words of the result's tree and the streams in the buffer.
 use crate::Counts;
 use crate::Ran;
+use levels::counts::LEVELS;
 use rendering::showing::value_text;
 use snesl::refusal::Refusal;
-use valuetext::counts::LEVELS;
 ghost use mathlib.Core.Path.{_≡_};
 ghost use Prim.Native.Nat.{ℕ, _+_, _*_, _≤_, _<_};
 ghost use lib.ListN.{length, getD};

@@ -21,7 +21,7 @@ use Rattle.snesl.specs.declared.code.Transducer.the-variants.{Const, ToFlags, U
 use Rattle.snesl.specs.Streams.{Stream, units, elements, Store, room}
 use Rattle.snesl.specs.Transducers as snesl
 use Rattle.snesl.specs.Transducers.{Answer, made, unfit, unless, alone, misfit, countF, apply, flagOf}
-use Rattle.streams.specs.Answers.{Answers, answered, after, mostElements}
+use Rattle.streams.specs.Answers.{Answers, answered, after, widestBuffer}
 use Rattle.streams.specs.declared.output.Output.{Output}
 use Rattle.streams.proofs.Store.{Holds, apply-constant, apply-to-flags, apply-usum, apply-map-two-plus, apply-scan-plus, apply-distr, apply-sum-plus}
 use Rattle.steps.specs.Holding.{Operands, of-toFlags, of-usum, of-mapTwoPlus, of-scanPlus, of-distr, of-sumPlus, IntsAt, FlagsAt, Applies, Transduced}
@@ -112,7 +112,7 @@ module _ {at n at′ n′ out : ℕ} {buf : List ℤ} {σ : Store} where
     pub distr-fits : (s u : StreamId) → t ≡ Distr s u → (at + n ≤ out) × (at′ + n′ ≤ out) × (out ≤ length buf)
     distr-fits s u e = let o = distr-both (of a (Distr s u) e) in (first-flags (o .0), second-int (o .1), room-left)
 
-    pub sum-plus-fits : (s u : StreamId) → t ≡ SumPlus s u → (at + n ≤ out) × (at′ + n′ ≤ out) × (out ≤ length buf) × (length buf ≤ mostElements)
+    pub sum-plus-fits : (s u : StreamId) → t ≡ SumPlus s u → (at + n ≤ out) × (at′ + n′ ≤ out) × (out ≤ length buf) × (length buf ≤ widestBuffer)
     sum-plus-fits s u e = let o = sum-both (of a (SumPlus s u) e) in (first-flags (o .0), second-int (o .1), room-left, a .short)
 
     -- what they answer

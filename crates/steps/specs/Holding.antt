@@ -13,7 +13,7 @@ use Rattle.snesl.specs.declared.refusal.Refusal.{Refusal}
 use Rattle.snesl.specs.Streams.{Stream, ints, flags, len, elements, Store, _!_, contents, room}
 use Rattle.laws.specs.Parts.{written}
 use Rattle.snesl.specs.Transducers.{Answer, made}
-use Rattle.streams.specs.Answers.{answered, mostElements}
+use Rattle.streams.specs.Answers.{answered, widestBuffer}
 use Rattle.streams.specs.declared.output.Output.{Output}
 use Rattle.snesl.specs.Machine.{State, Stop, Result, went, stopped}
 use Rattle.snesl.specs.Outcome.{refusalOf}
@@ -45,7 +45,7 @@ pub record Held (m : State) (buf : List ℤ) (state : List ℕ) : Type 0 where
   pub words : state ≡ counters m
   pub contents-are : take (room (m .store)) buf ≡ contents (m .store)
   pub fits : room (m .store) ≤ length buf
-  pub short : length buf ≤ mostElements
+  pub short : length buf ≤ widestBuffer
   pub few : length (m .store) ≤ mostStreams
   pub slow : m .steps ≤ length (m .store)
   pub cheap : m .work ≤ 196608 * length (m .store)
@@ -112,7 +112,7 @@ pub record Applies (t : Transducer) (at n at′ n′ out : ℕ) (buf : List ℤ)
   pub operands : Operands σ at n at′ n′ t
   pub contents-are : take (room σ) buf ≡ contents σ
   pub fits : room σ ≤ length buf
-  pub short : length buf ≤ mostElements
+  pub short : length buf ≤ widestBuffer
   pub next : out ≡ room σ
 
 -- What a transducer whose answer is a says at `out`, and where it made its output and there was room, what it leaves of the buffer.

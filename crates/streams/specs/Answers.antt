@@ -14,8 +14,8 @@ use Rattle.streams.specs.declared.output.Output.{Output}
 use Rattle.streams.specs.declared.output.Output.the-variants.{Made, Unfit, Negative, Outside, NoRoom}
 
 -- The most elements that any stream buffer of the product has: so many 32-bit numbers have their exact total in 64 bits.
-abbrev pub mostElements : ℕ
-mostElements = 65536
+abbrev pub widestBuffer : ℕ
+widestBuffer = 65536
 
 -- with room for so many elements
 abbrev pub answered : (room : ℕ) → Answer → Output

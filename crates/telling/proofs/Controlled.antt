@@ -3,13 +3,13 @@ use Prim.Native.Nat.{ℕ, _+_}
 use native.Mathlib.Omega.{arith}
 use mathlib.Core.Bool.{Bool, true, false}
 use mathlib.Core.List.{List, [], _∷_, _++_, append-nil}
-use mathlib.Core.Path.{_≡_, refl, sym, ap, ap₂, _∙_, subst}
+use mathlib.Core.Path.{_≡_, refl, sym, ap, _∙_, subst}
 use borrow.Author.Tests.{eq-eqb}
 use lib.IntN.{pos}
 use Rattle.snesl.specs.declared.code.Transducer.the-variants.{Const}
 use Rattle.snesl.specs.Ascii.{ascii, pieces}
-use Rattle.snesl.specs.Trees.{leaf, order}
-use Rattle.snesl.specs.Programs.{Program, done, define, withCtrl, _⨾_, count, member, without, among, dv, fv, insert, ascending}
+use Rattle.snesl.specs.Trees.{order}
+use Rattle.snesl.specs.Programs.{Program, done, define, withCtrl, count, member, without, among, dv, fv, insert, ascending}
 use Rattle.snesl.specs.Listing.{linesOf, idText, withCtrlLine}
 use Rattle.decimals.specs.Writing.{Writes}
 use Rattle.decimals.proofs.Stores.{writes-then}
@@ -19,7 +19,7 @@ use Rattle.lines.proofs.Writing.{countable-first, countable-next}
 use Rattle.lines.proofs.IdLists.{control-line, rest-next, rest-none}
 use Rattle.telling.specs.declared.Progress.{Progress}
 use Rattle.telling.specs.Telling.{uses, least, textOf, bestOf, openText, closeText, Tellable, Tells}
-use Rattle.telling.specs.Iota.{onesCode, iotaCode}
+use Rattle.telling.specs.Iota.{onesCode}
 
 -- A WithCtrl: its opening, its body, its closing.
 module _ (listing : Bool) (outs : List ℕ) (c : ℕ) (ins : List ℕ) (p : Program) where

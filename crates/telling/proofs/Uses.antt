@@ -2,22 +2,20 @@
 -- of a WithCtrl are found by number alone.
 use Prim.Native.Nat.{ℕ, suc, _+_, _≤_, _<_}
 use native.Mathlib.Omega.{arith}
-use mathlib.Core.List.{List, [], _∷_, _++_, List·Memᴰ·head, List·Memᴰ·tail, List·Memᴰ·not-nil, List·Memᴰ·cases-cons, List·Memᴰ·append-cases, List·Memᴰ·eq-of-singleton, Memᴰ·append-left, Memᴰ·append-right}
-use mathlib.Core.Logic.{_⊎_, inl, inr, ⊎-elim}
-use mathlib.Core.Path.{_≡_, refl, sym, ap, _∙_, subst}
-use lib.IntN.{pos}
+use mathlib.Core.List.{List, [], _∷_, List·Memᴰ·tail, List·Memᴰ·cases-cons, List·Memᴰ·append-cases, List·Memᴰ·eq-of-singleton, Memᴰ·append-left, Memᴰ·append-right}
+use mathlib.Core.Logic.{_⊎_, ⊎-elim}
+use mathlib.Core.Path.{_≡_, ap, subst}
 use lib.ListN.{length}
 use Rattle.snesl.specs.declared.code.Transducer.{Transducer}
-use Rattle.snesl.specs.declared.code.Transducer.the-variants.{Const}
 use Rattle.snesl.specs.Transducers.{operands}
-use Rattle.snesl.specs.Terms.{_∋_, Term, var, bind, const, iota, plus, sum, each, listedTypes, All, _▹_}
+use Rattle.snesl.specs.Terms.{_∋_, Term, var, bind, const, iota, plus, sum, each, All, _▹_}
 use Rattle.snesl.specs.Trees.{Tree, leaf, order}
-use Rattle.snesl.specs.Programs.{Program, done, define, withCtrl, _⨾_, count, dv, fv, without, among, ascending, Within}
+use Rattle.snesl.specs.Programs.{Program, done, define, withCtrl, _⨾_, count, dv, fv, without, among, ascending}
 use Rattle.snesl.specs.Translation.{size, within, tree, distrs, controlled, code}
 use Rattle.snesl.specs.Ids.{idsOf, Below}
-use Rattle.snesl.proofs.Compiled.Members.{_∈_, _∉_, of-without, to-without, of-among, to-among, of-ascending, to-ascending}
+use Rattle.snesl.proofs.Compiled.Members.{_∈_, of-without, to-without, of-among, to-among, of-ascending, to-ascending}
 use Rattle.snesl.proofs.Compiled.Ascending.{ascending-same}
-use Rattle.snesl.proofs.Compiled.Freshness.{copies, front, lead, ones, totals, code-each, code-iota, count-front, count-lead, count-ones, count-code, dv-ones, defined-next, result-ids, free-ids}
+use Rattle.snesl.proofs.Compiled.Freshness.{copies, front, lead, ones, code-each, code-iota, count-front, count-lead, count-ones, count-code, defined-next, result-ids, free-ids}
 use Rattle.telling.specs.Telling.{uses}
 use Rattle.telling.specs.Between.{between}
 use Rattle.telling.proofs.Least.{of-between, to-between}

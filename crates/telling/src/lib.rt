@@ -1,6 +1,6 @@
 // What a walk over a formula's bytes does with each instruction that it makes. A walk that lists writes the instruction's line; a walk that surveys writes
 // nothing and looks for the least id from `lo` on that the instructions use: what a WithCtrl takes in must be written before its body's lines.
-use lines::instructions::put_instruction;
+use instructions::put_instruction;
 use lines::pieces::put_bytes;
 use lines::pieces::put_id;
 use snesl::code::Instruction;
@@ -37,7 +37,7 @@ pub fn lesser(lo: usize, best: usize, id: usize) -> usize
 }
 
 // The same over a transducer's operands.
-pub fn survey(lo: usize, best: usize, t: Transducer) -> usize
+fn survey(lo: usize, best: usize, t: Transducer) -> usize
     ensures { λ r. ⌜ r ≡ least lo best (operands t) ⌝ }
 {
     match t {
@@ -75,7 +75,7 @@ pub fn define(listing: bool, lo: usize, text: &mut [u8], w: Progress, t: Transdu
 }
 
 // A WithCtrl that puts out one stream and takes none in.
-pub fn open_one(listing: bool, text: &mut [u8], at: usize, out: StreamId, c: StreamId) -> usize
+fn open_one(listing: bool, text: &mut [u8], at: usize, out: StreamId, c: StreamId) -> usize
     requires { ⌜ Countable at (openText listing (out .0 ∷ []) (c .0) []) ⌝ }
     ensures { λ r. ⌜ Writes (now (text .entry)) (now (text .exit)) at (openText listing (out .0 ∷ []) (c .0) []) r ⌝ }
 {
@@ -100,7 +100,7 @@ pub fn close(listing: bool, text: &mut [u8], at: usize) -> usize
 }
 
 // A 1 for each of iota's items, under the control stream of their units; s is the id of the flags.
-pub fn ones(listing: bool, lo: usize, text: &mut [u8], w: Progress, s: usize) -> Progress
+fn ones(listing: bool, lo: usize, text: &mut [u8], w: Progress, s: usize) -> Progress
     requires { ⌜ (w .id ≡ s + 2) × Tellable listing (onesCode s) w ⌝ }
     ensures { λ r. ⌜ Tells listing lo (onesCode s) (now (text .entry)) (now (text .exit)) w r ⌝ }
 {

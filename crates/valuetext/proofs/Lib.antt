@@ -1,4 +1,3 @@
-pub mod Counting
 pub mod Laying
 pub mod ReadingSteps
 pub mod ReadingAt

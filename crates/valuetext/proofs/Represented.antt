@@ -15,7 +15,7 @@ use Rattle.snesl.specs.Representation.{concat, segments, represent}
 use Rattle.valuetext.specs.Laying.{lay, advance, Under, Apart}
 use Rattle.decimals.proofs.Stores.{sets-append}
 use Rattle.valuetext.proofs.Laying.{length-advance, bits-length, under-more}
-use Rattle.valuetext.proofs.Counting.{sum-append}
+use Rattle.levels.proofs.Counting.{sum-append}
 
 -- the streams of some values, in tree order
 abbrev pub streams : (d : ℕ) → List (Val d) → Store

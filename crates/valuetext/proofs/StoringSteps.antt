@@ -20,17 +20,17 @@ use Rattle.snesl.specs.Text.{readValue, valueOf}
 use Rattle.snesl.specs.Limits.{mostDepth, mostElements}
 use Rattle.decimals.specs.Numbers.{pick}
 use Rattle.valuetext.specs.Laying.{lay}
-use Rattle.valuetext.specs.Counts.{totalOf}
+use Rattle.levels.specs.Counts.{totalOf}
 use Rattle.valuetext.specs.Reading.{Ready, measuring, filling, Laid, ReadAs, read-no, read-bytes}
 use Rattle.valuetext.specs.declared.reading.Taken.{Taken}
 use Rattle.valuetext.specs.Storing.{valueStore, valueStoreIf, textElements, measuredIf, measured, countsFor, countsAfter, Fillable, Conversion, refused, accepted, storeIf, toStreams}
 use Rattle.valuetext.specs.declared.storing.Measured.{Measured}
 use Rattle.valuetext.specs.declared.storing.Stored.{Stored}
 use Rattle.valuetext.specs.declared.storing.Stored.the-variants.{Elements as StoredElements, Refused}
-use Rattle.valuetext.specs.declared.counts.Total.the-variants.{Of, Over}
+use Rattle.levels.specs.declared.counts.Total.the-variants.{Of, Over}
 use Rattle.valuetext.specs.declared.storing.Measured.the-variants.{Elements, Over as OverAll, No}
 use Rattle.laws.proofs.Options.{some-pair}
-use Rattle.valuetext.proofs.Counting.{sum-less}
+use Rattle.levels.proofs.Counting.{sum-less}
 use Rattle.valuetext.proofs.Represented.{order-length, counted, lens-total, lens-length, placed, Placed, lay-placed, apart-placed}
 
 -- ---- a text and its value

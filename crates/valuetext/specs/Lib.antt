@@ -1,4 +1,3 @@
-pub mod Counts
 pub mod Laying
 pub mod Reading
 pub mod Storing

@@ -1,4 +1,3 @@
 // Value text to streams (document 01, "The formula and the job" and "Representation by itself").
-pub mod counts;
 pub mod reading;
 pub mod storing;

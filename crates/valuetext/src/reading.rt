@@ -45,10 +45,10 @@ fn append(elements: &mut [i32], cursors: &mut [usize], level: usize, z: i32)
 fn opening_of(text: &[u8]) -> Opening
     ensures { λ r. ⌜ r ≡ openingAt (now (text .entry)) ⌝ }
 {
-    if byte_at(text, 0) != 123 {
+    if byte_at(text, 0) != b'{' {
         return Opening::No;
     }
-    if byte_at(text, 1) == 125 {
+    if byte_at(text, 1) == b'}' {
         return Opening::Empty;
     }
     Opening::Items
@@ -58,10 +58,10 @@ fn what_follows(text: &[u8], at: usize) -> After
     ensures { λ r. ⌜ r ≡ afterAt (now (text .entry)) at ⌝ }
 {
     let b = byte_at(text, at);
-    if b == 44 {
+    if b == b',' {
         return After::Comma;
     }
-    if b == 125 {
+    if b == b'}' {
         return After::Close;
     }
     After::Else
@@ -81,7 +81,12 @@ fn read_leaf(text: &[u8], elements: &mut [i32], cursors: &mut [usize]) -> Taken
 }
 
 // An item, from the text's first byte on: an int, or a list.
-pub fn read_item(text: &[u8], depth: u8, elements: &mut [i32], cursors: &mut [usize]) -> Taken
+pub(crate) fn read_item(
+    text: &[u8],
+    depth: u8,
+    elements: &mut [i32],
+    cursors: &mut [usize],
+) -> Taken
     requires { ⌜ Ready depth (now text) (now elements) (now cursors) ⌝ }
     ensures { λ r. ⌜ ReadAs depth (now (text .entry)) (now (elements .entry)) (now (elements .exit)) (now (cursors .entry)) (now (cursors .exit)) r ⌝ }
 {

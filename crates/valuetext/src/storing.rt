@@ -1,11 +1,11 @@
 // Value text to streams.
-use crate::counts::LEVELS;
-use crate::counts::Total;
-use crate::counts::add_up;
-use crate::counts::copy;
-use crate::counts::starts;
 use crate::reading::Taken;
 use crate::reading::read_item;
+use levels::counts::LEVELS;
+use levels::counts::Total;
+use levels::counts::add_up;
+use levels::counts::copy;
+use levels::counts::starts;
 use snesl::limits::Buffer;
 use snesl::limits::Formula;
 use snesl::refusal::Refusal;

@@ -1,21 +1,21 @@
 -- The walk of a comprehension: into its body, its WithCtrl's opening, the body, and out with the body's tree beside y's flags.
-use Prim.Native.Nat.{ℕ, suc, _+_, _-_, _*_, _≤_, _<_, _^_}
+use Prim.Native.Nat.{ℕ, suc, _+_, _-_, _*_, _≤_, _<_}
 use native.Mathlib.Omega.{arith}
-use mathlib.Core.Bool.{Bool, true, false}
+use mathlib.Core.Bool.{Bool}
 use mathlib.Core.List.{List, [], _∷_, _++_, append-assoc}
 use mathlib.Core.Path.{_≡_, refl, sym, ap, _∙_, subst}
 use lib.ListN.{length, drop, length-append}
 use Rattle.laws.specs.Parts.{part, written}
 use Rattle.snesl.specs.declared.code.Variable.{Variable}
-use Rattle.snesl.specs.Terms.{_∋_, Term, each, listedTypes, All, _▹_, lookup}
+use Rattle.snesl.specs.Terms.{_∋_, each, listedTypes, All, _▹_, lookup}
 use Rattle.snesl.specs.Trees.{Tree, inner, outer, mapTree}
 use Rattle.snesl.specs.Programs.{count, _⨾_}
 use Rattle.snesl.specs.Translation.{size, within, tree, controlled, code}
 use Rattle.snesl.specs.Ids.{idsOf, Below}
 use Rattle.snesl.specs.Records.{headAt, eaching, variablesAt}
-use Rattle.snesl.specs.Checking.{find, listedInts, listedNames, pointers}
+use Rattle.snesl.specs.Checking.{find, listedNames, pointers}
 use Rattle.snesl.specs.Formed.{Formed}
-use Rattle.snesl.proofs.Compiled.Freshness.{front, count-front, code-each, count-controlled, count-code}
+use Rattle.snesl.proofs.Compiled.Freshness.{front, count-front, code-each, count-controlled}
 use Rattle.snesl.proofs.Compiled.WellFormed.{below-within}
 use Rattle.snesl.proofs.Views.{by-each}
 use Rattle.decimals.specs.Writing.{Writes}
@@ -27,10 +27,10 @@ use Rattle.telling.proofs.Controlled.{open-countable, body-tellable, close-coun
 use Rattle.environment.specs.Words.{placeWords, treeWords, treeSize, spelled}
 use Rattle.environment.proofs.Finding.{length-tree}
 use Rattle.environment.proofs.Stack.{drop-above, rest-is}
-use Rattle.bindings.specs.declared.entering.Entered.{Entered}
-use Rattle.bindings.specs.Bindings.{placed, placesOf, placesIn, Standing}
-use Rattle.bindings.specs.Entering.{bodySize, entryWords, Entering, Enters}
-use Rattle.bindings.proofs.Copying.{length-entries, listed-length}
+use Rattle.entering.specs.declared.Entered.{Entered}
+use Rattle.bindings.specs.Bindings.{placed, placesOf, placesIn}
+use Rattle.entering.specs.Entering.{bodySize, entryWords, Entering, Enters}
+use Rattle.entering.proofs.Copying.{length-entries, listed-length}
 use Rattle.walker.specs.declared.walk.Walked.{Walked}
 use Rattle.walker.specs.Walking.{words, Holds, Ready, EachReady, OpenReady, Walks, surveying, opening}
 use Rattle.walker.proofs.Leaves.{sequence-found}

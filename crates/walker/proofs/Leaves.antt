@@ -1,10 +1,10 @@
 -- The walk at a record with no expression behind it: what each function that it calls asks, and what the walk has done then.
-use Prim.Native.Nat.{ℕ, zero, suc, _+_, _*_, _≤_, _<_}
+use Prim.Native.Nat.{ℕ, zero, suc, _+_, _≤_}
 use native.Mathlib.Omega.{arith}
 use mathlib.Core.Bool.{Bool}
-use mathlib.Core.List.{List, [], _∷_}
-use mathlib.Core.Option.{Option, some, none}
-use mathlib.Core.Path.{_≡_, refl, sym, ap, _∙_, subst}
+use mathlib.Core.List.{List}
+use mathlib.Core.Option.{some}
+use mathlib.Core.Path.{_≡_, refl, sym, ap, subst}
 use lib.IntN.{ℤ}
 use lib.ListN.{length}
 use mir.Syntax.{w32}
@@ -16,7 +16,7 @@ use Rattle.snesl.specs.declared.code.Transducer.the-variants.{Const, MapTwoPlus
 use Rattle.snesl.specs.Terms as terms
 use Rattle.snesl.specs.Terms.{_∋_, Term, All, lookup}
 use Rattle.snesl.specs.Trees.{Tree, leaf, node, root, inner, outer}
-use Rattle.snesl.specs.Programs.{Program, done, define}
+use Rattle.snesl.specs.Programs.{done, define}
 use Rattle.snesl.specs.Translation.{id, tree, code}
 use Rattle.snesl.specs.Records as records
 use Rattle.snesl.specs.Records.{single, headAt}
@@ -27,7 +27,7 @@ use Rattle.telling.specs.Telling.{Tellable, Tells}
 use Rattle.telling.specs.Iota.{iotaCode}
 use Rattle.telling.proofs.Telling.{tells-done}
 use Rattle.bindings.specs.Bindings.{Bound, Seeks, SeeksTree, SeeksIota, Standing}
-use Rattle.bindings.proofs.Copying.{int-found}
+use Rattle.entering.proofs.Copying.{int-found}
 use Rattle.walker.specs.declared.walk.Walked.{Walked}
 use Rattle.walker.specs.Walking.{words, Holds, Ready, Walks}
 

@@ -1,13 +1,13 @@
 -- The walk of a let: the first expression's tree becomes a binding, and the second one's takes its place.
-use Prim.Native.Nat.{ℕ, suc, _+_, _-_, _*_, _≤_, _<_, max}
+use Prim.Native.Nat.{ℕ, _+_, _-_, _*_, _≤_, _<_}
 use native.Mathlib.Omega.{arith}
 use mathlib.Core.Bool.{Bool}
 use mathlib.Core.List.{List, [], _∷_, _++_}
-use mathlib.Core.Path.{_≡_, refl, sym, ap, _∙_, subst}
+use mathlib.Core.Path.{_≡_, sym, ap, _∙_, subst}
 use lib.ListN.{length, drop}
 use Rattle.laws.specs.Parts.{part, written}
 use Rattle.snesl.specs.declared.code.Variable.{Variable}
-use Rattle.snesl.specs.Terms.{Term, bind, All, _▹_}
+use Rattle.snesl.specs.Terms.{bind, _▹_}
 use Rattle.snesl.specs.Trees.{Tree}
 use Rattle.snesl.specs.Programs.{count, _⨾_}
 use Rattle.snesl.specs.Translation.{size, tree, code}
@@ -23,7 +23,7 @@ use Rattle.telling.proofs.Telling.{tells-seq, tellable-first, tellable-next}
 use Rattle.environment.specs.Words.{treeWords, treeSize, spelled}
 use Rattle.environment.proofs.Entries.{bound}
 use Rattle.environment.proofs.Stack.{above-written, length-written, drop-above}
-use Rattle.bindings.specs.Bindings.{placesOf, placesIn, Standing}
+use Rattle.bindings.specs.Bindings.{placesOf, placesIn}
 use Rattle.walker.specs.declared.walk.Walked.{Walked}
 use Rattle.walker.specs.Walking.{words, Holds, Ready, LetReady, Walks}
 use Rattle.walker.proofs.Stacks.{words-hold, standing-above, raised}

@@ -1,15 +1,15 @@
 -- The stack around a walk: a result's tree has room, nothing from sp on changes, and a tree further down can be moved up.
-use Prim.Native.Nat.{ℕ, suc, _+_, _-_, _*_, _≤_, _<_, max}
+use Prim.Native.Nat.{ℕ, _+_, _-_, _≤_}
 use native.Mathlib.Omega.{arith}
-use mathlib.Core.List.{List, [], _∷_, _++_}
-use mathlib.Core.Path.{_≡_, refl, sym, ap, _∙_, subst}
+use mathlib.Core.List.{List, _++_}
+use mathlib.Core.Path.{_≡_, sym, ap, _∙_}
 use lib.ListN.{length, drop}
 use Rattle.laws.specs.Parts.{part, written}
 use Rattle.snesl.specs.Terms.{Term, var, bind, const, iota, plus, sum, each}
 use Rattle.snesl.specs.Trees.{Tree}
 use Rattle.environment.specs.Words.{treeWords, treeSize}
 use Rattle.environment.proofs.Finding.{length-tree}
-use Rattle.environment.proofs.Stack.{front-is, rest-is, from-written, above-written}
+use Rattle.environment.proofs.Stack.{front-is, rest-is, from-written}
 use Rattle.bindings.specs.Bindings.{placesOf, Standing}
 use Rattle.walker.specs.Walking.{words}
 

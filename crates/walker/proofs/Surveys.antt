@@ -1,15 +1,14 @@
 -- Surveys of a comprehension's body, and the line that opens its WithCtrl.
-use Prim.Native.Nat.{ℕ, suc, _+_, _-_, _*_, _≤_, _<_, _^_}
+use Prim.Native.Nat.{ℕ, _+_, _-_, _*_, _≤_, _<_}
 use native.Mathlib.Omega.{arith}
 use mathlib.Core.Bool.{Bool, true, false}
-use mathlib.Core.List.{List, [], _∷_, _++_}
+use mathlib.Core.List.{List, [], _∷_}
 use mathlib.Core.Path.{_≡_, refl, sym, ap, _∙_, subst}
 use lib.ListN.{length, drop}
 use Rattle.laws.specs.Parts.{part}
 use Rattle.snesl.specs.Ascii.{ascii, pieces}
-use Rattle.snesl.specs.Terms.{Term, All}
-use Rattle.snesl.specs.Trees.{Tree, order}
-use Rattle.snesl.specs.Programs.{Program, dv, fv, among, ascending}
+use Rattle.snesl.specs.Trees.{order}
+use Rattle.snesl.specs.Programs.{fv, ascending}
 use Rattle.snesl.specs.Translation.{size, tree, code}
 use Rattle.snesl.specs.Listing.{withCtrlLine}
 use Rattle.snesl.proofs.Compiled.Freshness.{count-code}
@@ -20,7 +19,7 @@ use Rattle.lines.specs.Pieces.{nextText, restText, controlText}
 use Rattle.lines.proofs.Writing.{countable-is, countable-first, countable-next, writes-is}
 use Rattle.lines.proofs.IdLists.{control-line}
 use Rattle.telling.specs.declared.Progress.{Progress}
-use Rattle.telling.specs.Telling.{uses, least, openText, Tells}
+use Rattle.telling.specs.Telling.{uses, least}
 use Rattle.telling.specs.Between.{between}
 use Rattle.telling.proofs.Least.{Least, least-of, least-last}
 use Rattle.telling.proofs.Ascent.{Rest, rest-start, rest-end, rest-countable, rest-on, least-from}
@@ -28,11 +27,11 @@ use Rattle.telling.proofs.Uses.{taken-in, put-out}
 use Rattle.environment.specs.Words.{treeWords, treeSize}
 use Rattle.environment.proofs.Finding.{length-tree}
 use Rattle.environment.proofs.Stack.{front-is}
-use Rattle.bindings.specs.Bindings.{placesOf, idWords, Standing}
-use Rattle.bindings.specs.Ids.{IdsAt, OutsAt}
-use Rattle.bindings.proofs.IdSearch.{tree-ids, length-order}
+use Rattle.bindings.specs.Bindings.{placesOf}
+use Rattle.treeids.specs.Ids.{OutsAt}
+use Rattle.treeids.proofs.IdSearch.{tree-ids, length-order}
 use Rattle.walker.specs.declared.walk.Walked.{Walked}
-use Rattle.walker.specs.Walking.{words, Holds, Ready, Walks, TakesReady, OpenReady, surveying, opening}
+use Rattle.walker.specs.Walking.{words, Ready, Walks, TakesReady, OpenReady, surveying, opening}
 use Rattle.walker.proofs.Stacks.{words-hold, standing-above}
 
 -- what is ready stays so while the words from sp on stay

@@ -1,5 +1,5 @@
 -- The listing's walk over a checked formula's bytes: what must stand in the bytes and on the stack, and what the walk leaves and tells then.
-use Prim.Native.Nat.{ℕ, suc, _+_, _*_, _≤_, _<_, max}
+use Prim.Native.Nat.{ℕ, suc, _+_, _≤_, _<_, max}
 use mathlib.Core.Bool.{Bool, true, false}
 use mathlib.Core.List.{List, _∷_}
 use mathlib.Core.Option.{some}
@@ -21,7 +21,7 @@ use Rattle.telling.specs.Telling.{uses, openText, Tellable, Tells}
 use Rattle.telling.specs.Between.{between}
 use Rattle.environment.specs.Words.{treeSize}
 use Rattle.bindings.specs.Bindings.{Bound, Standing}
-use Rattle.bindings.specs.Entering.{bodySize}
+use Rattle.entering.specs.Entering.{bodySize}
 use Rattle.walker.specs.declared.walk.Walked.{Walked}
 
 -- how many words below sp a walk of e takes, its result's tree included

@@ -1,25 +1,25 @@
 // The walk over a checked formula's bytes: it makes each instruction as it comes to it, and lists or surveys it. The environment is a stack of words; the
 // tree of each result is left on it. A WithCtrl's line says what its body uses before the body's lines come: so surveys of the body come first.
-use bindings::entering::enter;
-use bindings::ids::put_outs;
 use bindings::operands::plus_of;
 use bindings::operands::sum_of;
 use bindings::trees::copy_tree;
 use bindings::trees::int_tree;
 use bindings::trees::iota_tree;
+use entering::enter;
 use environment::move_words;
 use environment::put_name;
-use formula::head::Head;
-use formula::head::head_at;
-use lines::instructions::put_instruction;
+use instructions::put_instruction;
 use lines::pieces::put_bytes;
 use lines::pieces::put_next;
+use records::head::Head;
+use records::head::head_at;
 use snesl::code::Instruction;
 use snesl::code::StreamId;
 use snesl::code::Transducer;
 use snesl::code::Variable;
 use telling::Progress;
 use telling::close;
+use treeids::put_outs;
 ghost use mathlib.Core.Bool.{true, false};
 ghost use mathlib.Core.Path.{_≡_};
 ghost use Prim.Native.Nat.{_+_};

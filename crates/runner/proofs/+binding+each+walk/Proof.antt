@@ -23,7 +23,7 @@ use Rattle.runner.proofs.walk.Kinds as walk-kinds
 use Rattle.runner.proofs.+binding+each+walk.Lts-walk as walk-lts
 use Rattle.environment.proofs.bind_tree.Reads as bind-tree-reads
 use Rattle.environment.proofs.lift_tree.Reads as lift-tree-reads
-use Rattle.formula.proofs.head.head_at.Reads as head-at-reads
+use Rattle.records.proofs.head.head_at.Reads as head-at-reads
 use Rattle.bodies.proofs.enter.Reads as enter-reads
 use Rattle.leaves.proofs.iota.Reads as iota-reads
 use Rattle.leaves.proofs.plus.Reads as plus-reads

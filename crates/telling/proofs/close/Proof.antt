@@ -1,16 +1,13 @@
 -- A listing writes the line, a survey nothing.
 use borrow.Author.Needs.{needs}
-use mathlib.Core.Bool.{Bool}
 use Rattle.decimals.proofs.Stores.{writes-nothing}
 use Rattle.lines.proofs.Writing.{countable-of, writes-of}
 use Rattle.telling.specs.Telling.{closeText}
--- ^ own imports
-use borrow.Author.Needs.{needs}
 use Rattle.telling.proofs.close.Statement.{statement}
 use Rattle.telling.proofs.close.Tie as tie
 use Rattle.telling.proofs.close.Reads as reads
 use Rattle.telling.proofs.close.Lts as lts
-use Rattle.lines.proofs.instructions.put_instruction.Reads as put-instruction-reads
+use Rattle.instructions.proofs.put_instruction.Reads as put-instruction-reads
 
 -- src/lib.rt:94:9
 put-instruction-requires : tie.Need-put-instruction-requires

@@ -1,13 +1,11 @@
 -- A listing writes the line, a survey looks at the operands.
 use borrow.Author.Needs.{needs}
 use Rattle.telling.proofs.Telling.{tellable-as, tells-as, define-countable, defined-listed, defined-surveyed}
--- ^ own imports
-use borrow.Author.Needs.{needs}
 use Rattle.telling.proofs.define.Statement.{statement}
 use Rattle.telling.proofs.define.Tie as tie
 use Rattle.telling.proofs.define.Reads as reads
 use Rattle.telling.proofs.define.Lts as lts
-use Rattle.lines.proofs.instructions.put_instruction.Reads as put-instruction-reads
+use Rattle.instructions.proofs.put_instruction.Reads as put-instruction-reads
 use Rattle.telling.proofs.survey.Reads as survey-reads
 
 -- src/lib.rt:60:13

@@ -2,8 +2,6 @@
 use borrow.Author.Needs.{needs}
 use mathlib.Core.Path.{refl}
 use Rattle.telling.proofs.IotaParts.{flags-tellable, units-tellable, ones-next, totals-tellable, iota-tells}
--- ^ own imports
-use borrow.Author.Needs.{needs}
 use Rattle.telling.proofs.iota.Statement.{statement}
 use Rattle.telling.proofs.iota.Tie as tie
 use Rattle.telling.proofs.iota.Reads as reads

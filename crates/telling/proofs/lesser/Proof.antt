@@ -1,6 +1,5 @@
 -- By the two tests.
 use Rattle.telling.proofs.Telling.{lesser-in, lesser-high, lesser-low}
--- ^ own imports
 use Rattle.telling.proofs.lesser.Statement.{statement}
 use Rattle.telling.proofs.lesser.Tie as tie
 use Rattle.telling.proofs.lesser.Reads as reads

@@ -1,8 +1,6 @@
 -- The opening, a 1, the closing.
 use borrow.Author.Needs.{needs}
 use Rattle.telling.proofs.Controlled.{open-countable, body-tellable, close-countable, tells-controlled, ones-tellable, ones-tells}
--- ^ own imports
-use borrow.Author.Needs.{needs}
 use Rattle.telling.proofs.ones.Statement.{statement}
 use Rattle.telling.proofs.ones.Tie as tie
 use Rattle.telling.proofs.ones.Reads as reads

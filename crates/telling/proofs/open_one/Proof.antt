@@ -1,7 +1,7 @@
 -- A listing writes the line piece by piece, a survey nothing.
 use borrow.Author.Needs.{needs}
 use mathlib.Core.Bool.{Bool}
-use mathlib.Core.List.{[], _∷_, _++_}
+use mathlib.Core.List.{[], _∷_}
 use Rattle.snesl.specs.Ascii.{ascii, pieces}
 use Rattle.snesl.specs.Listing.{idText}
 use Rattle.decimals.proofs.Stores.{writes-nothing, writes-then}
@@ -9,13 +9,11 @@ use Rattle.lines.specs.Pieces.{controlText}
 use Rattle.lines.proofs.Writing.{countable-of, countable-is, countable-first, countable-next, writes-of, writes-is}
 use Rattle.telling.specs.Telling.{openText}
 use Rattle.telling.proofs.Controlled.{one-line}
--- ^ own imports
-use borrow.Author.Needs.{needs}
 use Rattle.telling.proofs.open_one.Statement.{statement}
 use Rattle.telling.proofs.open_one.Tie as tie
 use Rattle.telling.proofs.open_one.Reads as reads
 use Rattle.telling.proofs.open_one.Lts as lts
-use Rattle.lines.proofs.instructions.put_instruction.Reads as put-instruction-reads
+use Rattle.instructions.proofs.put_instruction.Reads as put-instruction-reads
 use Rattle.lines.proofs.pieces.put_bytes.Reads as put-bytes-reads
 use Rattle.lines.proofs.pieces.put_id.Reads as put-id-reads
 

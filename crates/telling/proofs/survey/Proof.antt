@@ -1,8 +1,6 @@
 -- Each arm looks at its operands in order.
 use borrow.Author.Needs.{needs}
 use Rattle.telling.proofs.Telling.{survey-of, survey-none, survey-one, survey-two}
--- ^ own imports
-use borrow.Author.Needs.{needs}
 use Rattle.telling.proofs.survey.Statement.{statement}
 use Rattle.telling.proofs.survey.Tie as tie
 use Rattle.telling.proofs.survey.Reads as reads

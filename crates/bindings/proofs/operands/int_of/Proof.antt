@@ -1,10 +1,7 @@
 -- The id stands behind the variable and its depth.
 use native.Mathlib.Omega.{arith}
-use borrow.Author.Needs.{needs}
-use Prim.Native.Nat.{_+_}
+use mir.Facts.{fits-32-64}
 use Rattle.bindings.proofs.Places.{sought, entry, entry-within, int-id}
--- ^ own imports
-use borrow.Author.Needs.{needs}
 use Rattle.bindings.proofs.operands.int_of.Statement.{statement}
 use Rattle.bindings.proofs.operands.int_of.Tie as tie
 use Rattle.bindings.proofs.operands.int_of.Reads as reads
@@ -29,7 +26,7 @@ shared-slice-read-result c = omega (arith, entry-within (entry (c .before .befor
 
 -- src/operands.rt:17:5
 cast-result : tie.Need-cast-result
-cast-result c = omega (arith, c .shared-slice-known2 .given (c .before .find .result + 2))
+cast-result c = fits-32-64 (c .shared-slice-known2 .given _)
 
 -- src/operands.rt:12:1
 returns : tie.Need-returns

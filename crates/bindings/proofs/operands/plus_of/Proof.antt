@@ -3,8 +3,6 @@ use borrow.Author.Needs.{needs}
 use mathlib.Core.Path.{ap₂}
 use Rattle.snesl.specs.declared.code.Transducer.the-variants.{MapTwoPlus}
 use Rattle.snesl.specs.Translation.{id}
--- ^ own imports
-use borrow.Author.Needs.{needs}
 use Rattle.bindings.proofs.operands.plus_of.Statement.{statement}
 use Rattle.bindings.proofs.operands.plus_of.Tie as tie
 use Rattle.bindings.proofs.operands.plus_of.Reads as reads

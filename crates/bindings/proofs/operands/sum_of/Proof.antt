@@ -1,13 +1,10 @@
 -- The data's id, and the flags' behind it.
 use native.Mathlib.Omega.{arith}
-use borrow.Author.Needs.{needs}
-use Prim.Native.Nat.{_+_}
+use mir.Facts.{fits-32-64}
 use mathlib.Core.Path.{ap₂}
 use Rattle.snesl.specs.declared.code.Transducer.the-variants.{SumPlus}
 use Rattle.snesl.specs.Translation.{id}
 use Rattle.bindings.proofs.Places.{sought, entry, entry-within, sum-flags, sum-data}
--- ^ own imports
-use borrow.Author.Needs.{needs}
 use Rattle.bindings.proofs.operands.sum_of.Statement.{statement}
 use Rattle.bindings.proofs.operands.sum_of.Tie as tie
 use Rattle.bindings.proofs.operands.sum_of.Reads as reads
@@ -32,7 +29,7 @@ shared-slice-read-data c = omega (arith, entry-within (entry (c .before .before 
 
 -- src/operands.rt:36:16
 cast-data : tie.Need-cast-data
-cast-data c = omega (arith, c .shared-slice-known2 .given (c .before .find .result + 2))
+cast-data c = fits-32-64 (c .shared-slice-known2 .given _)
 
 -- src/operands.rt:37:21
 add-flags : tie.Need-add-flags
@@ -48,7 +45,7 @@ shared-slice-read-flags c = omega (arith, entry-within (entry (c .before .before
 
 -- src/operands.rt:37:17
 cast-flags : tie.Need-cast-flags
-cast-flags c = omega (arith, c .shared-slice-known3 .given (c .before .before .find .result + 5))
+cast-flags c = fits-32-64 (c .shared-slice-known3 .given _)
 
 -- src/operands.rt:31:1
 returns : tie.Need-returns

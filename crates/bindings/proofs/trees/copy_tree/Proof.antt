@@ -1,12 +1,9 @@
 -- The entry's depth says how many words its tree has.
 use native.Mathlib.Omega.{arith}
 use borrow.Author.Needs.{needs}
-use Prim.Native.Nat.{_+_}
 use mathlib.Core.Logic.{inr}
 use Rattle.bindings.proofs.Places.{sought}
 use Rattle.bindings.proofs.Leaving.{copyable, depth-is, copied}
--- ^ own imports
-use borrow.Author.Needs.{needs}
 use Rattle.bindings.proofs.trees.copy_tree.Statement.{statement}
 use Rattle.bindings.proofs.trees.copy_tree.Tie as tie
 use Rattle.bindings.proofs.trees.copy_tree.Reads as reads

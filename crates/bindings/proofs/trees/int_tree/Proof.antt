@@ -1,8 +1,6 @@
 -- One place, for the id that the definition gives.
 use borrow.Author.Needs.{needs}
 use Rattle.bindings.proofs.Leaving.{int-stands}
--- ^ own imports
-use borrow.Author.Needs.{needs}
 use Rattle.bindings.proofs.trees.int_tree.Statement.{statement}
 use Rattle.bindings.proofs.trees.int_tree.Tie as tie
 use Rattle.bindings.proofs.trees.int_tree.Reads as reads

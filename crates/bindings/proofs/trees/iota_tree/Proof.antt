@@ -3,8 +3,6 @@ use native.Mathlib.Omega.{arith}
 use borrow.Author.Needs.{needs}
 use Prim.Native.Nat.{_+_}
 use Rattle.bindings.proofs.Leaving.{iota-stands, iota-ids, iota-tellable, iota-told}
--- ^ own imports
-use borrow.Author.Needs.{needs}
 use Rattle.bindings.proofs.trees.iota_tree.Statement.{statement}
 use Rattle.bindings.proofs.trees.iota_tree.Tie as tie
 use Rattle.bindings.proofs.trees.iota_tree.Reads as reads

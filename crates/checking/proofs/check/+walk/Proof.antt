@@ -9,8 +9,8 @@ use Rattle.checking.proofs.check.walk.Reads as walk
 use Rattle.checking.proofs.check.walk.Kinds as walk-kinds
 use Rattle.checking.proofs.check.+walk.Lts-walk as walk-lts
 use Rattle.checking.proofs.check.step.Reads as step-reads
-use Rattle.checking.proofs.listed.prepare.Reads as prepare-reads
-use Rattle.checking.proofs.scope.push.Reads as push-reads
+use Rattle.scopes.proofs.listed.prepare.Reads as prepare-reads
+use Rattle.scopes.proofs.scope.push.Reads as push-reads
 use Rattle.checking.proofs.check.+walk.{statement}
 use Rattle.checking.proofs.check.+walk.Tie.{close}
 

@@ -2,9 +2,9 @@
 use Prim.Native.Nat.{_+_}
 use mathlib.Core.Path.{sym, ap, ap₂, _∙_}
 use native.Mathlib.Omega.{arith}
-use Rattle.checking.specs.Scopes.{scope}
+use Rattle.scopes.specs.Scopes.{scope}
 use Rattle.checking.specs.Checks.{varIn, wantIn, plusIn, leafIn, turnIn}
-use Rattle.formula.proofs.Heads.{told}
+use Rattle.records.proofs.Heads.{told}
 use Rattle.checking.proofs.check.step.Statement.{statement}
 use Rattle.checking.proofs.check.step.Tie as tie
 

@@ -3,7 +3,7 @@ use Prim.Native.Nat.{_+_}
 use mathlib.Core.Path.{sym, ap, _∙_}
 use native.Mathlib.Omega.{arith}
 use Rattle.formula.specs.Reading.{askedOf}
-use Rattle.formula.proofs.Heads.{told}
+use Rattle.records.proofs.Heads.{told}
 use borrow.Author.Needs.{needs}
 use Rattle.formula.proofs.read.asked.Statement.{statement}
 use Rattle.formula.proofs.read.asked.Tie as tie

@@ -5,15 +5,6 @@ use lib.ListN.{length, take}
 use Rattle.decimals.specs.Writing.{Writes}
 use Rattle.decimals.proofs.Stores.{writes-nothing}
 use Rattle.lines.proofs.Writing.{writes-length, writes-byte, writes-so-far, writes-all}
--- ^ own imports
--- The bytes before i stand written.
-use Prim.Native.Nat.{_≤_, _-_}
-use native.Mathlib.Omega.{arith}
-use lib.ListN.{length, take}
-use lib.Seq.{take-all}
-use Rattle.decimals.specs.Writing.{Writes}
-use Rattle.decimals.proofs.Stores.{writes-nothing}
-use Rattle.lines.proofs.Writing.{writes-length, writes-byte}
 use Rattle.lines.proofs.pieces.put_bytes.Statement.{statement}
 use Rattle.lines.proofs.pieces.put_bytes.Tie as tie
 use Rattle.lines.proofs.pieces.put_bytes.Reads as reads

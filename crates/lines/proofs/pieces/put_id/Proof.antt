@@ -1,9 +1,6 @@
 -- An `s`, and the number.
-use native.Mathlib.Omega.{arith}
 use borrow.Author.Needs.{needs}
 use Rattle.decimals.proofs.Stores.{writes-then}
--- ^ own imports
-use borrow.Author.Needs.{needs}
 use Rattle.lines.proofs.pieces.put_id.Statement.{statement}
 use Rattle.lines.proofs.pieces.put_id.Tie as tie
 use Rattle.lines.proofs.pieces.put_id.Reads as reads

@@ -6,8 +6,6 @@ use Rattle.snesl.specs.Listing.{idText}
 use Rattle.decimals.proofs.Stores.{writes-then}
 use Rattle.lines.specs.Pieces.{nextText}
 use Rattle.lines.proofs.Writing.{countable-of, countable-next, writes-of}
--- ^ own imports
-use borrow.Author.Needs.{needs}
 use Rattle.lines.proofs.pieces.put_next.Statement.{statement}
 use Rattle.lines.proofs.pieces.put_next.Tie as tie
 use Rattle.lines.proofs.pieces.put_next.Reads as reads

@@ -1,12 +1,10 @@
 -- i inputs are entered.
 use native.Mathlib.Omega.{arith}
-use Prim.Native.Nat.{_+_, _-_, _*_, _≤_}
-use mathlib.Core.Path.{refl, _∙_}
-use lib.ListN.{getD}
+use Prim.Native.Nat.{_-_, _≤_}
+use mathlib.Core.Path.{refl}
 use Rattle.lister.specs.Inputs.{Declares}
 use Rattle.lister.proofs.Declaring as declaring
 use Rattle.lister.proofs.Declaring.{Entering}
--- ^ own imports
 use Rattle.lister.proofs.inputs.enter_inputs.Statement.{statement}
 use Rattle.lister.proofs.inputs.enter_inputs.Tie as tie
 use Rattle.lister.proofs.inputs.enter_inputs.Reads as reads

@@ -1,8 +1,7 @@
 -- i places are put.
 use native.Mathlib.Omega.{arith}
-use Prim.Native.Nat.{_+_, _-_, _*_, _≤_}
+use Prim.Native.Nat.{_+_, _-_, _≤_}
 use Rattle.lister.proofs.Runs.{Putting, put-none, put-length, put-one, put-all}
--- ^ own imports
 use Rattle.lister.proofs.inputs.put_places.Statement.{statement}
 use Rattle.lister.proofs.inputs.put_places.Tie as tie
 use Rattle.lister.proofs.inputs.put_places.Reads as reads

@@ -2,8 +2,6 @@
 use borrow.Author.Needs.{needs}
 use mathlib.Core.Path.{sym, _∙_}
 use Rattle.lister.proofs.Listing.{refused-listing, unread-listing, refused-text, found}
--- ^ own imports
-use borrow.Author.Needs.{needs}
 use Rattle.lister.proofs.list.list.Statement.{statement}
 use Rattle.lister.proofs.list.list.Tie as tie
 use Rattle.lister.proofs.list.list.Reads as reads

@@ -1,10 +1,7 @@
 -- Measured first on an empty part of the slice, and written if there is room.
-use native.Mathlib.Omega.{arith}
 use borrow.Author.Needs.{needs}
-use mathlib.Core.Path.{refl, _∙_}
+use mathlib.Core.Path.{refl}
 use Rattle.lister.proofs.Listing as listings
--- ^ own imports
-use borrow.Author.Needs.{needs}
 use Rattle.lister.proofs.list.list_found.Statement.{statement}
 use Rattle.lister.proofs.list.list_found.Tie as tie
 use Rattle.lister.proofs.list.list_found.Reads as reads

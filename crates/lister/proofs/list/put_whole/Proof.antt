@@ -2,13 +2,11 @@
 use native.Mathlib.Omega.{arith}
 use borrow.Author.Needs.{needs}
 use Rattle.lister.proofs.Wholes as wholes
--- ^ own imports
-use borrow.Author.Needs.{needs}
 use Rattle.lister.proofs.list.put_whole.Statement.{statement}
 use Rattle.lister.proofs.list.put_whole.Tie as tie
 use Rattle.lister.proofs.list.put_whole.Reads as reads
 use Rattle.lister.proofs.list.put_whole.Lts as lts
-use Rattle.bindings.proofs.ids.put_tree.Reads as put-tree-reads
+use Rattle.treeids.proofs.put_tree.Reads as put-tree-reads
 use Rattle.lines.proofs.pieces.put_bytes.Reads as put-bytes-reads
 use Rattle.decimals.proofs.numbers.put.Reads as put-reads
 use Rattle.walker.proofs.walk.walk.Reads as walk-reads

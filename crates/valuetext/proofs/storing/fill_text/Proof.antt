@@ -12,19 +12,21 @@ slice-aggregate-starts : tie.Need-slice-aggregate-starts
 slice-aggregate-starts c = search needs
 
 starts-requires : tie.Need-starts-requires
-starts-requires c κs = fill-starts (c .before .before .before .pre) (omega (arith, c .before .before .before .good .1 .1 .1 .1 .0 .1))
+starts-requires c κs =
+    let h = fill-starts (c .before .before .before .pre) (omega (arith, c .before .before .before .good .1 .1 .1 .1 .0 .1)) in
+    (h .0, omega (arith, h .1))
 
 slice-aggregate-read-item : tie.Need-slice-aggregate-read-item
 slice-aggregate-read-item c = search needs
 
 read-item-requires : tie.Need-read-item-requires
-read-item-requires c κs = fill-ready (c .before .before .before .before .before .before .before .pre) (c .before .before .before .starts .last .1 .1 .1 .0) (c .before .before .before .starts .ensures) (c .before .before .before .starts .kept .1 .1 .1 .0) (omega (arith, c .before .before .before .before .before .before .before .good .0 .1)) (omega (arith, c .before .before .before .before .before .before .before .good .1 .1 .1 .1 .0 .1))
+read-item-requires c κs = fill-ready (c .before .before .before .before .before .before .before .pre) (c .before .before .before .starts .last .1 .1 .1 .0) (c .before .before .before .starts .ensures .0) (c .before .before .before .starts .kept .1 .1 .1 .0) (omega (arith, c .before .before .before .before .before .before .before .good .0 .1)) (omega (arith, c .before .before .before .before .before .before .before .good .1 .1 .1 .1 .0 .1))
 
 same-length : tie.Need-same-length
 same-length c = search needs
 
 returns : tie.Need-returns
-returns c = filled (c .before .before .before .before .before .before .before .before .before .before .pre) (c .before .before .before .before .before .before .starts .last .1 .1 .1 .0) (c .before .before .before .before .before .before .starts .ensures) (c .before .before .read-item .ensures)
+returns c = filled (c .before .before .before .before .before .before .before .before .before .before .pre) (c .before .before .before .before .before .before .starts .last .1 .1 .1 .0) (c .before .before .before .before .before .before .starts .ensures .0) (c .before .before .read-item .ensures)
 
 pub fill-text-spec : {M : Type 1} → statement M
 fill-text-spec =

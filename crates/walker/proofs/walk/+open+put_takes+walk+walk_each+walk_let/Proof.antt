@@ -5,7 +5,7 @@ use mathlib.Core.Path.{_≡_, refl, sym, _∙_}
 use mathlib.Core.Logic.{inl}
 use lib.ListN.{length}
 use borrow.Author.Needs.{needs}
-use Rattle.formula.proofs.Heads.{told}
+use Rattle.records.proofs.Heads.{told}
 use Rattle.lines.proofs.Writing.{writes-length}
 use Rattle.walker.specs.Walking.{Ready, TakesReady}
 use Rattle.walker.proofs.Leaves as leaves
@@ -13,7 +13,6 @@ use Rattle.walker.proofs.Lets as lets
 use Rattle.walker.proofs.Eaches as eaches
 use Rattle.walker.proofs.Surveys as surveys
 use Rattle.walker.proofs.Surveys.{Taking}
--- ^ own imports
 use Prim.Native.Nat.{ℕ, _<_, _+_, _*_, _-_}
 use borrow.Fn.Kinds.{In}
 use borrow.Fn.PlainCycle.{Measures, is, falls, and}
@@ -32,8 +31,8 @@ use Rattle.walker.proofs.walk.+open+put_takes+walk+walk_each+walk_let.L
 use Rattle.walker.proofs.walk.walk_let.Reads as walk-let
 use Rattle.walker.proofs.walk.walk_let.Kinds as walk-let-kinds
 use Rattle.walker.proofs.walk.+open+put_takes+walk+walk_each+walk_let.Lts-walk_let as walk-let-lts
-use Rattle.bindings.proofs.entering.enter.Reads as enter-reads
-use Rattle.bindings.proofs.ids.put_outs.Reads as put-outs-reads
+use Rattle.entering.proofs.enter.Reads as enter-reads
+use Rattle.treeids.proofs.put_outs.Reads as put-outs-reads
 use Rattle.bindings.proofs.operands.plus_of.Reads as plus-of-reads
 use Rattle.bindings.proofs.operands.sum_of.Reads as sum-of-reads
 use Rattle.bindings.proofs.trees.copy_tree.Reads as copy-tree-reads
@@ -41,8 +40,8 @@ use Rattle.bindings.proofs.trees.int_tree.Reads as int-tree-reads
 use Rattle.bindings.proofs.trees.iota_tree.Reads as iota-tree-reads
 use Rattle.environment.proofs.move_words.Reads as move-words-reads
 use Rattle.environment.proofs.put_name.Reads as put-name-reads
-use Rattle.formula.proofs.head.head_at.Reads as head-at-reads
-use Rattle.lines.proofs.instructions.put_instruction.Reads as put-instruction-reads
+use Rattle.records.proofs.head.head_at.Reads as head-at-reads
+use Rattle.instructions.proofs.put_instruction.Reads as put-instruction-reads
 use Rattle.lines.proofs.pieces.put_bytes.Reads as put-bytes-reads
 use Rattle.lines.proofs.pieces.put_next.Reads as put-next-reads
 use Rattle.telling.proofs.close.Reads as close-reads

@@ -22,7 +22,7 @@ use Rattle.laws.proofs.Parts.{length-part, part-end}
 use Rattle.laws.proofs.Whole.{mag-sum, read, wide, fits-wide, narrow-fits, narrow-out}
 use Rattle.snesl.specs.Streams.{ints}
 use Rattle.snesl.specs.Transducers.{eachF, flagOf, misfit, sums, firstOutside, outside, sumPlus}
-use Rattle.streams.specs.Answers.{mostElements}
+use Rattle.streams.specs.Answers.{widestBuffer}
 use Rattle.streams.specs.Walks.{Walked, steps, counted, told, refused}
 use Rattle.streams.specs.declared.fit.Misfit.{Misfit}
 use Rattle.streams.specs.declared.fit.Turn.{Turn}
@@ -35,7 +35,7 @@ use Rattle.streams.proofs.Turns.{stepped, steps-false, steps-true, misfit-false
 
 pub record Head (old : List ℤ) (out n fat flen at len : ℕ) (buf : List ℤ) (i j k : ℕ) (t : ℤ) : Type 0 where
   pub operands : Operands old out fat flen at len
-  pub most : length old ≤ mostElements
+  pub most : length old ≤ widestBuffer
   pub same : length buf ≡ length old
   pub flags : i ≤ flen
   pub items : j ≤ len
@@ -49,7 +49,7 @@ pub record Head (old : List ℤ) (out n fat flen at len : ℕ) (buf : List ℤ) 
       (values (sums flagOf k t (drop i (part fat flen old)) (drop j (part at len old)))) k
 
 pub begin : {old : List ℤ} {out n fat flen at len : ℕ} →
-    (fat + flen ≤ out) × (at + len ≤ out) × (out ≤ length old) × (length old ≤ mostElements) → Head old out n fat flen at len old 0 0 0 (pos 0)
+    (fat + flen ≤ out) × (at + len ≤ out) × (out ≤ length old) × (length old ≤ widestBuffer) → Head old out n fat flen at len old 0 0 0 (pos 0)
 begin {old} {out} {n} {fat} {flen} {at} {len} p =
     let e : n ≡ n - 0 = omega arith in
     record {

@@ -1,0 +1,240 @@
+-- A using list in the bytes, read from its first variable on, and its scope, written from its last one back.
+use Prim.Native.Nat.{ℕ, zero, suc, _+_, _-_, _*_, _≤_, _<_}
+use mathlib.Core.Bool.{Bool, true, false, _&&_, _||_, not}
+use mathlib.Core.List.{List, [], _∷_}
+use mathlib.Core.Path.{_≡_, refl, sym, ap, ap₂, _∙_}
+use native.Mathlib.Omega.{arith}
+use lib.Dec.{ltb}
+use lib.ListN.{length, take}
+use lib.Seq.{take-take}
+use borrow.Author.Tests.{eq-eqb, ne-eqb, lt-ltb, le-ltb}
+use Rattle.snesl.specs.declared.code.Variable.{Variable}
+use Rattle.snesl.specs.Checking.{same, names}
+use Rattle.snesl.specs.Records.{variableAt, variablesAt}
+use Rattle.snesl.specs.declared.refusal.Refusal.the-variants.{Unbound, WrongType}
+use Rattle.scopes.specs.declared.scope.Kind.{Kind}
+use Rattle.scopes.specs.declared.scope.Kind.the-variants.{Missing, Depth}
+use Rattle.scopes.specs.Scopes.{depthIn, Pushed}
+use Rattle.scopes.specs.UsingLists.{isBoundIn, isIntIn, firstUsable, usableIn, intsIn, listedWords, Listed, Body, stop as stopped, inside, sequenceIn, eachIn, Inside}
+use Rattle.records.proofs.Variables.{length-variables}
+
+module _ (t : List ℕ) where
+  -- the first variable of a row
+  pub row : (k j : ℕ) → 0 < j → variablesAt t k j ≡ variableAt t k ∷ variablesAt t (k + 1) (j - 1)
+  unfolding variablesAt
+  row k zero h = absurd (omega arith)
+  row k (suc j) h =
+      let one : suc k ≡ k + 1 = omega arith in
+      let less : j ≡ suc j - 1 = omega arith in
+      ap₂ (λ a b. variableAt t k ∷ variablesAt t a b) one less
+
+  pub row-none : (k j : ℕ) → j ≡ 0 → variablesAt t k j ≡ []
+  unfolding variablesAt
+  row-none k j e = ap (variablesAt t k) e
+
+  -- f of a row is f of what follows its first i variables
+  module _ (f : List Variable → Bool) (k j : ℕ) where
+    pub record Passing (i : ℕ) : Type 0 where
+      pub within : i ≤ j
+      pub left : f (variablesAt t k j) ≡ f (variablesAt t (k + i) (j - i))
+
+    pub start : Passing 0
+    start =
+        record {
+          within = omega arith;
+          left =
+              (let zero-less : k ≡ k + 0 = omega arith in
+              let same-count : j ≡ j - 0 = omega arith in
+              ap₂ (λ a b. f (variablesAt t a b)) zero-less same-count);
+        }
+
+    module _ {i : ℕ} (p : Passing i) where
+      first : i < j → f (variablesAt t k j) ≡ f (variableAt t (k + i) ∷ variablesAt t (k + i + 1) (j - i - 1))
+      first h = p .left ∙ ap f (row (k + i) (j - i) (omega arith))
+
+      pub turn :
+          i < j
+          → f (variableAt t (k + i) ∷ variablesAt t (k + i + 1) (j - i - 1)) ≡ f (variablesAt t (k + i + 1) (j - i - 1))
+          → Passing (i + 1)
+      turn h e =
+          record {
+            within = omega arith;
+            left =
+                (let on : k + i + 1 ≡ k + (i + 1) = omega arith in
+                let less : j - i - 1 ≡ j - (i + 1) = omega arith in
+                first h ∙ (e ∙ ap₂ (λ a b. f (variablesAt t a b)) on less));
+          }
+
+      pub stop : i < j → (b : Bool) → f (variableAt t (k + i) ∷ variablesAt t (k + i + 1) (j - i - 1)) ≡ b → b ≡ f (variablesAt t k j)
+      stop h b e = sym (first h ∙ e)
+
+      pub done : j ≤ i → f [] ≡ f (variablesAt t k j)
+      done h = sym (p .left ∙ ap f (row-none (k + i) (j - i) (omega arith)))
+
+pub names-hit : (u y : Variable) (ys : List Variable) → y .0 ≡ u .0 → names u (y ∷ ys) ≡ true
+unfolding names
+names-hit u y ys e = ap (λ b. b || names u ys) (eq-eqb (u .0) (y .0) (sym e))
+
+pub names-miss : (u y : Variable) (ys : List Variable) → (y .0 ≡ u .0 → ⊥) → names u (y ∷ ys) ≡ names u ys
+unfolding names
+names-miss u y ys n = ap (λ b. b || names u ys) (ne-eqb (u .0) (y .0) (λ q. n (sym q)))
+
+pub names-none : (u : Variable) → names u [] ≡ false
+unfolding names
+names-none u = refl
+
+-- the first variable of a list, by its tests in turn
+module _ (w : List ℕ) (x u : Variable) (us : List Variable) where
+  pub first-missing : depthIn (u .0) w ≡ Missing → false ≡ firstUsable w x u us
+  first-missing e = sym (ap (λ k. isBoundIn k && (not (same x u) && not (names u us))) e)
+
+  module _ (d : ℕ) (e : depthIn (u .0) w ≡ Depth d) where
+    bound : firstUsable w x u us ≡ (not (same x u) && not (names u us))
+    bound = ap (λ k. isBoundIn k && (not (same x u) && not (names u us))) e
+
+    pub first-x : x .0 ≡ u .0 → false ≡ firstUsable w x u us
+    first-x q = sym (bound ∙ ap (λ b. not b && not (names u us)) (eq-eqb (x .0) (u .0) q))
+
+    pub first-once : (x .0 ≡ u .0 → ⊥) → (b : Bool) → names u us ≡ b → not b ≡ firstUsable w x u us
+    first-once n b q = sym (bound ∙ (ap (λ b. not b && not (names u us)) (ne-eqb (x .0) (u .0) n) ∙ ap not q))
+
+module _ (w : List ℕ) (x : Variable) where
+  pub usable-on : (u : Variable) (us : List Variable) → firstUsable w x u us ≡ true → usableIn w x (u ∷ us) ≡ usableIn w x us
+  unfolding usableIn
+  usable-on u us e = ap (λ b. b && usableIn w x us) e
+
+  pub usable-off : (u : Variable) (us : List Variable) → firstUsable w x u us ≡ false → usableIn w x (u ∷ us) ≡ false
+  unfolding usableIn
+  usable-off u us e = ap (λ b. b && usableIn w x us) e
+
+  pub usable-none : usableIn w x [] ≡ true
+  unfolding usableIn
+  usable-none = refl
+
+module _ (w : List ℕ) where
+  pub ints-on : (u : Variable) (us : List Variable) (d : ℕ) → depthIn (u .0) w ≡ Depth d → d ≡ 0 → intsIn w (u ∷ us) ≡ intsIn w us
+  unfolding intsIn
+  ints-on u us d e z = ap (λ k. isIntIn k && intsIn w us) e ∙ ap (λ b. b && intsIn w us) (eq-eqb d 0 z)
+
+  pub ints-off : (u : Variable) (us : List Variable) (d : ℕ) → depthIn (u .0) w ≡ Depth d → (d ≡ 0 → ⊥) → intsIn w (u ∷ us) ≡ false
+  unfolding intsIn
+  ints-off u us d e n = ap (λ k. isIntIn k && intsIn w us) e ∙ ap (λ b. b && intsIn w us) (ne-eqb d 0 n)
+
+  pub ints-missing : (u : Variable) (us : List Variable) → depthIn (u .0) w ≡ Missing → intsIn w (u ∷ us) ≡ false
+  unfolding intsIn
+  ints-missing u us e = ap (λ k. isIntIn k && intsIn w us) e
+
+  pub ints-none : intsIn w [] ≡ true
+  unfolding intsIn
+  ints-none = refl
+
+pub length-words : (us : List Variable) → length (listedWords us) ≡ 2 * length us
+unfolding listedWords
+length-words [] = refl
+length-words (u ∷ us) = let h = length-words us in omega arith
+
+-- what is the same below a place is so below a lower one
+less-below : (a b : List ℕ) (i j : ℕ) → i ≤ j → take j a ≡ take j b → take i a ≡ take i b
+less-below a b i j h e = sym (take-take i j a h) ∙ ap (take i) e ∙ take-take i j b h
+
+-- the listed variables behind the first `left` stand below sp
+pub record Pushing (t : List ℕ) (at count sp : ℕ) (old env : List ℕ) (left top : ℕ) : Type 0 where
+  pub within : left ≤ count
+  pub listed : Listed (variablesAt t (at + left) (count - left)) sp old env top
+  pub room : top + 2 * (count - left) ≡ sp
+  pub long : length env ≡ length old
+
+module _ (t : List ℕ) (at count sp : ℕ) (old : List ℕ) where
+  pub push-start : Pushing t at count sp old old count sp
+  unfolding listedWords
+  push-start =
+      record {
+        within = omega arith;
+        listed =
+            (let none : variablesAt t (at + count) (count - count) ≡ [] = row-none t (at + count) (count - count) (omega arith) in
+            rw none (record { at = omega arith; below = refl; words = refl }));
+        room = omega arith;
+        long = refl;
+      }
+
+  module _ {env : List ℕ} {left top : ℕ} (p : Pushing t at count sp old env left top) where
+    pub push-turn :
+        0 < left → (new : List ℕ) (r : ℕ) → Pushed env top (variableAt t (at + (left - 1)) .0) 0 new r → length new ≡ length env
+        → Pushing t at count sp old new (left - 1) r
+    unfolding listedWords
+    push-turn h new r q l =
+        record {
+          within = omega arith;
+          listed = rw one (record { at = omega (arith, q .at, p .listed .at); below = q .below ∙ less-below env old r top (omega (arith, q .at)) (p .listed .below); words = q .words ∙ ap (λ z. v ∷ 0 ∷ z) (p .listed .words) });
+          room = omega (arith, q .at, p .room);
+          long = l ∙ p .long;
+        }
+      where
+        v : ℕ
+        v = variableAt t (at + (left - 1)) .0
+
+        one : variablesAt t (at + (left - 1)) (count - (left - 1)) ≡ variableAt t (at + (left - 1)) ∷ variablesAt t (at + left) (count - left)
+        one =
+            let on : at + (left - 1) + 1 ≡ at + left = omega arith in
+            let less : count - (left - 1) - 1 ≡ count - left = omega arith in
+            row t (at + (left - 1)) (count - (left - 1)) (omega arith)
+            ∙ ap₂ (λ a b. variableAt t (at + (left - 1)) ∷ variablesAt t a b) on less
+
+    pub push-done : left ≤ 0 → Listed (variablesAt t at count) sp old env top
+    push-done h =
+        let here : at + left ≡ at = omega arith in
+        let all : count - left ≡ count = omega arith in
+        let whole : variablesAt t (at + left) (count - left) ≡ variablesAt t at count = ap₂ (variablesAt t) here all in
+        rw whole at (p .listed)
+
+-- an EA record up to its body, by its tests in turn
+module _ (w : List ℕ) (p : ℕ) (x y : Variable) (us : List Variable) where
+  abbrev of-kind : Kind → Body
+  of-kind k = elim (isBoundIn k && usableIn w x us) [ true ↦ sequenceIn w p x us k | false ↦ stopped (Unbound p) ]
+
+  of-y : {k : Kind} → depthIn (y .0) w ≡ k → eachIn w p x y us ≡ of-kind k
+  unfolding eachIn
+  of-y e = ap of-kind e
+
+  pub each-unbound : depthIn (y .0) w ≡ Missing → eachIn w p x y us ≡ stopped (Unbound p)
+  each-unbound e = of-y e
+
+  module _ (d : ℕ) (e : depthIn (y .0) w ≡ Depth d) where
+    by-names : {b : Bool} → usableIn w x us ≡ b → eachIn w p x y us ≡ elim b [ true ↦ sequenceIn w p x us (Depth d) | false ↦ stopped (Unbound p) ]
+    by-names q = of-y e ∙ ap (λ (b : Bool). elim b as (λ z. Body) [ true ↦ sequenceIn w p x us (Depth d) | false ↦ stopped (Unbound p) ]) q
+
+    pub each-unusable : usableIn w x us ≡ false → eachIn w p x y us ≡ stopped (Unbound p)
+    each-unusable q = by-names q
+
+    module _ (q : usableIn w x us ≡ true) where
+      by-types :
+          {b c : Bool} → ltb 0 d ≡ b → intsIn w us ≡ c
+          → eachIn w p x y us ≡ elim (b && c) [ true ↦ inside (x .0 ∷ (d - 1) ∷ listedWords us) | false ↦ stopped (WrongType p) ]
+      by-types u v =
+          by-names q
+          ∙ ap₂ (λ (b c : Bool). elim (b && c) as (λ z. Body) [ true ↦ inside (x .0 ∷ (d - 1) ∷ listedWords us) | false ↦ stopped (WrongType p) ])
+          u v
+
+      pub each-int : d ≤ 0 → eachIn w p x y us ≡ stopped (WrongType p)
+      each-int h = by-types (le-ltb 0 d h) refl
+
+      pub each-types : 0 < d → intsIn w us ≡ false → eachIn w p x y us ≡ stopped (WrongType p)
+      each-types h i = by-types (lt-ltb 0 d h) i
+
+      pub each-inside :
+          0 < d → intsIn w us ≡ true → {sp top r : ℕ} {old mid new : List ℕ} → Listed us sp old mid top → Pushed mid top (x .0) (d - 1) new r
+          → Inside (eachIn w p x y us) sp old new r
+      each-inside h i {top = top} {r = r} {old = old} {mid = mid} l m =
+          record {
+            pairs = x .0 ∷ (d - 1) ∷ listedWords us;
+            is = by-types (lt-ltb 0 d h) i;
+            at = omega (arith, l .at, m .at);
+            below = m .below ∙ less-below mid old r top (omega (arith, m .at)) (l .below);
+            words = m .words ∙ ap (λ z. x .0 ∷ (d - 1) ∷ z) (l .words);
+          }
+
+-- below the listed variables there is room for x
+pub room-left : (t : List ℕ) (k j sp : ℕ) (old new : List ℕ) (r : ℕ) → Listed (variablesAt t k j) sp old new r → 2 * (1 + j) ≤ sp → (2 ≤ r) × (r ≤ sp)
+room-left t k j sp old new r l h =
+    let n : length (listedWords (variablesAt t k j)) ≡ 2 * j = length-words (variablesAt t k j) ∙ ap (λ z. 2 * z) (length-variables t k j) in
+    (omega (arith, l .at), omega (arith, l .at))

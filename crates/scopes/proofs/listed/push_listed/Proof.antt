@@ -1,0 +1,55 @@
+-- Each turn puts one listed variable before those that stand there.
+use mathlib.Core.Path.{sym, _∙_}
+use native.Mathlib.Omega.{arith}
+use Rattle.scopes.proofs.Listing.{Pushing, push-start, push-turn, push-done}
+use Rattle.scopes.proofs.listed.push_listed.Statement.{statement}
+use Rattle.scopes.proofs.listed.push_listed.Tie as tie
+
+abbrev Inv-loop : tie.InvT-loop
+Inv-loop bytes at count env₀ sp left₀ top₀ env left top = Pushing bytes at count sp env₀ env left top
+
+abbrev μ-loop : tie.MeasureT-loop
+μ-loop bytes at count env₀ sp left₀ top₀ env left top = left
+
+loop-holds : tie.Need-loop-holds Inv-loop μ-loop
+loop-holds c = push-start _ _ _ _ _
+
+sub-left : tie.Need-sub-left Inv-loop μ-loop
+sub-left c = omega arith
+
+add-t11 : tie.Need-add-t11 Inv-loop μ-loop
+add-t11 c = omega arith
+
+shared-slice-read-t13 : tie.Need-shared-slice-read-t13 Inv-loop μ-loop
+shared-slice-read-t13 c = omega arith
+
+push-requires : tie.Need-push-requires Inv-loop μ-loop
+push-requires c κs = omega arith
+
+loop-less : tie.Need-loop-less Inv-loop μ-loop
+loop-less c = omega arith
+
+loop-again : tie.Need-loop-again Inv-loop μ-loop
+loop-again c = push-turn _ _ _ _ _ (c .before .before .before .before .before .before .loop .inv) (c .before .before .before .before .before .loop-test .taken) _ _ (c .before .before .push .ensures) (c .before .before .push .kept .0)
+
+same-length : tie.Need-same-length Inv-loop μ-loop
+same-length c = c .before .loop .inv .long
+
+returns : tie.Need-returns Inv-loop μ-loop
+returns c = push-done _ _ _ _ _ (c .before .loop .inv) (c .loop-test .left)
+
+pub push-listed-spec : {M : Type 1} → statement M
+push-listed-spec =
+    tie.close
+    (tie.spec
+    Inv-loop
+    μ-loop
+    loop-holds
+    sub-left
+    add-t11
+    shared-slice-read-t13
+    push-requires
+    loop-less
+    loop-again
+    same-length
+    returns)

@@ -1,0 +1,156 @@
+// A comprehension's using list, and the scope of its body: x and the listed variables, nothing else.
+use crate::scope::Kind;
+use crate::scope::look;
+use crate::scope::push;
+use snesl::code::Variable;
+use snesl::refusal::Refusal;
+ghost use mathlib.Core.Path.{_≡_};
+ghost use mathlib.Core.List.{_++_};
+ghost use Prim.Native.Nat.{_+_, _-_, _*_, _≤_, _<_};
+ghost use lib.ListN.{length, drop};
+ghost use Rattle.snesl.specs.Checking.{names};
+ghost use Rattle.snesl.specs.Records.{variableAt, variablesAt};
+ghost use Rattle.scopes.specs.Scopes.{scope};
+ghost use Rattle.scopes.specs.UsingLists.{firstUsable, usableIn, intsIn, listedWords, Listed, eachIn, Prepares};
+
+// What an EA record says before its body: a refusal, or where the body's scope starts; its floor is the scope outside.
+pub enum Prepared {
+    Refused(Refusal),
+    Scope(usize),
+}
+
+// Is the name among the variables of these bytes?
+fn named(bytes: &[u8], from: usize, count: usize, u: Variable) -> bool
+    requires { ⌜ from + count ≤ length (now bytes) ⌝ }
+    ensures { λ r. ⌜ r ≡ names u (variablesAt (now (bytes .entry)) from count) ⌝ }
+{
+    let name = u.0;
+    let mut i = 0;
+    while i < count {
+        if bytes[from + i] == name {
+            return true;
+        }
+        i += 1;
+    }
+    false
+}
+
+// Is the first of `left` listed variables bound, not x, and not listed again?
+fn first_usable(
+    bytes: &[u8],
+    at: usize,
+    left: usize,
+    env: &[u8],
+    x: Variable,
+    sp: usize,
+    floor: usize,
+) -> bool
+    requires { ⌜ (0 < left) × (at + left ≤ length (now bytes)) ⌝ ∗ ⌜ (sp ≤ floor) × (floor ≤ length (now env)) ⌝ }
+    ensures { λ r. ⌜ r ≡ firstUsable (scope sp floor (now (env .entry))) x (variableAt (now (bytes .entry)) at) (variablesAt (now (bytes .entry)) (at + 1) (left - 1)) ⌝ }
+{
+    let u = Variable(bytes[at]);
+    match look(env, u, sp, floor) {
+        Kind::Missing => false,
+        Kind::Depth(_) => {
+            if x.0 == u.0 {
+                return false;
+            }
+            if named(bytes, at + 1, left - 1, u) {
+                return false;
+            }
+            true
+        }
+    }
+}
+
+// Is each listed variable bound, once, and not x?
+fn usable(
+    bytes: &[u8],
+    at: usize,
+    count: usize,
+    env: &[u8],
+    x: Variable,
+    sp: usize,
+    floor: usize,
+) -> bool
+    requires { ⌜ at + count ≤ length (now bytes) ⌝ ∗ ⌜ (sp ≤ floor) × (floor ≤ length (now env)) ⌝ }
+    ensures { λ r. ⌜ r ≡ usableIn (scope sp floor (now (env .entry))) x (variablesAt (now (bytes .entry)) at count) ⌝ }
+{
+    let mut i = 0;
+    while i < count {
+        if first_usable(bytes, at + i, count - i, env, x, sp, floor) {
+            i += 1;
+        } else {
+            return false;
+        }
+    }
+    true
+}
+
+// Is each listed variable an int?
+fn ints(bytes: &[u8], at: usize, count: usize, env: &[u8], sp: usize, floor: usize) -> bool
+    requires { ⌜ at + count ≤ length (now bytes) ⌝ ∗ ⌜ (sp ≤ floor) × (floor ≤ length (now env)) ⌝ }
+    ensures { λ r. ⌜ r ≡ intsIn (scope sp floor (now (env .entry))) (variablesAt (now (bytes .entry)) at count) ⌝ }
+{
+    let mut i = 0;
+    while i < count {
+        match look(env, Variable(bytes[at + i]), sp, floor) {
+            Kind::Missing => {
+                return false;
+            }
+            Kind::Depth(depth) => {
+                if depth == 0 {
+                    i += 1;
+                } else {
+                    return false;
+                }
+            }
+        }
+    }
+    true
+}
+
+// The listed variables, each an int, as a scope below sp.
+fn push_listed(bytes: &[u8], at: usize, count: usize, env: &mut [u8], sp: usize) -> usize
+    requires { ⌜ at + count ≤ length (now bytes) ⌝ ∗ ⌜ (2 * count ≤ sp) × (sp ≤ length (now env)) ⌝ }
+    ensures { λ r. ⌜ Listed (variablesAt (now (bytes .entry)) at count) sp (now (env .entry)) (now (env .exit)) r ⌝ }
+{
+    let mut left = count;
+    let mut top = sp;
+    while 0 < left {
+        left -= 1;
+        top = push(env, top, Variable(bytes[at + left]), 0);
+    }
+    top
+}
+
+// The EA record at k, up to its body.
+pub fn prepare(
+    bytes: &[u8],
+    k: usize,
+    x: Variable,
+    y: Variable,
+    listed: usize,
+    env: &mut [u8],
+    sp: usize,
+    floor: usize,
+) -> Prepared
+    requires { ⌜ k + (5 + listed) ≤ length (now bytes) ⌝ ∗ ⌜ (2 * (1 + listed) ≤ sp) × (sp ≤ floor) × (floor ≤ length (now env)) ⌝ }
+    ensures { λ r. ⌜ Prepares (eachIn (scope sp floor (now (env .entry))) k x y (variablesAt (now (bytes .entry)) (k + 5) listed)) sp (now (env .entry)) (now (env .exit)) r ⌝ }
+{
+    match look(env, y, sp, floor) {
+        Kind::Missing => Prepared::Refused(Refusal::Unbound(k)),
+        Kind::Depth(depth) => {
+            if usable(bytes, k + 5, listed, env, x, sp, floor) {
+                if 0 < depth {
+                    if ints(bytes, k + 5, listed, env, sp, floor) {
+                        let top = push_listed(bytes, k + 5, listed, env, sp);
+                        return Prepared::Scope(push(env, top, x, depth - 1));
+                    }
+                }
+                return Prepared::Refused(Refusal::WrongType(k));
+            }
+            Prepared::Refused(Refusal::Unbound(k))
+        }
+    }
+}

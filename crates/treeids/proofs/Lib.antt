@@ -1,0 +1,2 @@
+pub mod TreeTexts
+pub mod IdSearch

@@ -1,0 +1,31 @@
+-- Ids that stand on the stack: those of a tree, of which the text can be counted on, and any.
+use Prim.Native.Nat.{ℕ, _+_, _*_, _≤_}
+use mathlib.Core.Bool.{true}
+use mathlib.Core.List.{List}
+use mathlib.Core.Path.{_≡_}
+use lib.ListN.{length}
+use Rattle.laws.specs.Parts.{part}
+use Rattle.snesl.specs.Trees.{Tree}
+use Rattle.snesl.specs.Programs.{ascending}
+use Rattle.snesl.specs.Listing.{treeText}
+use Rattle.lines.specs.Counting.{Countable}
+use Rattle.lines.specs.Pieces.{restText}
+use Rattle.telling.specs.Between.{between}
+use Rattle.environment.specs.Words.{treeWords, treeSize}
+use Rattle.bindings.specs.Bindings.{placesOf, idWords}
+
+pub record TreeAt (env : List ℕ) (q d at : ℕ) : Type 0 where
+  pub tree : Tree ℕ d
+  pub words : part q (treeSize d) env ≡ treeWords (placesOf tree)
+  pub within : q + treeSize d ≤ length env
+  pub countable : Countable at (treeText tree)
+
+pub record IdsAt (env : List ℕ) (q count : ℕ) : Type 0 where
+  pub ids : List ℕ
+  pub number : length ids ≡ count
+  pub words : part q (3 * count) env ≡ idWords ids
+  pub within : q + 3 * count ≤ length env
+
+pub record OutsAt (env : List ℕ) (q count lo hi at : ℕ) : Type 0 where
+  pub held : IdsAt env q count
+  pub countable : Countable at (restText true (ascending (between lo hi (held .ids))))
