@@ -2,7 +2,10 @@
 //!
 //! The sheet is a plus and a sum for each stop of each area. Both sides take the same value texts
 //! and give the same answer text; then each is timed without the text. It measures, it judges
-//! nothing: the times are of one run on one computer.
+//! nothing: the times are of one run on one computer. `--calls` only makes calls, for a program
+//! that counts their instructions.
+
+#![forbid(unsafe_code)]
 
 #[cfg(feature = "linked")]
 mod linked;
@@ -22,18 +25,34 @@ pub struct Times {
 
 fn main() -> ExitCode {
     let arguments: Vec<String> = std::env::args().skip(1).collect();
-    let sizes: &[usize] = match arguments.iter().map(String::as_str).collect::<Vec<_>>()[..] {
-        [] => &[1_000],
-        ["--large"] => &[1_000, 10_000],
+    match arguments.iter().map(String::as_str).collect::<Vec<_>>()[..] {
+        [] => report(&Sheet::new(1_000)),
+        ["--large"] => [1_000, 10_000].iter().for_each(|readings| report(&Sheet::new(*readings))),
+        ["--calls", side, count] if calls(side, count).is_some() => {}
         _ => {
-            eprintln!("usage: bench [--large]    with --large also 10,000 readings");
+            eprintln!("usage: bench [--large]            with --large also 10,000 readings");
+            eprintln!("       bench --calls SIDE COUNT   SIDE: walk, walk-alone, library, inputs");
+            eprintln!("                                  or answer");
             return ExitCode::from(2);
         }
-    };
-    for readings in sizes {
-        report(&Sheet::new(*readings));
     }
     ExitCode::SUCCESS
+}
+
+/// Makes so many calls of one side on 1,000 readings.
+fn calls(side: &str, count: &str) -> Option<()> {
+    let count: usize = count.parse().ok()?;
+    let sheet = Sheet::new(1_000);
+    let mut call: Box<dyn FnMut()> = match side {
+        "walk" => walk::call(&sheet),
+        "walk-alone" => walk::call_alone(&sheet),
+        #[cfg(feature = "linked")]
+        _ => linked::call(side, &sheet)?,
+        #[cfg(not(feature = "linked"))]
+        _ => return None,
+    };
+    (0..count).for_each(|_| call());
+    Some(())
 }
 
 fn report(sheet: &Sheet) {
@@ -58,7 +77,10 @@ fn report_library(sheet: &Sheet, answer: &str, walk: &Times) {
             let with_text = ratio(library.with_text, walk.with_text);
             let alone = ratio(library.alone, walk.alone);
             println!("  {:8} {with_text:14.2} text to text {alone:14.2} alone", "ratio");
-            println!("  the library alone is its run less its two conversions of the same values");
+            println!(
+                "  the library alone is its run less one that only reads the inputs, and less"
+            );
+            println!("  the answer's streams to text");
         }
         Err(refusal) => println!("  library  {refusal}"),
     }

@@ -1,11 +1,11 @@
-//! The time of one call: the best mean of some batches, so that other work on the computer counts
-//! little.
+//! The time of one call: the best mean of many short batches, of which some run while nothing else
+//! takes the processor.
 
 use std::hint::black_box;
 use std::time::{Duration, Instant};
 
-const BATCHES: usize = 20;
-const BATCH_TIME: Duration = Duration::from_millis(50);
+const BATCHES: usize = 1_000;
+const BATCH_TIME: Duration = Duration::from_millis(1);
 
 pub fn time_of<Answer>(mut call: impl FnMut() -> Answer) -> Duration {
     let mut best = Duration::MAX;

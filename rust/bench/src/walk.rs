@@ -17,6 +17,20 @@ pub fn times(sheet: &Sheet) -> Times {
     }
 }
 
+/// A call from text to text, and one without the text.
+pub fn call(sheet: &Sheet) -> Box<dyn FnMut() + '_> {
+    Box::new(|| {
+        black_box(from_text_to_text(&sheet.areas_text, &sheet.correction_text));
+    })
+}
+
+pub fn call_alone(sheet: &Sheet) -> Box<dyn FnMut() + '_> {
+    let (areas, correction) = (read_areas(&sheet.areas_text), read_int(&sheet.correction_text));
+    Box::new(move || {
+        black_box(totals(black_box(&areas), black_box(correction)));
+    })
+}
+
 pub fn from_text_to_text(areas: &str, correction: &str) -> String {
     write_totals(&totals(&read_areas(areas), read_int(correction)))
 }

@@ -7,14 +7,15 @@ use std::fmt::{Debug, Write};
 #[cfg(not(feature = "linked"))]
 use crate::written_again as other;
 #[cfg(feature = "linked")]
-use library as other;
+use hailspindle::calls as other;
 
-/// What one side answered: the number, the counts, and every lent buffer afterwards.
-struct Side<const COUNT: usize> {
-    answer: (u64, [u64; COUNT]),
+/// What one side answered: the number, and every lent buffer afterwards.
+struct Side {
+    number: u64,
     numbers: Vec<i32>,
     bytes: Vec<u8>,
     lengths: Vec<usize>,
+    figures: Vec<u64>,
 }
 
 /// The buffers lent to a side, with the same content for both.
@@ -30,11 +31,11 @@ pub fn compare_case(seed: u64) -> Result<u64, String> {
     let case = job_case(seed);
     let sizes = format!("{} elements and {} answer bytes lent", case.elements, case.answer);
     let lent = Lent { numbers: case.elements, bytes: case.answer, lengths: 0 };
-    let answer = compare(
+    let number = compare(
         seed,
         &lent,
-        |side| model::run(&case.job, &mut side.numbers, &mut side.bytes),
-        |side| other::run(&case.job, &mut side.numbers, &mut side.bytes),
+        |side| model::run(&case.job, &mut side.numbers, &mut side.bytes, &mut side.figures),
+        |side| other::run(&case.job, &mut side.numbers, &mut side.bytes, &mut side.figures),
         || format!("run, {sizes}, job {}", hexadecimal(&case.job)),
     )?;
 
@@ -42,8 +43,8 @@ pub fn compare_case(seed: u64) -> Result<u64, String> {
     compare(
         seed,
         &lent,
-        |side| model::list(&case.formula, &mut side.bytes),
-        |side| other::list(&case.formula, &mut side.bytes),
+        |side| model::list(&case.formula, &mut side.bytes, &mut side.figures),
+        |side| other::list(&case.formula, &mut side.bytes, &mut side.figures),
         || format!("list, {} bytes lent, formula {}", case.listing, hexadecimal(&case.formula)),
     )?;
 
@@ -51,20 +52,20 @@ pub fn compare_case(seed: u64) -> Result<u64, String> {
     compare(
         seed,
         &nothing,
-        |_| model::check(&case.formula),
-        |_| other::check(&case.formula),
+        |side| model::check(&case.formula, &mut side.figures),
+        |side| other::check(&case.formula, &mut side.figures),
         || format!("check, formula {}", hexadecimal(&case.formula)),
     )?;
     compare(
         seed,
         &nothing,
-        |_| model::find(&case.job, case.input),
-        |_| other::find(&case.job, case.input),
+        |side| model::find(&case.job, case.input, &mut side.figures),
+        |side| other::find(&case.job, case.input, &mut side.figures),
         || format!("find input {}, job {}", case.input, hexadecimal(&case.job)),
     )?;
 
     compare_conversions(seed)?;
-    Ok(answer >> 32)
+    Ok(number)
 }
 
 fn compare_conversions(seed: u64) -> Result<(), String> {
@@ -73,8 +74,14 @@ fn compare_conversions(seed: u64) -> Result<(), String> {
     compare(
         seed,
         &lent,
-        |side| model::text_to_streams(&case.text, case.depth, &mut side.numbers, &mut side.lengths),
-        |side| other::text_to_streams(&case.text, case.depth, &mut side.numbers, &mut side.lengths),
+        |side| {
+            let (elements, lengths) = (&mut side.numbers, &mut side.lengths);
+            model::text_to_streams(&case.text, case.depth, elements, lengths, &mut side.figures)
+        },
+        |side| {
+            let (elements, lengths) = (&mut side.numbers, &mut side.lengths);
+            other::text_to_streams(&case.text, case.depth, elements, lengths, &mut side.figures)
+        },
         || {
             let (depth, elements, lengths) = (case.depth, case.elements, case.lengths);
             let sizes = format!("{elements} elements and {lengths} lengths lent");
@@ -88,8 +95,14 @@ fn compare_conversions(seed: u64) -> Result<(), String> {
     compare(
         seed,
         &lent,
-        |side| model::streams_to_text(elements, lengths, case.depth, &mut side.bytes),
-        |side| other::streams_to_text(elements, lengths, case.depth, &mut side.bytes),
+        |side| {
+            let (answer, figures) = (&mut side.bytes, &mut side.figures);
+            model::streams_to_text(elements, lengths, case.depth, answer, figures)
+        },
+        |side| {
+            let (answer, figures) = (&mut side.bytes, &mut side.figures);
+            other::streams_to_text(elements, lengths, case.depth, answer, figures)
+        },
         || {
             let (depth, answer) = (case.depth, case.answer);
             let sizes = format!("{answer} answer bytes lent");
@@ -108,26 +121,27 @@ pub fn describe_case(seed: u64) -> String {
 }
 
 /// Makes a call on both sides; the number answered, or how the sides differ.
-fn compare<const COUNT: usize>(
+fn compare(
     seed: u64,
     lent: &Lent,
-    model_call: impl Fn(&mut Side<COUNT>) -> (u64, [u64; COUNT]),
-    other_call: impl Fn(&mut Side<COUNT>) -> (u64, [u64; COUNT]),
+    model_call: impl Fn(&mut Side) -> u64,
+    other_call: impl Fn(&mut Side) -> u64,
     describe: impl Fn() -> String,
 ) -> Result<u64, String> {
     let mut model = Side::new(seed, lent);
-    model.answer = model_call(&mut model);
+    model.number = model_call(&mut model);
     let mut other = Side::new(seed, lent);
-    other.answer = other_call(&mut other);
+    other.number = other_call(&mut other);
     let mut report = String::new();
-    if model.answer != other.answer {
+    if model.number != other.number {
         report.push_str("  the answers differ\n");
     }
+    report_difference(&mut report, "figures", &model.figures, &other.figures);
     report_difference(&mut report, "number buffer", &model.numbers, &other.numbers);
     report_difference(&mut report, "byte buffer", &model.bytes, &other.bytes);
     report_difference(&mut report, "length buffer", &model.lengths, &other.lengths);
     if report.is_empty() {
-        return Ok(model.answer.0);
+        return Ok(model.number);
     }
     let (model, other) = (model.describe(), other.describe());
     Err(format!("{}\n{report}  model: {model}\n  other: {other}", describe()))
@@ -145,29 +159,29 @@ fn report_difference<Element: PartialEq + Debug>(
     }
 }
 
-impl<const COUNT: usize> Side<COUNT> {
-    fn new(seed: u64, lent: &Lent) -> Side<COUNT> {
+impl Side {
+    /// The figures lent are none to six, so that some calls have room for all of theirs and more.
+    fn new(seed: u64, lent: &Lent) -> Side {
         let mut random = Random::new(seed);
+        let figures = random.below(7);
         Side {
-            answer: (0, [0; COUNT]),
+            number: 0,
             numbers: (0..lent.numbers).map(|_| random.number() as i32).collect(),
             bytes: (0..lent.bytes).map(|_| random.number() as u8).collect(),
             lengths: (0..lent.lengths).map(|_| random.number() as usize).collect(),
+            figures: (0..figures).map(|_| random.number()).collect(),
         }
     }
 
     fn describe(&self) -> String {
-        let (number, counts) = self.answer;
-        let outcome = match number {
-            0 => "accepted".to_string(),
-            _ => format!("refused {} at {}", number >> 32, number & 0xffff_ffff),
-        };
+        let (number, figures) = (self.number, &self.figures);
         let shown = |text: &[u8]| String::from_utf8_lossy(text).into_owned();
-        let text = match self.bytes.get(..counts[0] as usize) {
-            Some(bytes) if number == 0 && !bytes.is_empty() => format!(", text {}", shown(bytes)),
-            _ => String::new(),
-        };
-        format!("{outcome}, counts {counts:?}{text}")
+        let bytes = figures.first().and_then(|count| self.bytes.get(..*count as usize));
+        match (number, bytes) {
+            (0, Some(bytes)) => format!("accepted, figures {figures:?}, text {}", shown(bytes)),
+            (0, None) => format!("accepted, figures {figures:?}"),
+            _ => format!("refused {number}, figures {figures:?}"),
+        }
     }
 }
 
@@ -189,23 +203,20 @@ mod tests {
     #[test]
     fn a_changed_buffer_is_a_disagreement() {
         let lent = Lent { numbers: 3, bytes: 2, lengths: 0 };
-        let answer = (0, [0]);
-        let write_last = |side: &mut Side<1>| {
+        let write_last = |side: &mut Side| {
             side.numbers[2] ^= 1;
-            answer
+            0
         };
-        let report = compare(9, &lent, |_| answer, write_last, || "call".to_string());
+        let report = compare(9, &lent, |_| 0, write_last, || "call".to_string());
         assert!(report.unwrap_err().contains("number buffer at 2"));
-        assert_eq!(compare(9, &lent, |_| answer, |_| answer, || "call".to_string()), Ok(0));
+        assert_eq!(compare(9, &lent, |_| 0, |_| 0, || "call".to_string()), Ok(0));
     }
 
     #[test]
     fn another_answer_is_a_disagreement() {
         let lent = Lent { numbers: 0, bytes: 0, lengths: 0 };
-        let refused = (8 << 32 | 5, [0]);
-        let report = compare(9, &lent, |_| (0, [4]), |_| refused, || "call".to_string());
-        let report = report.unwrap_err();
-        assert!(report.contains("model: accepted, counts [4]"), "{report}");
-        assert!(report.contains("other: refused 8 at 5, counts [0]"), "{report}");
+        let report = compare(9, &lent, |_| 0, |_| 8, || "call".to_string()).unwrap_err();
+        assert!(report.contains("model: accepted"), "{report}");
+        assert!(report.contains("other: refused 8"), "{report}");
     }
 }

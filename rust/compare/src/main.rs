@@ -5,6 +5,8 @@
 //! bytes and both answers. Without the feature `linked` the other side is the model again, on jobs
 //! written to notation and back.
 
+#![forbid(unsafe_code)]
+
 mod calls;
 mod model;
 #[cfg(not(feature = "linked"))]

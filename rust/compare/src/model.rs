@@ -1,25 +1,25 @@
-//! The model's answers in the form of the library's C functions: a number and the counts.
-//!
-//! The number is 0, or a refusal's number times 2^32 and its place; a refusal's counts are 0.
+//! The model's answers in the form of the library's C functions: a number, and figures written to
+//! a lent slice as far as it goes.
 
 use reference::{lent, Refusal};
 
-pub fn run(job: &[u8], streams: &mut [i32], answer: &mut [u8]) -> (u64, [u64; 4]) {
+pub fn run(job: &[u8], streams: &mut [i32], answer: &mut [u8], figures: &mut [u64]) -> u64 {
     let counts = lent::run(job, streams, answer);
-    coded(counts.map(|counts| [counts.text_bytes, counts.work, counts.steps, counts.room]))
+    let told = counts.map(|counts| [counts.text_bytes, counts.work, counts.steps, counts.room]);
+    reply(told, figures)
 }
 
-pub fn list(formula: &[u8], text: &mut [u8]) -> (u64, [u64; 1]) {
-    coded(lent::list(formula, text).map(|bytes| [bytes]))
+pub fn list(formula: &[u8], text: &mut [u8], figures: &mut [u64]) -> u64 {
+    reply(lent::list(formula, text).map(|bytes| [bytes]), figures)
 }
 
-pub fn check(formula: &[u8]) -> (u64, [u64; 1]) {
-    coded(reference::check(formula).map(|depth| [u64::from(depth)]))
+pub fn check(formula: &[u8], figures: &mut [u64]) -> u64 {
+    reply(reference::check(formula).map(|depth| [u64::from(depth)]), figures)
 }
 
-pub fn find(job: &[u8], input: usize) -> (u64, [u64; 2]) {
+pub fn find(job: &[u8], input: usize, figures: &mut [u64]) -> u64 {
     let part = reference::find(job, input);
-    (0, [part.start as u64, part.len() as u64])
+    reply(Ok([part.start as u64, part.len() as u64]), figures)
 }
 
 pub fn text_to_streams(
@@ -27,8 +27,10 @@ pub fn text_to_streams(
     depth: u8,
     elements: &mut [i32],
     lengths: &mut [usize],
-) -> (u64, [u64; 1]) {
-    coded(lent::text_to_streams(text, depth, elements, lengths).map(|count| [count]))
+    figures: &mut [u64],
+) -> u64 {
+    let count = lent::text_to_streams(text, depth, elements, lengths);
+    reply(count.map(|count| [count]), figures)
 }
 
 pub fn streams_to_text(
@@ -36,13 +38,24 @@ pub fn streams_to_text(
     lengths: &[usize],
     depth: u8,
     answer: &mut [u8],
-) -> (u64, [u64; 1]) {
-    coded(lent::streams_to_text(elements, lengths, depth, answer).map(|bytes| [bytes]))
+    figures: &mut [u64],
+) -> u64 {
+    let bytes = lent::streams_to_text(elements, lengths, depth, answer);
+    reply(bytes.map(|bytes| [bytes]), figures)
 }
 
-fn coded<const COUNT: usize>(answer: Result<[u64; COUNT], Refusal>) -> (u64, [u64; COUNT]) {
-    match answer {
-        Ok(counts) => (0, counts),
-        Err(refusal) => ((u64::from(refusal.number) << 32) + refusal.place, [0; COUNT]),
+/// A refusal's first figure is its place, and the others are 0.
+fn reply<const COUNT: usize>(answer: Result<[u64; COUNT], Refusal>, figures: &mut [u64]) -> u64 {
+    let (number, told) = match answer {
+        Ok(told) => (0, told),
+        Err(refusal) => {
+            let mut told = [0; COUNT];
+            told[0] = refusal.place;
+            (u64::from(refusal.number), told)
+        }
+    };
+    for (figure, value) in figures.iter_mut().zip(told) {
+        *figure = value;
     }
+    number
 }

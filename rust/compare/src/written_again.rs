@@ -6,20 +6,20 @@ use crate::model;
 
 pub use model::{streams_to_text, text_to_streams};
 
-pub fn run(job: &[u8], streams: &mut [i32], answer: &mut [u8]) -> (u64, [u64; 4]) {
-    model::run(&written_again(job), streams, answer)
+pub fn run(job: &[u8], streams: &mut [i32], answer: &mut [u8], figures: &mut [u64]) -> u64 {
+    model::run(&written_again(job), streams, answer, figures)
 }
 
-pub fn list(formula: &[u8], text: &mut [u8]) -> (u64, [u64; 1]) {
-    model::list(&written_again(formula), text)
+pub fn list(formula: &[u8], text: &mut [u8], figures: &mut [u64]) -> u64 {
+    model::list(&written_again(formula), text, figures)
 }
 
-pub fn check(formula: &[u8]) -> (u64, [u64; 1]) {
-    model::check(&written_again(formula))
+pub fn check(formula: &[u8], figures: &mut [u64]) -> u64 {
+    model::check(&written_again(formula), figures)
 }
 
-pub fn find(job: &[u8], input: usize) -> (u64, [u64; 2]) {
-    model::find(&written_again(job), input)
+pub fn find(job: &[u8], input: usize, figures: &mut [u64]) -> u64 {
+    model::find(&written_again(job), input, figures)
 }
 
 /// The same bytes by way of notation; bytes that have no notation stay as they are.

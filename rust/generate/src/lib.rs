@@ -4,6 +4,8 @@
 //! some stand at a limit or one past it. Buffers are lent in the sizes that matter: what the case
 //! needs, one less, one more, none.
 
+#![forbid(unsafe_code)]
+
 mod conversions;
 mod edges;
 mod formulas;

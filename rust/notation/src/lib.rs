@@ -4,6 +4,8 @@
 //! `IN 5 1, IN 6 0, EA 7 5 1 6, PL 7 6`. A job is a formula and one value text for each input. An
 //! error names the record by its number and text and says what is wrong with it.
 
+#![forbid(unsafe_code)]
+
 mod order;
 mod read;
 mod show;

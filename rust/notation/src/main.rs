@@ -1,5 +1,7 @@
 //! The program `notation`: document 01's notation to bytes on standard output, and back.
 
+#![forbid(unsafe_code)]
+
 use notation::NotationError;
 use std::io::{Read, Write};
 use std::process::ExitCode;

@@ -74,10 +74,10 @@ pub fn read_job(bytes: &[u8]) -> Result<Job, Refusal> {
 
 /// The part of the job's bytes that holds the text of an input, numbered from 0.
 ///
-/// It is `0..0` where there is no such input, the job meets 1 to 4, or the text is empty.
+/// It is `0..0` where there is no such input or the job meets 1 to 4.
 pub fn find(job: &[u8], input: usize) -> Range<usize> {
     let part = read_job(job).ok().and_then(|job| job.values.get(input).map(|v| v.text.clone()));
-    part.filter(|text| !text.is_empty()).unwrap_or(0..0)
+    part.unwrap_or(0..0)
 }
 
 struct Reader<'a> {

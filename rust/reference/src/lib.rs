@@ -9,6 +9,8 @@
 //! The functions here answer over sizes lent; those of `lent` answer over the lent buffers
 //! themselves and show what each holds afterwards.
 
+#![forbid(unsafe_code)]
+
 pub mod evaluate;
 pub mod formula;
 pub mod lent;

@@ -1,0 +1,18 @@
+-- What a linked run replies, and what it leaves of what it was lent: all of it is snesl's `outcome` of the job.
+use Prim.Native.Nat.{ℕ}
+use mathlib.Core.List.{List, [], _∷_}
+use mathlib.Core.Path.{_≡_}
+use lib.IntN.{ℤ}
+use lib.ListN.{length}
+use Rattle.snesl.specs.Outcome.{Outcome, refusal, value, outcome, streamsAfter, answerAfter}
+use Rattle.hailspindle.specs.Replies.{Reply, accepts, refuses, noted}
+
+abbrev pub runReply : Outcome → Reply
+runReply (refusal r) = refuses 3 r
+runReply (value text work steps room held) = accepts (length text ∷ work ∷ steps ∷ room ∷ [])
+
+pub record Exact (t : List ℕ) (streams streams′ : List ℤ) (answer answer′ figures figures′ : List ℕ) (r : ℕ) : Type 0 where
+  pub says : r ≡ runReply (outcome t (length streams) (length answer)) .number
+  pub figures-are : figures′ ≡ noted (runReply (outcome t (length streams) (length answer)) .figures) figures
+  pub streams-are : streams′ ≡ streamsAfter streams (outcome t (length streams) (length answer))
+  pub answer-is : answer′ ≡ answerAfter answer (outcome t (length streams) (length answer))

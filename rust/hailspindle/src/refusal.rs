@@ -1,0 +1,127 @@
+//! Why a call has no answer, and where.
+
+use std::fmt;
+
+/// A refusal with its place; document 01's table gives each its number.
+#[derive(Clone, Copy, Debug, PartialEq, Eq)]
+pub enum Refusal {
+    /// 1: over 65,536 bytes.
+    TooLong,
+    /// 2: a record is unknown, misplaced, cut or missing, or bytes are left over; the record's
+    /// offset.
+    NoRecord(u64),
+    /// 3: a variable over 63, a depth over 8 or a using list over 8; the record's offset.
+    OverLimit(u64),
+    /// 4: a 17th input, a 257th expression record or a 65th nesting; the record's offset.
+    TooMany(u64),
+    /// 5: a variable is unbound, an input is declared twice, or a using list repeats a name or
+    /// holds the loop's own; the record's offset.
+    Unbound(u64),
+    /// 6: the types don't fit, or the depth passes 8; the record's offset.
+    WrongType(u64),
+    /// 7: an input's text is no value of its depth; the VA record's offset.
+    NoValueText(u64),
+    /// 8: iota of a negative number, or a result out of range; the id of the stream to be defined.
+    NoValue(u64),
+    /// 9: the stream buffer is too short; the id of the stream that did not fit.
+    NoRoom(u64),
+    /// 10: the text is longer than its buffer; the bytes that it needs.
+    NoAnswerRoom(u64),
+    /// 11: the streams represent no value; the number of the first stream that does not fit.
+    NoRepresentation(u64),
+}
+
+impl Refusal {
+    /// `number` is one of 1 to 11.
+    pub(crate) fn new(number: u64, place: u64) -> Refusal {
+        match number {
+            1 => Refusal::TooLong,
+            2 => Refusal::NoRecord(place),
+            3 => Refusal::OverLimit(place),
+            4 => Refusal::TooMany(place),
+            5 => Refusal::Unbound(place),
+            6 => Refusal::WrongType(place),
+            7 => Refusal::NoValueText(place),
+            8 => Refusal::NoValue(place),
+            9 => Refusal::NoRoom(place),
+            10 => Refusal::NoAnswerRoom(place),
+            11 => Refusal::NoRepresentation(place),
+            _ => unreachable!("the library is proved to answer 0 or one of 1 to 11"),
+        }
+    }
+
+    /// Its number, 1 to 11.
+    pub fn number(self) -> u64 {
+        match self {
+            Refusal::TooLong => 1,
+            Refusal::NoRecord(_) => 2,
+            Refusal::OverLimit(_) => 3,
+            Refusal::TooMany(_) => 4,
+            Refusal::Unbound(_) => 5,
+            Refusal::WrongType(_) => 6,
+            Refusal::NoValueText(_) => 7,
+            Refusal::NoValue(_) => 8,
+            Refusal::NoRoom(_) => 9,
+            Refusal::NoAnswerRoom(_) => 10,
+            Refusal::NoRepresentation(_) => 11,
+        }
+    }
+
+    /// Its place: an offset in the bytes, an id, a number of bytes or a tree number.
+    pub fn place(self) -> u64 {
+        match self {
+            Refusal::TooLong => 0,
+            Refusal::NoRecord(place)
+            | Refusal::OverLimit(place)
+            | Refusal::TooMany(place)
+            | Refusal::Unbound(place)
+            | Refusal::WrongType(place)
+            | Refusal::NoValueText(place)
+            | Refusal::NoValue(place)
+            | Refusal::NoRoom(place)
+            | Refusal::NoAnswerRoom(place)
+            | Refusal::NoRepresentation(place) => place,
+        }
+    }
+}
+
+impl fmt::Display for Refusal {
+    fn fmt(&self, formatter: &mut fmt::Formatter) -> fmt::Result {
+        match self {
+            Refusal::TooLong => write!(formatter, "over 65,536 bytes"),
+            Refusal::NoRecord(at) => write!(formatter, "no record that may stand at byte {at}"),
+            Refusal::OverLimit(at) => write!(
+                formatter,
+                "a variable over 63, or a depth or using list over 8, in the record at byte {at}"
+            ),
+            Refusal::TooMany(at) => {
+                write!(formatter, "one input, expression record or nesting too many at byte {at}")
+            }
+            Refusal::Unbound(at) => write!(
+                formatter,
+                "a name that is unbound or stands twice in the record at byte {at}"
+            ),
+            Refusal::WrongType(at) => {
+                write!(formatter, "types that don't fit in the record at byte {at}")
+            }
+            Refusal::NoValueText(at) => {
+                write!(formatter, "the text at byte {at} is no value of its input's depth")
+            }
+            Refusal::NoValue(id) => {
+                write!(
+                    formatter,
+                    "stream {id} would hold a number out of range, or iota of a negative"
+                )
+            }
+            Refusal::NoRoom(id) => {
+                write!(formatter, "no room in the stream buffer for stream {id}")
+            }
+            Refusal::NoAnswerRoom(bytes) => write!(formatter, "the text needs {bytes} bytes"),
+            Refusal::NoRepresentation(tree) => {
+                write!(formatter, "streams that represent no value, the first misfit is {tree}")
+            }
+        }
+    }
+}
+
+impl std::error::Error for Refusal {}
