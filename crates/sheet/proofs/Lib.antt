@@ -3,3 +3,4 @@ pub mod Admitting
 pub mod Answering
 pub mod Performing
 pub mod Whole
+pub mod OneAnswer

@@ -1,12 +1,12 @@
-//! Runs every line of vectors/base.txt against the model.
+//! Runs every line of the vectors (crates/vectors/stdin, which the program `vectors` reads too) against the model.
 //!
-//! The form of the lines is told in the vectors' own README: `INPUT | OUTPUT`.
+//! Each line is `INPUT | OUTPUT`, as the program's sources say.
 
 use reference::{check, find, lent, list, run, streams_to_text, text_to_streams, Refusal};
 use std::fmt::Display;
 use std::str::FromStr;
 
-const VECTORS: &str = include_str!("../vectors/base.txt");
+const VECTORS: &str = include_str!("../../../crates/vectors/stdin");
 
 #[test]
 fn every_line_of_the_base_vectors_holds() {
