@@ -10,6 +10,7 @@ use lib.ListN.{length, getD, drop, length-append}
 use Rattle.laws.proofs.Never.{never}
 use Rattle.laws.specs.Parts.{part, written}
 use Rattle.snesl.specs.declared.code.Variable.{Variable}
+use Rattle.snesl.specs.declared.code.Instruction.the-variants.{Define}
 use Rattle.snesl.specs.declared.code.Transducer.the-variants.{Distr}
 use Rattle.snesl.specs.declared.refusal.Refusal.{Refusal}
 use Rattle.snesl.specs.Terms.{_∋_, listedTypes, All, lookup}
@@ -23,11 +24,12 @@ use Rattle.snesl.specs.Translation.{id, numbered, distrs}
 use Rattle.environment.specs.Words.{placeWords, treeWords, spelled, Entry}
 use Rattle.environment.proofs.Stack.{part-drop, drop-written, length-written, written-then}
 use Rattle.steps.specs.Walking.{stepped, walked}
-use Rattle.steps.specs.Holding.{FlagsAt, startOf, lengthOf, of-distr, Executable, Performed}
+use Rattle.steps.specs.Holding.{FlagsAt, startOf, lengthOf, of-distr, Due, Performed}
 use Rattle.steps.specs.declared.Executed.{Executed}
 use Rattle.steps.specs.declared.Executed.the-variants.{Stopped}
 use Rattle.steps.proofs.Stores.{nothing-written, kept, newest}
 use Rattle.steps.proofs.Walking.{walked-done, walked-define, walked-grown}
+use Rattle.steps.proofs.Due.{due}
 use Rattle.steps.proofs.Performing.{Making, stopping, stopping-as}
 use Rattle.leaves.specs.Places.{place, places, shapely-leaf, Shaped, shaped-none, shaped-more}
 use Rattle.leaves.specs.Scenes.{Scene}
@@ -119,15 +121,16 @@ module _ {t : List ℕ} {at left base sp : ℕ} {env : List ℕ} {buf : List ℤ
   first-found = the-first .finds
 
   module _ {p : ℕ} (e : Entry env sp p (lookup (the-first .pointer) (places (g .scene .machine .store) (g .scene .trees)))) where
-    pub distr-ready : Executable (Distr (id (getD env (sp - 3) 0)) (id (getD env (p + 2) 0))) (getD env (sp - 3 + 1) 0) (getD env (sp - 3 + 2) 0) (getD env (p + 2 + 1) 0) (getD env (p + 2 + 2) 0) buf state (g .scene .machine)
+    pub distr-ready : Due (Define (id (getD state 0 0)) (Distr (id (getD env (sp - 3) 0)) (id (getD env (p + 2) 0)))) (Distr (id (getD env (sp - 3) 0)) (id (getD env (p + 2) 0))) (getD env (sp - 3 + 1) 0) (getD env (sp - 3 + 2) 0) (getD env (p + 2 + 1) 0) (getD env (p + 2 + 2) 0) buf state (g .scene .machine)
     distr-ready =
-        record {
+        due
+        (record {
           held = g .scene .held;
           operands =
               of-distr (flags-there env (g .scene .machine .store) (sp - 3) (g .flags) (g .pushed) (g .flagged))
               (int-there (g .scene) (the-first .pointer) e);
           more = omega (arith, g .few);
-        }
+        })
 
     module _ (n : ℕ) where
       first-code : walked (length buf) n (distrs (g .flags) (pointers (g .list)) (g .scene .trees) done) (g .scene .machine)

@@ -9,6 +9,7 @@ use lib.ListN.{length, getD, drop, length-append}
 use Rattle.laws.proofs.Never.{never}
 use Rattle.laws.specs.Parts.{part, written}
 use Rattle.snesl.specs.declared.code.Variable.{Variable}
+use Rattle.snesl.specs.declared.code.Instruction.the-variants.{Define}
 use Rattle.snesl.specs.declared.code.Transducer.the-variants.{Usum, Distr}
 use Rattle.snesl.specs.declared.refusal.Refusal.{Refusal}
 use Rattle.snesl.specs.Terms as terms
@@ -27,11 +28,12 @@ use Rattle.environment.proofs.Finding.{length-tree}
 use Rattle.environment.proofs.Entries.{bound}
 use Rattle.records.proofs.Variables.{length-variables}
 use Rattle.steps.specs.Walking.{stepped, walked}
-use Rattle.steps.specs.Holding.{FlagsAt, startOf, lengthOf, of-usum, Executable, Performed, Stopping}
+use Rattle.steps.specs.Holding.{FlagsAt, startOf, lengthOf, of-usum, Due, Performed, Stopping}
 use Rattle.steps.specs.declared.Executed.{Executed}
 use Rattle.steps.specs.declared.Executed.the-variants.{Stopped}
 use Rattle.steps.proofs.Stores.{kept, newest}
 use Rattle.steps.proofs.Walking.{walked-define, walked-seq, walked-with, Grown, walked-grown}
+use Rattle.steps.proofs.Due.{due}
 use Rattle.steps.proofs.Performing.{Making, stopping, stopping-as}
 use Rattle.leaves.specs.Places.{place, places, Shapely, Shaped, shaped-more, wordsFor}
 use Rattle.leaves.specs.Scenes.{Scene}
@@ -139,13 +141,14 @@ module _ {t : List ℕ} {k levels sp : ℕ} {env : List ℕ} {buf : List ℤ} {s
     pub flagged : FlagsAt store flagsId (startOf store flagsId) (lengthOf store flagsId)
     flagged = outer-flags (lookup-shapely (g .pointer) (g .scene .shaped))
 
-    pub usum-ready : Executable (Usum (id (getD env₁ (sp - 3) 0))) (getD env₁ (sp - 3 + 1) 0) (getD env₁ (sp - 3 + 2) 0) 0 0 buf state (g .scene .machine)
+    pub usum-ready : Due (Define (id (getD state 0 0)) (Usum (id (getD env₁ (sp - 3) 0)))) (Usum (id (getD env₁ (sp - 3) 0))) (getD env₁ (sp - 3 + 1) 0) (getD env₁ (sp - 3 + 2) 0) 0 0 buf state (g .scene .machine)
     usum-ready =
-        record {
+        due
+        (record {
           held = g .scene .held;
           operands = of-usum (flags-there env₁ store (sp - 3) flagsId pushed flagged) refl;
           more = omega (arith, g .few, g .bytes);
-        }
+        })
 
     module _ (n : ℕ) where
       abbrev us : List (g .scene .context ∋ 0)

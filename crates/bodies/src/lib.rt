@@ -11,6 +11,7 @@ use environment::find;
 use environment::move_words;
 use environment::put_name;
 use leaves::push;
+use snesl::code::Instruction;
 use snesl::code::StreamId;
 use snesl::code::Transducer;
 use snesl::code::Variable;
@@ -53,7 +54,7 @@ fn distribute(
     let b = sp - 3;
     let t = Transducer::Distr(StreamId(env[b] as usize), StreamId(env[p] as usize));
     match execute(
-        t,
+        Instruction::Define(StreamId(state[0]), t),
         env[b + 1] as usize,
         env[b + 2] as usize,
         env[p + 1] as usize,
@@ -102,16 +103,11 @@ pub fn enter(
     let depth = env[p + 1] as usize - 1;
     let b = sp - 3;
     move_words(env, p + 2 + (3 * depth + 3), b, 3);
-    match execute(
-        Transducer::Usum(StreamId(env[b] as usize)),
-        env[b + 1] as usize,
-        env[b + 2] as usize,
-        0,
-        0,
-        n,
-        buf,
-        state,
-    ) {
+    let t = Transducer::Usum(StreamId(env[b] as usize));
+    let i = Instruction::Define(StreamId(state[0]), t);
+    let at = env[b + 1] as usize;
+    let flags = env[b + 2] as usize;
+    match execute(i, at, flags, 0, 0, n, buf, state) {
         Executed::Made(units) => {
             let base = b - 5 * j;
             match distribute(bytes, k + 5, j, n, base, sp, env, buf, state) {

@@ -7,6 +7,7 @@ use native.Mathlib.Omega.{arith}
 use lib.IntN.{ℤ, pos}
 use lib.ListN.{length, getD, length-append}
 use Rattle.laws.proofs.Never.{never}
+use Rattle.snesl.specs.declared.code.Instruction.the-variants.{Define}
 use Rattle.snesl.specs.declared.code.Transducer.{Transducer}
 use Rattle.snesl.specs.declared.code.Transducer.the-variants.{Const, Usum, ScanPlus}
 use Rattle.snesl.specs.declared.refusal.Refusal.{Refusal}
@@ -16,13 +17,14 @@ use Rattle.snesl.specs.Machine.{State, Result, went, stopped, onward}
 use Rattle.snesl.specs.Outcome.{refusalOf}
 use Rattle.snesl.specs.Translation.{id}
 use Rattle.steps.specs.Walking.{stepped, walked}
-use Rattle.steps.specs.Holding.{keeps, IntsAt, FlagsAt, of-const, of-usum, of-scanPlus, Executable, Performed}
+use Rattle.steps.specs.Holding.{keeps, IntsAt, FlagsAt, of-const, of-usum, of-scanPlus, Due, Performed}
 use Rattle.steps.specs.declared.Executed.{Executed}
 use Rattle.steps.specs.declared.Executed.the-variants.{Stopped}
 use Rattle.steps.proofs.Stores.{newest, flags-kept, newest-ints}
 use Rattle.steps.proofs.Stepping.{added}
 use Rattle.steps.proofs.Walking.{walked-define, walked-with, walked-one}
 use Rattle.steps.proofs.Executing.{next-element}
+use Rattle.steps.proofs.Due.{due-as}
 use Rattle.steps.proofs.Performing.{Making, stopping, stopping-as}
 use Rattle.steps.specs.Holding.{Stopping}
 use Rattle.leaves.specs.Arms.{Flagged, countingUp, Counted}
@@ -66,8 +68,9 @@ counted-stop s =
     }
 
 module _ (a at f n : ℕ) {buf : List ℤ} {state : List ℕ} {m : State} (g : Flagged a at f buf state m) where
-  pub units-ready : Executable (Usum (id a)) at f 0 0 buf state m
-  units-ready = record { held = g .held; operands = of-usum (g .flagged) refl; more = omega (arith, g .few) }
+  pub units-ready : Due (Define (id (a + 1)) (Usum (id a))) (Usum (id a)) at f 0 0 buf state m
+  units-ready =
+      due-as (sym (g .newest)) (record { held = g .held; operands = of-usum (g .flagged) refl; more = omega (arith, g .few) })
 
   pub units-stopped : {new : List ℤ} {state′ : List ℕ} {r : Executed} {q : Refusal} → Performed (stepped (length buf) n (Usum (id a)) m) m buf new state′ r
       → r ≡ Stopped q → Counted (walked (length buf) n (countingUp a) m) m buf new state′ (Stopped q)
@@ -92,8 +95,10 @@ module _ (a at f n : ℕ) {buf : List ℤ} {state : List ℕ} {m : State} (g : F
     next-one : length (u .after .store) ≡ a + 2
     next-one = ap length units-stored ∙ (length-append (m .store) (units k ∷ []) ∙ omega (arith, g .newest))
 
-    pub ones-ready : Executable ones 0 0 0 0 buf₁ state₁ (u .after)
-    ones-ready = record { held = u .held; operands = of-const refl refl; more = omega (arith, next-one, g .newest, g .few) }
+    pub ones-ready : Due (Define (id (a + 2)) ones) ones 0 0 0 0 buf₁ state₁ (u .after)
+    ones-ready =
+        due-as (sym next-one)
+        (record { held = u .held; operands = of-const refl refl; more = omega (arith, next-one, g .newest, g .few) })
 
     then-ones : walked (length buf) n (countingUp a) m ≡ onward (stepped (length buf) k ones (u .after)) (stepped (length buf) n (scan a))
     then-ones = after-units (length buf) n a m (u .after) (u .went-to) k units-there units-quiet
@@ -130,9 +135,10 @@ module _ (a at f n : ℕ) {buf : List ℤ} {state : List ℕ} {m : State} (g : F
           λ-places σ i =
               transport (λ j. IntsAt σ (next-one j) (sym (next-element (u .held)) j) (sym (items-long o refl) j)) i
 
-      pub scan-ready : Executable (scan a) at f (getD state₁ 1 0) l buf₂ state₂ (o .after)
+      pub scan-ready : Due (Define (id (a + 3)) (scan a)) (scan a) at f (getD state₁ 1 0) l buf₂ state₂ (o .after)
       scan-ready =
-          record { held = o .held; operands = of-scanPlus flags-still ones-there; more = omega (arith, next-two, g .newest, g .few) }
+          due-as (sym next-two)
+          (record { held = o .held; operands = of-scanPlus flags-still ones-there; more = omega (arith, next-two, g .newest, g .few) })
 
       then-scan : walked (length buf) n (countingUp a) m ≡ stepped (length buf₂) n (scan a) (o .after)
       then-scan =

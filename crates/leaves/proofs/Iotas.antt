@@ -12,6 +12,7 @@ use Rattle.laws.specs.Parts.{written}
 use Rattle.snesl.specs.declared.code.Variable.{Variable}
 use Rattle.snesl.specs.declared.code.Transducer.{Transducer}
 use Rattle.snesl.specs.declared.code.Transducer.the-variants.{ToFlags}
+use Rattle.snesl.specs.declared.code.Instruction.the-variants.{Define}
 use Rattle.snesl.specs.declared.refusal.Refusal.{Refusal}
 use Rattle.snesl.specs.Terms as terms
 use Rattle.snesl.specs.Terms.{lookup}
@@ -24,12 +25,13 @@ use Rattle.snesl.specs.Translation.{id, code, tree}
 use Rattle.environment.specs.Words.{placeWords, treeWords, Entry}
 use Rattle.environment.proofs.Stack.{lowered, length-written}
 use Rattle.steps.specs.Walking.{stepped, walked}
-use Rattle.steps.specs.Holding.{Held, keeps, FlagsAt, of-toFlags, Executable, Performed}
+use Rattle.steps.specs.Holding.{Held, keeps, FlagsAt, of-toFlags, Due, Performed}
 use Rattle.steps.specs.declared.Executed.{Executed}
 use Rattle.steps.specs.declared.Executed.the-variants.{Made, Stopped}
 use Rattle.steps.proofs.Stores.{newest, kept, newest-flags, room-more}
 use Rattle.steps.proofs.Walking.{walked-define}
 use Rattle.steps.proofs.Executing.{next-id, next-element}
+use Rattle.steps.proofs.Due.{due}
 use Rattle.steps.proofs.Performing.{Making, stopping, stopping-as}
 use Rattle.steps.specs.Holding.{Stopping}
 use Rattle.leaves.specs.Places.{place, places, Shapely, shapely-node}
@@ -82,8 +84,10 @@ module _ {env : List ℕ} {sp : ℕ} {buf : List ℤ} {state : List ℕ} {x : Va
   abbrev toFlags : Transducer
   toFlags = ToFlags (id (getD env (p + 2) 0))
 
-  pub flags-ready : Executable (ToFlags (id (getD env (p + 2) 0))) (getD env (p + 2 + 1) 0) (getD env (p + 2 + 2) 0) 0 0 buf state (g .scene .machine)
-  flags-ready = record { held = g .scene .held; operands = of-toFlags (int-there (g .scene) (g .pointer) e) refl; more = omega (arith, g .few) }
+  pub flags-ready : Due (Define (id (getD state 0 0)) (ToFlags (id (getD env (p + 2) 0)))) (ToFlags (id (getD env (p + 2) 0))) (getD env (p + 2 + 1) 0) (getD env (p + 2 + 2) 0) 0 0 buf state (g .scene .machine)
+  flags-ready =
+      due
+      (record { held = g .scene .held; operands = of-toFlags (int-there (g .scene) (g .pointer) e) refl; more = omega (arith, g .few) })
 
   module _ (n : ℕ) where
     whole : walked (length buf) n (code (terms.iota (g .pointer)) (g .scene .trees) (length (g .scene .machine .store))) (g .scene .machine)

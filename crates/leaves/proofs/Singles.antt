@@ -9,6 +9,7 @@ use lib.ListN.{length, getD, drop, length-append}
 use Rattle.laws.proofs.Never.{never}
 use Rattle.laws.specs.Parts.{part, written}
 use Rattle.snesl.specs.declared.code.Variable.{Variable}
+use Rattle.snesl.specs.declared.code.Instruction.the-variants.{Define}
 use Rattle.snesl.specs.declared.code.Transducer.{Transducer}
 use Rattle.snesl.specs.declared.code.Transducer.the-variants.{Const, ToFlags, Usum, MapTwoPlus, ScanPlus, Distr, SumPlus}
 use Rattle.snesl.specs.declared.refusal.Refusal.{Refusal}
@@ -28,6 +29,7 @@ use Rattle.steps.proofs.Stores.{newest, room-more}
 use Rattle.steps.proofs.Stepping.{Output}
 use Rattle.steps.proofs.Walking.{walked-one}
 use Rattle.steps.proofs.Executing.{next-id, next-element, four-words}
+use Rattle.steps.proofs.Due.{due}
 use Rattle.steps.proofs.Performing.{Making, making, stopping, stopping-as}
 use Rattle.leaves.specs.Places.{place, places, Shapely, shapely-leaf}
 use Rattle.leaves.specs.declared.Walked.{Walked}
@@ -145,15 +147,16 @@ module _ (cap n : ℕ) (t : Transducer) {m : State} {old new : List ℤ} {state 
 module _ {env : List ℕ} {sp : ℕ} {buf : List ℤ} {state : List ℕ} where
   module _ {x y : Variable} (g : Two env sp buf state x y) {p q : ℕ} (e : Entry env sp p (lookup (g .left) (places (g .scene .machine .store) (g .scene .trees))))
       (f : Entry env sp q (lookup (g .right) (places (g .scene .machine .store) (g .scene .trees)))) where
-    pub plus-ready : Single (MapTwoPlus (id (getD env (p + 2) 0)) (id (getD env (q + 2) 0))) (getD env (p + 2 + 1) 0) (getD env (p + 2 + 2) 0) (getD env (q + 2 + 1) 0) (getD env (q + 2 + 2) 0) sp env buf state (g .scene .machine)
+    pub plus-ready : Single (Define (id (getD state 0 0)) (MapTwoPlus (id (getD env (p + 2) 0)) (id (getD env (q + 2) 0)))) (MapTwoPlus (id (getD env (p + 2) 0)) (id (getD env (q + 2) 0))) (getD env (p + 2 + 1) 0) (getD env (p + 2 + 2) 0) (getD env (q + 2 + 1) 0) (getD env (q + 2 + 2) 0) sp env buf state (g .scene .machine)
     plus-ready =
         record {
-          executable =
-              record {
+          due =
+              due
+              (record {
                 held = g .scene .held;
                 operands = of-mapTwoPlus (int-there (g .scene) (g .left) e) (int-there (g .scene) (g .right) f);
                 more = omega (arith, g .few);
-              };
+              });
           ints = refl;
           low = omega (arith, g .low);
           high = g .scene .within;
@@ -169,15 +172,16 @@ module _ {env : List ℕ} {sp : ℕ} {buf : List ℤ} {state : List ℕ} where
         refl w
 
   module _ {x : Variable} (g : One env sp buf state x 1) {p : ℕ} (e : Entry env sp p (lookup (g .pointer) (places (g .scene .machine .store) (g .scene .trees)))) where
-    pub sum-ready : Single (SumPlus (id (getD env (p + 2 + 3) 0)) (id (getD env (p + 2) 0))) (getD env (p + 2 + 3 + 1) 0) (getD env (p + 2 + 3 + 2) 0) (getD env (p + 2 + 1) 0) (getD env (p + 2 + 2) 0) sp env buf state (g .scene .machine)
+    pub sum-ready : Single (Define (id (getD state 0 0)) (SumPlus (id (getD env (p + 2 + 3) 0)) (id (getD env (p + 2) 0)))) (SumPlus (id (getD env (p + 2 + 3) 0)) (id (getD env (p + 2) 0))) (getD env (p + 2 + 3 + 1) 0) (getD env (p + 2 + 3 + 2) 0) (getD env (p + 2 + 1) 0) (getD env (p + 2 + 2) 0) sp env buf state (g .scene .machine)
     sum-ready =
         record {
-          executable =
-              record {
+          due =
+              due
+              (record {
                 held = g .scene .held;
                 operands = of-sumPlus (flags-in (g .scene) (g .pointer) e) (data-in (g .scene) (g .pointer) e);
                 more = omega (arith, g .few);
-              };
+              });
           ints = refl;
           low = omega (arith, g .low);
           high = g .scene .within;

@@ -6,6 +6,7 @@ use mathlib.Core.Path.{_≡_}
 use lib.IntN.{ℤ, pos}
 use lib.ListN.{length}
 use Rattle.snesl.specs.declared.code.Variable.{Variable}
+use Rattle.snesl.specs.declared.code.Instruction.{Instruction}
 use Rattle.snesl.specs.declared.code.Transducer.{Transducer}
 use Rattle.snesl.specs.declared.code.Transducer.the-variants.{Const, ToFlags, Usum, MapTwoPlus, ScanPlus, Distr, SumPlus}
 use Rattle.snesl.specs.Terms.{_∋_}
@@ -18,7 +19,7 @@ use Rattle.snesl.specs.Machine.{State, Stop, Result, went, stopped}
 use Rattle.snesl.specs.Outcome.{refusalOf}
 use Rattle.steps.specs.declared.Executed.{Executed}
 use Rattle.steps.specs.declared.Executed.the-variants.{Made, Stopped}
-use Rattle.steps.specs.Holding.{Held, keeps, Executable, FlagsAt, mostStreams}
+use Rattle.steps.specs.Holding.{Held, keeps, Due, FlagsAt, mostStreams}
 use Rattle.leaves.specs.Scenes.{Scene}
 
 -- the transducers whose output are ints
@@ -32,8 +33,8 @@ givesInts (Distr s t) = true
 givesInts (SumPlus s t) = true
 
 -- one instruction whose output is the whole result
-pub record Single (t : Transducer) (at n at′ n′ sp : ℕ) (env : List ℕ) (buf : List ℤ) (state : List ℕ) (m : State) : Type 0 where
-  pub executable : Executable t at n at′ n′ buf state m
+pub record Single (i : Instruction) (t : Transducer) (at n at′ n′ sp : ℕ) (env : List ℕ) (buf : List ℤ) (state : List ℕ) (m : State) : Type 0 where
+  pub due : Due i t at n at′ n′ buf state m
   pub ints : givesInts t ≡ true
   pub low : 3 ≤ sp
   pub high : sp ≤ length env

@@ -5,6 +5,7 @@ ghost use mathlib.Core.List.{[], _∷_, _++_};
 ghost use Prim.Native.Nat.{_+_, _-_, _≤_, _<_};
 ghost use lib.ListN.{length, getD, drop};
 ghost use Rattle.laws.specs.Parts.{written};
+ghost use Rattle.snesl.specs.declared.code.Transducer.{Transducer};
 ghost use Rattle.snesl.specs.Limits.{mostDepth};
 ghost use Rattle.snesl.specs.Terms as terms;
 ghost use Rattle.snesl.specs.Terms.{lookup};
@@ -18,6 +19,7 @@ ghost use Rattle.leaves.specs.Arms.{Single, One, Two, Flagged, Counted, 
 use environment::find;
 use environment::move_words;
 use environment::put_place;
+use snesl::code::Instruction;
 use snesl::code::StreamId;
 use snesl::code::Transducer;
 use snesl::code::Variable;
@@ -53,7 +55,7 @@ pub fn push(made: usize, sp: usize, env: &mut [u32], state: &[usize])
 
 // One instruction whose output is the result.
 pub fn single(
-    t: Transducer,
+    i: Instruction,
     at1: usize,
     len1: usize,
     at2: usize,
@@ -65,10 +67,10 @@ pub fn single(
     buf: &mut [i32],
     state: &mut [usize],
 ) -> Walked
-    requires { ⌜ ((m : State) × Single t at1 len1 at2 len2 sp (now env) (now buf) (now state) m) ⌝ }
-    ensures { λ r. ⌜ ((m : State) → Single t at1 len1 at2 len2 sp (now (env .entry)) (now (buf .entry)) (now (state .entry)) m → Ran (walked (length (now (buf .entry))) n (define t done) m) (leaf (length (m .store))) next sp (now (env .entry)) (now (env .exit)) (now (buf .entry)) (now (buf .exit)) (now (state .exit)) r) ⌝ }
+    requires { ⌜ ((t : Transducer) × (m : State) × Single i t at1 len1 at2 len2 sp (now env) (now buf) (now state) m) ⌝ }
+    ensures { λ r. ⌜ ((t : Transducer) (m : State) → Single i t at1 len1 at2 len2 sp (now (env .entry)) (now (buf .entry)) (now (state .entry)) m → Ran (walked (length (now (buf .entry))) n (define t done) m) (leaf (length (m .store))) next sp (now (env .entry)) (now (env .exit)) (now (buf .entry)) (now (buf .exit)) (now (state .exit)) r) ⌝ }
 {
-    match execute(t, at1, len1, at2, len2, n, buf, state) {
+    match execute(i, at1, len1, at2, len2, n, buf, state) {
         Executed::Made(made) => {
             push(made, sp, env, state);
             Walked::Tree(0, next)
@@ -95,7 +97,7 @@ pub fn plus(
     let q = find(env, sp, y) + 2;
     let t = Transducer::MapTwoPlus(StreamId(env[p] as usize), StreamId(env[q] as usize));
     single(
-        t,
+        Instruction::Define(StreamId(state[0]), t),
         env[p + 1] as usize,
         env[p + 2] as usize,
         env[q + 1] as usize,
@@ -126,7 +128,7 @@ pub fn sum(
     let q = p + 3;
     let t = Transducer::SumPlus(StreamId(env[q] as usize), StreamId(env[p] as usize));
     single(
-        t,
+        Instruction::Define(StreamId(state[0]), t),
         env[q + 1] as usize,
         env[q + 2] as usize,
         env[p + 1] as usize,
@@ -152,29 +154,17 @@ fn count_up(
     requires { ⌜ ((m : State) × Flagged a at flags (now buf) (now state) m) ⌝ }
     ensures { λ r. ⌜ ((m : State) → Flagged a at flags (now (buf .entry)) (now (state .entry)) m → Counted (walked (length (now (buf .entry))) n (countingUp a) m) m (now (buf .entry)) (now (buf .exit)) (now (state .exit)) r) ⌝ }
 {
-    match execute(
-        Transducer::Usum(StreamId(a)),
-        at,
-        flags,
-        0,
-        0,
-        n,
-        buf,
-        state,
-    ) {
+    let count = Instruction::Define(StreamId(a + 1), Transducer::Usum(StreamId(a)));
+    match execute(count, at, flags, 0, 0, n, buf, state) {
         Executed::Made(units) => {
             let start = state[1];
-            match execute(Transducer::Const(1), 0, 0, 0, 0, units, buf, state) {
-                Executed::Made(ones) => execute(
-                    Transducer::ScanPlus(0, StreamId(a), StreamId(a + 2)),
-                    at,
-                    flags,
-                    start,
-                    ones,
-                    n,
-                    buf,
-                    state,
-                ),
+            let fill = Instruction::Define(StreamId(a + 2), Transducer::Const(1));
+            match execute(fill, 0, 0, 0, 0, units, buf, state) {
+                Executed::Made(ones) => {
+                    let t = Transducer::ScanPlus(0, StreamId(a), StreamId(a + 2));
+                    let scan = Instruction::Define(StreamId(a + 3), t);
+                    execute(scan, at, flags, start, ones, n, buf, state)
+                }
                 Executed::Stopped(r) => Executed::Stopped(r),
             }
         }
@@ -198,8 +188,9 @@ pub fn iota(
     let p = find(env, sp, x) + 2;
     let a = state[0];
     let start = state[1];
+    let t = Transducer::ToFlags(StreamId(env[p] as usize));
     match execute(
-        Transducer::ToFlags(StreamId(env[p] as usize)),
+        Instruction::Define(StreamId(a), t),
         env[p + 1] as usize,
         env[p + 2] as usize,
         0,

@@ -7,9 +7,10 @@ use lib.IntN.{ℤ}
 use mir.Facts.{toZ-ofZ}
 use mir.Syntax.{w32}
 use mir.Val.{SFits, toZ, ofZ}
-use lib.ListN.{length, drop}
+use lib.ListN.{length, getD, drop}
 use Rattle.laws.proofs.Never.{never}
 use Rattle.snesl.specs.declared.code.Variable.{Variable}
+use Rattle.snesl.specs.declared.code.Instruction.the-variants.{Define}
 use Rattle.snesl.specs.declared.code.Transducer.the-variants.{Const}
 use Rattle.snesl.specs.Limits.{mostDepth}
 use Rattle.snesl.specs.Terms as terms
@@ -20,11 +21,12 @@ use Rattle.snesl.specs.Records as records
 use Rattle.snesl.specs.Records.{headAt, variablesAt}
 use mathlib.Core.Option.{some}
 use Rattle.snesl.specs.Checking.{Name, find, found, listedInts, listedNames, pointers}
-use Rattle.snesl.specs.Translation.{code, tree}
+use Rattle.snesl.specs.Translation.{id, code, tree}
 use Rattle.snesl.specs.Formed.{Formed, formed-var, formed-bind, formed-const, formed-iota, formed-plus, formed-sum, formed-each}
 use Rattle.environment.specs.Words.{treeWords, treeSize, Sought}
 use Rattle.steps.specs.Walking.{walked}
 use Rattle.steps.specs.Holding.{of-const, mostStreams}
+use Rattle.steps.proofs.Due.{due}
 use Rattle.steps.proofs.Walking.{walked-done}
 use Rattle.leaves.specs.Scenes.{Ran, Runs}
 use Rattle.runner.specs.Walks.{Ready, Binding}
@@ -101,10 +103,10 @@ module _ {t : List ℕ} {k levels sp : ℕ} {env : List ℕ} {buf : List ℤ} {s
 
   -- ---- a constant, which is handed on as its bits
 
-  pub const-ready : (z u : ℤ) → head.Const z ≡ headOf (headAt t k) → Single (Const u) 0 0 0 0 sp env buf state (g .scene .machine)
+  pub const-ready : (z u : ℤ) → head.Const z ≡ headOf (headAt t k) → Single (Define (id (getD state 0 0)) (Const u)) (Const u) 0 0 0 0 sp env buf state (g .scene .machine)
   const-ready z u h =
       record {
-        executable = record { held = g .scene .held; operands = of-const refl refl; more = omega (arith, g .few, told t k (head.Const z) h .1) };
+        due = due (record { held = g .scene .held; operands = of-const refl refl; more = omega (arith, g .few, told t k (head.Const z) h .1) });
         ints = refl;
         low = omega (arith, some-space);
         high = g .scene .within;

@@ -18,6 +18,8 @@ use leaves::sum;
 use leaves::variable;
 use records::head::Head;
 use records::head::head_at;
+use snesl::code::Instruction;
+use snesl::code::StreamId;
 use snesl::code::Transducer;
 use snesl::code::Variable;
 use snesl::refusal::Refusal;
@@ -107,7 +109,7 @@ pub fn walk(
     match head_at(bytes, k) {
         Head::Var(x) => variable(x, k + 3, sp, env),
         Head::Const(z) => single(
-            Transducer::Const(z),
+            Instruction::Define(StreamId(state[0]), Transducer::Const(z)),
             0,
             0,
             0,

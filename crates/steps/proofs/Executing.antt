@@ -1,4 +1,4 @@
--- `execute` meets its contract: what a transducer answers and leaves of the buffer is what one instruction does to the machine.
+-- `perform` meets its contract: what a transducer answers and leaves of the buffer is what one instruction does to the machine.
 use Prim.Native.Nat.{ℕ, zero, suc, _+_, _-_, _≤_, _<_}
 use mathlib.Core.Bool.{Bool, true, false}
 use mathlib.Core.List.{List, [], _∷_, _++_, append-nil}

@@ -9,6 +9,8 @@ use lib.ListN.{length, getD, take, drop}
 use Rattle.snesl.specs.declared.code.StreamId.{StreamId}
 use Rattle.snesl.specs.declared.code.Transducer.{Transducer}
 use Rattle.snesl.specs.declared.code.Transducer.the-variants.{Const, ToFlags, Usum, MapTwoPlus, ScanPlus, Distr, SumPlus}
+use Rattle.snesl.specs.declared.code.Instruction.{Instruction}
+use Rattle.snesl.specs.declared.code.Instruction.the-variants.{Define}
 use Rattle.snesl.specs.declared.refusal.Refusal.{Refusal}
 use Rattle.snesl.specs.Streams.{Stream, ints, flags, len, elements, Store, _!_, contents, room}
 use Rattle.laws.specs.Parts.{written}
@@ -82,6 +84,11 @@ pub record Executable (t : Transducer) (at n at′ n′ : ℕ) (buf : List ℤ) 
   pub held : Held m buf state
   pub operands : Operands (m .store) at n at′ n′ t
   pub more : length (m .store) < mostStreams
+
+-- the instruction that is due: it defines the next stream, by a transducer t that the run is ready for
+pub record Due (i : Instruction) (t : Transducer) (at n at′ n′ : ℕ) (buf : List ℤ) (state : List ℕ) (m : State) : Type 0 where
+  pub defines : i ≡ Define (record { 0 = length (m .store) }) t
+  pub executable : Executable t at n at′ n′ buf state m
 
 -- What an instruction that ends like `res` answers and leaves: how long the stream is that it made, with the machine as it is then, and the elements behind
 -- the streams as they were; or the refusal.

@@ -1,4 +1,4 @@
-// One instruction of a run: it is made as a value of the transducer enum, with its streams' ids, and executed here over the stream buffer. What it
+// One instruction of a run: it is made as a value of the instruction enum, with its streams' ids, and executed here over the stream buffer. What it
 // does to the machine is what specs/Walking.antt's `stepped` says.
 ghost use mathlib.Core.Path.{_≡_};
 ghost use lib.ListN.{length};
@@ -6,7 +6,9 @@ ghost use Rattle.snesl.specs.Streams.{Store};
 ghost use Rattle.snesl.specs.Transducers.{apply};
 ghost use Rattle.snesl.specs.Machine.{State};
 ghost use Rattle.steps.specs.Walking.{stepped};
-ghost use Rattle.steps.specs.Holding.{Applies, Executable, Performed, Transduced, Grows, grown, taking};
+ghost use Rattle.snesl.specs.declared.code.Transducer.{Transducer};
+ghost use Rattle.steps.specs.Holding.{Applies, Executable, Due, Performed, Transduced, Grows, grown, taking};
+use snesl::code::Instruction;
 use snesl::code::Transducer;
 use snesl::refusal::Refusal;
 use streams::Output;
@@ -82,7 +84,7 @@ fn advance(state: &mut [usize], room: usize, work: usize, steps: usize)
 }
 
 // Under an empty control nothing is executed or counted: the stream is empty.
-pub fn execute(
+fn perform(
     t: Transducer,
     at1: usize,
     len1: usize,
@@ -108,5 +110,26 @@ pub fn execute(
         Output::Negative(_) => Executed::Stopped(Refusal::NoValue(state[0])),
         Output::Outside(_) => Executed::Stopped(Refusal::NoValue(state[0])),
         Output::NoRoom => Executed::Stopped(Refusal::NoRoom(state[0])),
+    }
+}
+
+// The instruction that is due defines the next stream; a control is opened and closed by how many units the walk runs under, so none is executed here.
+pub fn execute(
+    i: Instruction,
+    at1: usize,
+    len1: usize,
+    at2: usize,
+    len2: usize,
+    n: usize,
+    buf: &mut [i32],
+    state: &mut [usize],
+) -> Executed
+    requires { ⌜ ((t : Transducer) × (m : State) × Due i t at1 len1 at2 len2 (now buf) (now state) m) ⌝ }
+    ensures { λ r. ⌜ ((t : Transducer) (m : State) → Due i t at1 len1 at2 len2 (now (buf .entry)) (now (state .entry)) m → Performed (stepped (length (now (buf .entry))) n t m) m (now (buf .entry)) (now (buf .exit)) (now (state .exit)) r) ⌝ }
+{
+    match i {
+        Instruction::Define(_, t) => perform(t, at1, len1, at2, len2, n, buf, state),
+        Instruction::WithCtrl(_) => Executed::Stopped(Refusal::NoValue(state[0])),
+        Instruction::Close => Executed::Stopped(Refusal::NoValue(state[0])),
     }
 }

@@ -2,6 +2,7 @@
 use Prim.Native.Nat.{_+_, _-_}
 use borrow.Author.Needs.{needs}
 use native.Mathlib.Omega.{arith}
+use Rattle.steps.proofs.Executing.{four-words}
 use Rattle.steps.proofs.Performing.{making}
 use Rattle.leaves.proofs.Operands.{sought}
 use Rattle.bodies.proofs.Distributing.{some-left, all-bound, the-first, first-found, distr-ready, first-stopped, distr-push, others-ready, distributed}
@@ -183,6 +184,20 @@ distribute-cast-execute-2 : (t : ℕ) → distribute-lts.Need-cast-execute-2 (
 ) (distribute-at t) distribute.Post
 distribute-cast-execute-2 t c = omega (arith, c .slice-known4 .given (c .before .before .find .result + 2))
 
+distribute-slice-read-t19 : (t : ℕ) → distribute-lts.Need-slice-read-t19 (
+  find-reads.Asked,
+  find-reads.Learnt,
+  execute-reads.Asked,
+  execute-reads.Learnt,
+  put-name-reads.Asked,
+  put-name-reads.Learnt,
+  push-reads.Asked,
+  push-reads.Learnt,
+  distribute-below t,
+  distribute.Post,
+) (distribute-at t) distribute.Post
+distribute-slice-read-t19 t c = omega (arith, four-words (c .before .before .before .before .before .before .before .before .before .before .pre .1 .scene .held))
+
 distribute-add-execute : (t : ℕ) → distribute-lts.Need-add-execute (
   find-reads.Asked,
   find-reads.Learnt,
@@ -195,7 +210,7 @@ distribute-add-execute : (t : ℕ) → distribute-lts.Need-add-execute (
   distribute-below t,
   distribute.Post,
 ) (distribute-at t) distribute.Post
-distribute-add-execute t c = omega (arith, (c .before .before .find .ensures (sought ((c .before .before .before .before .before .before .before .before .before .pre .1) .scene) (the-first (c .before .before .before .before .before .before .before .before .before .pre .1) (some-left _ (c .before .before .before .before .before .if1 .left)) .pointer) (first-found (c .before .before .before .before .before .before .before .before .before .pre .1) (some-left _ (c .before .before .before .before .before .if1 .left))))) .within, c .before .before .before .before .before .before .before .before .before .pre .1 .space, c .before .before .before .before .before .before .before .before .before .pre .1 .scene .within)
+distribute-add-execute t c = omega (arith, (c .before .before .before .find .ensures (sought ((c .before .before .before .before .before .before .before .before .before .before .pre .1) .scene) (the-first (c .before .before .before .before .before .before .before .before .before .before .pre .1) (some-left _ (c .before .before .before .before .before .before .if1 .left)) .pointer) (first-found (c .before .before .before .before .before .before .before .before .before .before .pre .1) (some-left _ (c .before .before .before .before .before .before .if1 .left))))) .within, c .before .before .before .before .before .before .before .before .before .before .pre .1 .space, c .before .before .before .before .before .before .before .before .before .before .pre .1 .scene .within)
 
 distribute-mul-execute-3 : (t : ℕ) → distribute-lts.Need-mul-execute-3 (
   find-reads.Asked,
@@ -209,7 +224,7 @@ distribute-mul-execute-3 : (t : ℕ) → distribute-lts.Need-mul-execute-3 (
   distribute-below t,
   distribute.Post,
 ) (distribute-at t) distribute.Post
-distribute-mul-execute-3 t c = omega (arith, (c .before .before .find .ensures (sought ((c .before .before .before .before .before .before .before .before .before .pre .1) .scene) (the-first (c .before .before .before .before .before .before .before .before .before .pre .1) (some-left _ (c .before .before .before .before .before .if1 .left)) .pointer) (first-found (c .before .before .before .before .before .before .before .before .before .pre .1) (some-left _ (c .before .before .before .before .before .if1 .left))))) .within, c .before .before .before .before .before .before .before .before .before .pre .1 .space, c .before .before .before .before .before .before .before .before .before .pre .1 .scene .within)
+distribute-mul-execute-3 t c = omega (arith, (c .before .before .before .find .ensures (sought ((c .before .before .before .before .before .before .before .before .before .before .pre .1) .scene) (the-first (c .before .before .before .before .before .before .before .before .before .before .pre .1) (some-left _ (c .before .before .before .before .before .before .if1 .left)) .pointer) (first-found (c .before .before .before .before .before .before .before .before .before .before .pre .1) (some-left _ (c .before .before .before .before .before .before .if1 .left))))) .within, c .before .before .before .before .before .before .before .before .before .before .pre .1 .space, c .before .before .before .before .before .before .before .before .before .before .pre .1 .scene .within)
 
 distribute-slice-read-execute-3 : (t : ℕ) → distribute-lts.Need-slice-read-execute-3 (
   find-reads.Asked,
@@ -223,7 +238,7 @@ distribute-slice-read-execute-3 : (t : ℕ) → distribute-lts.Need-slice-read-e
   distribute-below t,
   distribute.Post,
 ) (distribute-at t) distribute.Post
-distribute-slice-read-execute-3 t c = omega (arith, (c .before .before .before .find .ensures (sought ((c .before .before .before .before .before .before .before .before .before .before .pre .1) .scene) (the-first (c .before .before .before .before .before .before .before .before .before .before .pre .1) (some-left _ (c .before .before .before .before .before .before .if1 .left)) .pointer) (first-found (c .before .before .before .before .before .before .before .before .before .before .pre .1) (some-left _ (c .before .before .before .before .before .before .if1 .left))))) .within, c .before .before .before .before .before .before .before .before .before .before .pre .1 .space, c .before .before .before .before .before .before .before .before .before .before .pre .1 .scene .within)
+distribute-slice-read-execute-3 t c = omega (arith, (c .before .before .before .before .find .ensures (sought ((c .before .before .before .before .before .before .before .before .before .before .before .pre .1) .scene) (the-first (c .before .before .before .before .before .before .before .before .before .before .before .pre .1) (some-left _ (c .before .before .before .before .before .before .before .if1 .left)) .pointer) (first-found (c .before .before .before .before .before .before .before .before .before .before .before .pre .1) (some-left _ (c .before .before .before .before .before .before .before .if1 .left))))) .within, c .before .before .before .before .before .before .before .before .before .before .before .pre .1 .space, c .before .before .before .before .before .before .before .before .before .before .before .pre .1 .scene .within)
 
 distribute-cast-execute-3 : (t : ℕ) → distribute-lts.Need-cast-execute-3 (
   find-reads.Asked,
@@ -237,7 +252,7 @@ distribute-cast-execute-3 : (t : ℕ) → distribute-lts.Need-cast-execute-3 (
   distribute-below t,
   distribute.Post,
 ) (distribute-at t) distribute.Post
-distribute-cast-execute-3 t c = omega (arith, c .slice-known5 .given (c .before .before .before .before .before .before .before .before .before .before .args .sp - 3 + 1))
+distribute-cast-execute-3 t c = omega (arith, c .slice-known6 .given (c .before .before .before .before .before .before .before .before .before .before .before .args .sp - 3 + 1))
 
 distribute-add-execute-2 : (t : ℕ) → distribute-lts.Need-add-execute-2 (
   find-reads.Asked,
@@ -251,7 +266,7 @@ distribute-add-execute-2 : (t : ℕ) → distribute-lts.Need-add-execute-2 (
   distribute-below t,
   distribute.Post,
 ) (distribute-at t) distribute.Post
-distribute-add-execute-2 t c = omega (arith, (c .before .before .before .find .ensures (sought ((c .before .before .before .before .before .before .before .before .before .before .pre .1) .scene) (the-first (c .before .before .before .before .before .before .before .before .before .before .pre .1) (some-left _ (c .before .before .before .before .before .before .if1 .left)) .pointer) (first-found (c .before .before .before .before .before .before .before .before .before .before .pre .1) (some-left _ (c .before .before .before .before .before .before .if1 .left))))) .within, c .before .before .before .before .before .before .before .before .before .before .pre .1 .space, c .before .before .before .before .before .before .before .before .before .before .pre .1 .scene .within)
+distribute-add-execute-2 t c = omega (arith, (c .before .before .before .before .find .ensures (sought ((c .before .before .before .before .before .before .before .before .before .before .before .pre .1) .scene) (the-first (c .before .before .before .before .before .before .before .before .before .before .before .pre .1) (some-left _ (c .before .before .before .before .before .before .before .if1 .left)) .pointer) (first-found (c .before .before .before .before .before .before .before .before .before .before .before .pre .1) (some-left _ (c .before .before .before .before .before .before .before .if1 .left))))) .within, c .before .before .before .before .before .before .before .before .before .before .before .pre .1 .space, c .before .before .before .before .before .before .before .before .before .before .before .pre .1 .scene .within)
 
 distribute-mul-execute-4 : (t : ℕ) → distribute-lts.Need-mul-execute-4 (
   find-reads.Asked,
@@ -265,7 +280,7 @@ distribute-mul-execute-4 : (t : ℕ) → distribute-lts.Need-mul-execute-4 (
   distribute-below t,
   distribute.Post,
 ) (distribute-at t) distribute.Post
-distribute-mul-execute-4 t c = omega (arith, (c .before .before .before .find .ensures (sought ((c .before .before .before .before .before .before .before .before .before .before .pre .1) .scene) (the-first (c .before .before .before .before .before .before .before .before .before .before .pre .1) (some-left _ (c .before .before .before .before .before .before .if1 .left)) .pointer) (first-found (c .before .before .before .before .before .before .before .before .before .before .pre .1) (some-left _ (c .before .before .before .before .before .before .if1 .left))))) .within, c .before .before .before .before .before .before .before .before .before .before .pre .1 .space, c .before .before .before .before .before .before .before .before .before .before .pre .1 .scene .within)
+distribute-mul-execute-4 t c = omega (arith, (c .before .before .before .before .find .ensures (sought ((c .before .before .before .before .before .before .before .before .before .before .before .pre .1) .scene) (the-first (c .before .before .before .before .before .before .before .before .before .before .before .pre .1) (some-left _ (c .before .before .before .before .before .before .before .if1 .left)) .pointer) (first-found (c .before .before .before .before .before .before .before .before .before .before .before .pre .1) (some-left _ (c .before .before .before .before .before .before .before .if1 .left))))) .within, c .before .before .before .before .before .before .before .before .before .before .before .pre .1 .space, c .before .before .before .before .before .before .before .before .before .before .before .pre .1 .scene .within)
 
 distribute-slice-read-execute-4 : (t : ℕ) → distribute-lts.Need-slice-read-execute-4 (
   find-reads.Asked,
@@ -279,7 +294,7 @@ distribute-slice-read-execute-4 : (t : ℕ) → distribute-lts.Need-slice-read-e
   distribute-below t,
   distribute.Post,
 ) (distribute-at t) distribute.Post
-distribute-slice-read-execute-4 t c = omega (arith, (c .before .before .before .before .find .ensures (sought ((c .before .before .before .before .before .before .before .before .before .before .before .pre .1) .scene) (the-first (c .before .before .before .before .before .before .before .before .before .before .before .pre .1) (some-left _ (c .before .before .before .before .before .before .before .if1 .left)) .pointer) (first-found (c .before .before .before .before .before .before .before .before .before .before .before .pre .1) (some-left _ (c .before .before .before .before .before .before .before .if1 .left))))) .within, c .before .before .before .before .before .before .before .before .before .before .before .pre .1 .space, c .before .before .before .before .before .before .before .before .before .before .before .pre .1 .scene .within)
+distribute-slice-read-execute-4 t c = omega (arith, (c .before .before .before .before .before .find .ensures (sought ((c .before .before .before .before .before .before .before .before .before .before .before .before .pre .1) .scene) (the-first (c .before .before .before .before .before .before .before .before .before .before .before .before .pre .1) (some-left _ (c .before .before .before .before .before .before .before .before .if1 .left)) .pointer) (first-found (c .before .before .before .before .before .before .before .before .before .before .before .before .pre .1) (some-left _ (c .before .before .before .before .before .before .before .before .if1 .left))))) .within, c .before .before .before .before .before .before .before .before .before .before .before .before .pre .1 .space, c .before .before .before .before .before .before .before .before .before .before .before .before .pre .1 .scene .within)
 
 distribute-cast-execute-4 : (t : ℕ) → distribute-lts.Need-cast-execute-4 (
   find-reads.Asked,
@@ -293,7 +308,7 @@ distribute-cast-execute-4 : (t : ℕ) → distribute-lts.Need-cast-execute-4 (
   distribute-below t,
   distribute.Post,
 ) (distribute-at t) distribute.Post
-distribute-cast-execute-4 t c = omega (arith, c .slice-known6 .given (c .before .before .before .before .before .before .before .before .before .before .before .args .sp - 3 + 2))
+distribute-cast-execute-4 t c = omega (arith, c .slice-known7 .given (c .before .before .before .before .before .before .before .before .before .before .before .before .args .sp - 3 + 2))
 
 distribute-add-execute-3 : (t : ℕ) → distribute-lts.Need-add-execute-3 (
   find-reads.Asked,
@@ -307,7 +322,7 @@ distribute-add-execute-3 : (t : ℕ) → distribute-lts.Need-add-execute-3 (
   distribute-below t,
   distribute.Post,
 ) (distribute-at t) distribute.Post
-distribute-add-execute-3 t c = omega (arith, (c .before .before .before .before .find .ensures (sought ((c .before .before .before .before .before .before .before .before .before .before .before .pre .1) .scene) (the-first (c .before .before .before .before .before .before .before .before .before .before .before .pre .1) (some-left _ (c .before .before .before .before .before .before .before .if1 .left)) .pointer) (first-found (c .before .before .before .before .before .before .before .before .before .before .before .pre .1) (some-left _ (c .before .before .before .before .before .before .before .if1 .left))))) .within, c .before .before .before .before .before .before .before .before .before .before .before .pre .1 .space, c .before .before .before .before .before .before .before .before .before .before .before .pre .1 .scene .within)
+distribute-add-execute-3 t c = omega (arith, (c .before .before .before .before .before .find .ensures (sought ((c .before .before .before .before .before .before .before .before .before .before .before .before .pre .1) .scene) (the-first (c .before .before .before .before .before .before .before .before .before .before .before .before .pre .1) (some-left _ (c .before .before .before .before .before .before .before .before .if1 .left)) .pointer) (first-found (c .before .before .before .before .before .before .before .before .before .before .before .before .pre .1) (some-left _ (c .before .before .before .before .before .before .before .before .if1 .left))))) .within, c .before .before .before .before .before .before .before .before .before .before .before .before .pre .1 .space, c .before .before .before .before .before .before .before .before .before .before .before .before .pre .1 .scene .within)
 
 distribute-mul-execute-5 : (t : ℕ) → distribute-lts.Need-mul-execute-5 (
   find-reads.Asked,
@@ -321,7 +336,7 @@ distribute-mul-execute-5 : (t : ℕ) → distribute-lts.Need-mul-execute-5 (
   distribute-below t,
   distribute.Post,
 ) (distribute-at t) distribute.Post
-distribute-mul-execute-5 t c = omega (arith, (c .before .before .before .before .find .ensures (sought ((c .before .before .before .before .before .before .before .before .before .before .before .pre .1) .scene) (the-first (c .before .before .before .before .before .before .before .before .before .before .before .pre .1) (some-left _ (c .before .before .before .before .before .before .before .if1 .left)) .pointer) (first-found (c .before .before .before .before .before .before .before .before .before .before .before .pre .1) (some-left _ (c .before .before .before .before .before .before .before .if1 .left))))) .within, c .before .before .before .before .before .before .before .before .before .before .before .pre .1 .space, c .before .before .before .before .before .before .before .before .before .before .before .pre .1 .scene .within)
+distribute-mul-execute-5 t c = omega (arith, (c .before .before .before .before .before .find .ensures (sought ((c .before .before .before .before .before .before .before .before .before .before .before .before .pre .1) .scene) (the-first (c .before .before .before .before .before .before .before .before .before .before .before .before .pre .1) (some-left _ (c .before .before .before .before .before .before .before .before .if1 .left)) .pointer) (first-found (c .before .before .before .before .before .before .before .before .before .before .before .before .pre .1) (some-left _ (c .before .before .before .before .before .before .before .before .if1 .left))))) .within, c .before .before .before .before .before .before .before .before .before .before .before .before .pre .1 .space, c .before .before .before .before .before .before .before .before .before .before .before .before .pre .1 .scene .within)
 
 distribute-slice-read-execute-5 : (t : ℕ) → distribute-lts.Need-slice-read-execute-5 (
   find-reads.Asked,
@@ -335,7 +350,7 @@ distribute-slice-read-execute-5 : (t : ℕ) → distribute-lts.Need-slice-read-e
   distribute-below t,
   distribute.Post,
 ) (distribute-at t) distribute.Post
-distribute-slice-read-execute-5 t c = omega (arith, (c .before .before .before .before .before .find .ensures (sought ((c .before .before .before .before .before .before .before .before .before .before .before .before .pre .1) .scene) (the-first (c .before .before .before .before .before .before .before .before .before .before .before .before .pre .1) (some-left _ (c .before .before .before .before .before .before .before .before .if1 .left)) .pointer) (first-found (c .before .before .before .before .before .before .before .before .before .before .before .before .pre .1) (some-left _ (c .before .before .before .before .before .before .before .before .if1 .left))))) .within, c .before .before .before .before .before .before .before .before .before .before .before .before .pre .1 .space, c .before .before .before .before .before .before .before .before .before .before .before .before .pre .1 .scene .within)
+distribute-slice-read-execute-5 t c = omega (arith, (c .before .before .before .before .before .before .find .ensures (sought ((c .before .before .before .before .before .before .before .before .before .before .before .before .before .pre .1) .scene) (the-first (c .before .before .before .before .before .before .before .before .before .before .before .before .before .pre .1) (some-left _ (c .before .before .before .before .before .before .before .before .before .if1 .left)) .pointer) (first-found (c .before .before .before .before .before .before .before .before .before .before .before .before .before .pre .1) (some-left _ (c .before .before .before .before .before .before .before .before .before .if1 .left))))) .within, c .before .before .before .before .before .before .before .before .before .before .before .before .before .pre .1 .space, c .before .before .before .before .before .before .before .before .before .before .before .before .before .pre .1 .scene .within)
 
 distribute-cast-execute-5 : (t : ℕ) → distribute-lts.Need-cast-execute-5 (
   find-reads.Asked,
@@ -349,7 +364,7 @@ distribute-cast-execute-5 : (t : ℕ) → distribute-lts.Need-cast-execute-5 (
   distribute-below t,
   distribute.Post,
 ) (distribute-at t) distribute.Post
-distribute-cast-execute-5 t c = omega (arith, c .slice-known7 .given (c .before .before .before .before .before .find .result + 2 + 1))
+distribute-cast-execute-5 t c = omega (arith, c .slice-known8 .given (c .before .before .before .before .before .before .find .result + 2 + 1))
 
 distribute-add-execute-4 : (t : ℕ) → distribute-lts.Need-add-execute-4 (
   find-reads.Asked,
@@ -363,7 +378,7 @@ distribute-add-execute-4 : (t : ℕ) → distribute-lts.Need-add-execute-4 (
   distribute-below t,
   distribute.Post,
 ) (distribute-at t) distribute.Post
-distribute-add-execute-4 t c = omega (arith, (c .before .before .before .before .before .find .ensures (sought ((c .before .before .before .before .before .before .before .before .before .before .before .before .pre .1) .scene) (the-first (c .before .before .before .before .before .before .before .before .before .before .before .before .pre .1) (some-left _ (c .before .before .before .before .before .before .before .before .if1 .left)) .pointer) (first-found (c .before .before .before .before .before .before .before .before .before .before .before .before .pre .1) (some-left _ (c .before .before .before .before .before .before .before .before .if1 .left))))) .within, c .before .before .before .before .before .before .before .before .before .before .before .before .pre .1 .space, c .before .before .before .before .before .before .before .before .before .before .before .before .pre .1 .scene .within)
+distribute-add-execute-4 t c = omega (arith, (c .before .before .before .before .before .before .find .ensures (sought ((c .before .before .before .before .before .before .before .before .before .before .before .before .before .pre .1) .scene) (the-first (c .before .before .before .before .before .before .before .before .before .before .before .before .before .pre .1) (some-left _ (c .before .before .before .before .before .before .before .before .before .if1 .left)) .pointer) (first-found (c .before .before .before .before .before .before .before .before .before .before .before .before .before .pre .1) (some-left _ (c .before .before .before .before .before .before .before .before .before .if1 .left))))) .within, c .before .before .before .before .before .before .before .before .before .before .before .before .before .pre .1 .space, c .before .before .before .before .before .before .before .before .before .before .before .before .before .pre .1 .scene .within)
 
 distribute-mul-execute-6 : (t : ℕ) → distribute-lts.Need-mul-execute-6 (
   find-reads.Asked,
@@ -377,7 +392,7 @@ distribute-mul-execute-6 : (t : ℕ) → distribute-lts.Need-mul-execute-6 (
   distribute-below t,
   distribute.Post,
 ) (distribute-at t) distribute.Post
-distribute-mul-execute-6 t c = omega (arith, (c .before .before .before .before .before .find .ensures (sought ((c .before .before .before .before .before .before .before .before .before .before .before .before .pre .1) .scene) (the-first (c .before .before .before .before .before .before .before .before .before .before .before .before .pre .1) (some-left _ (c .before .before .before .before .before .before .before .before .if1 .left)) .pointer) (first-found (c .before .before .before .before .before .before .before .before .before .before .before .before .pre .1) (some-left _ (c .before .before .before .before .before .before .before .before .if1 .left))))) .within, c .before .before .before .before .before .before .before .before .before .before .before .before .pre .1 .space, c .before .before .before .before .before .before .before .before .before .before .before .before .pre .1 .scene .within)
+distribute-mul-execute-6 t c = omega (arith, (c .before .before .before .before .before .before .find .ensures (sought ((c .before .before .before .before .before .before .before .before .before .before .before .before .before .pre .1) .scene) (the-first (c .before .before .before .before .before .before .before .before .before .before .before .before .before .pre .1) (some-left _ (c .before .before .before .before .before .before .before .before .before .if1 .left)) .pointer) (first-found (c .before .before .before .before .before .before .before .before .before .before .before .before .before .pre .1) (some-left _ (c .before .before .before .before .before .before .before .before .before .if1 .left))))) .within, c .before .before .before .before .before .before .before .before .before .before .before .before .before .pre .1 .space, c .before .before .before .before .before .before .before .before .before .before .before .before .before .pre .1 .scene .within)
 
 distribute-slice-read-execute-6 : (t : ℕ) → distribute-lts.Need-slice-read-execute-6 (
   find-reads.Asked,
@@ -391,7 +406,7 @@ distribute-slice-read-execute-6 : (t : ℕ) → distribute-lts.Need-slice-read-e
   distribute-below t,
   distribute.Post,
 ) (distribute-at t) distribute.Post
-distribute-slice-read-execute-6 t c = omega (arith, (c .before .before .before .before .before .before .find .ensures (sought ((c .before .before .before .before .before .before .before .before .before .before .before .before .before .pre .1) .scene) (the-first (c .before .before .before .before .before .before .before .before .before .before .before .before .before .pre .1) (some-left _ (c .before .before .before .before .before .before .before .before .before .if1 .left)) .pointer) (first-found (c .before .before .before .before .before .before .before .before .before .before .before .before .before .pre .1) (some-left _ (c .before .before .before .before .before .before .before .before .before .if1 .left))))) .within, c .before .before .before .before .before .before .before .before .before .before .before .before .before .pre .1 .space, c .before .before .before .before .before .before .before .before .before .before .before .before .before .pre .1 .scene .within)
+distribute-slice-read-execute-6 t c = omega (arith, (c .before .before .before .before .before .before .before .find .ensures (sought ((c .before .before .before .before .before .before .before .before .before .before .before .before .before .before .pre .1) .scene) (the-first (c .before .before .before .before .before .before .before .before .before .before .before .before .before .before .pre .1) (some-left _ (c .before .before .before .before .before .before .before .before .before .before .if1 .left)) .pointer) (first-found (c .before .before .before .before .before .before .before .before .before .before .before .before .before .before .pre .1) (some-left _ (c .before .before .before .before .before .before .before .before .before .before .if1 .left))))) .within, c .before .before .before .before .before .before .before .before .before .before .before .before .before .before .pre .1 .space, c .before .before .before .before .before .before .before .before .before .before .before .before .before .before .pre .1 .scene .within)
 
 distribute-cast-execute-6 : (t : ℕ) → distribute-lts.Need-cast-execute-6 (
   find-reads.Asked,
@@ -405,7 +420,7 @@ distribute-cast-execute-6 : (t : ℕ) → distribute-lts.Need-cast-execute-6 (
   distribute-below t,
   distribute.Post,
 ) (distribute-at t) distribute.Post
-distribute-cast-execute-6 t c = omega (arith, c .slice-known8 .given (c .before .before .before .before .before .before .find .result + 2 + 2))
+distribute-cast-execute-6 t c = omega (arith, c .slice-known9 .given (c .before .before .before .before .before .before .before .find .result + 2 + 2))
 
 distribute-execute-requires : (t : ℕ) → distribute-lts.Need-execute-requires (
   find-reads.Asked,
@@ -419,7 +434,7 @@ distribute-execute-requires : (t : ℕ) → distribute-lts.Need-execute-requires
   distribute-below t,
   distribute.Post,
 ) (distribute-at t) distribute.Post
-distribute-execute-requires t c κs = (c .before .before .before .before .before .before .before .before .before .before .before .before .before .before .before .pre .1 .scene .machine, distr-ready (c .before .before .before .before .before .before .before .before .before .before .before .before .before .before .before .pre .1) (some-left _ (c .before .before .before .before .before .before .before .before .before .before .before .if1 .left)) (c .before .before .before .before .before .before .before .before .find .ensures (sought ((c .before .before .before .before .before .before .before .before .before .before .before .before .before .before .before .pre .1) .scene) (the-first (c .before .before .before .before .before .before .before .before .before .before .before .before .before .before .before .pre .1) (some-left _ (c .before .before .before .before .before .before .before .before .before .before .before .if1 .left)) .pointer) (first-found (c .before .before .before .before .before .before .before .before .before .before .before .before .before .before .before .pre .1) (some-left _ (c .before .before .before .before .before .before .before .before .before .before .before .if1 .left))))))
+distribute-execute-requires t c κs = (_, c .before .before .before .before .before .before .before .before .before .before .before .before .before .before .before .before .pre .1 .scene .machine, distr-ready (c .before .before .before .before .before .before .before .before .before .before .before .before .before .before .before .before .pre .1) (some-left _ (c .before .before .before .before .before .before .before .before .before .before .before .before .if1 .left)) (c .before .before .before .before .before .before .before .before .before .find .ensures (sought ((c .before .before .before .before .before .before .before .before .before .before .before .before .before .before .before .before .pre .1) .scene) (the-first (c .before .before .before .before .before .before .before .before .before .before .before .before .before .before .before .before .pre .1) (some-left _ (c .before .before .before .before .before .before .before .before .before .before .before .before .if1 .left)) .pointer) (first-found (c .before .before .before .before .before .before .before .before .before .before .before .before .before .before .before .before .pre .1) (some-left _ (c .before .before .before .before .before .before .before .before .before .before .before .before .if1 .left))))))
 
 distribute-enum-known-made : (t : ℕ) → distribute-lts.Need-enum-known-made (
   find-reads.Asked,
@@ -447,7 +462,7 @@ distribute-put-name-requires : (t : ℕ) → distribute-lts.Need-put-name-requir
   distribute-below t,
   distribute.Post,
 ) (distribute-at t) distribute.Post
-distribute-put-name-requires t c κs = (omega (arith, c .before .before .before .before .before .before .before .before .before .before .before .before .before .before .before .before .before .before .before .before .before .before .before .pre .1 .space, c .before .before .before .before .before .before .before .before .before .before .before .before .before .before .before .before .before .before .before .before .before .before .before .pre .1 .scene .within), omega arith)
+distribute-put-name-requires t c κs = (omega (arith, c .before .before .before .before .before .before .before .before .before .before .before .before .before .before .before .before .before .before .before .before .before .before .before .before .pre .1 .space, c .before .before .before .before .before .before .before .before .before .before .before .before .before .before .before .before .before .before .before .before .before .before .before .before .pre .1 .scene .within), omega arith)
 
 distribute-add-push : (t : ℕ) → distribute-lts.Need-add-push (
   find-reads.Asked,
@@ -461,7 +476,7 @@ distribute-add-push : (t : ℕ) → distribute-lts.Need-add-push (
   distribute-below t,
   distribute.Post,
 ) (distribute-at t) distribute.Post
-distribute-add-push t c = omega (arith, c .before .before .before .before .before .before .before .before .before .before .before .before .before .before .before .before .before .before .before .before .before .before .before .before .before .before .pre .1 .space)
+distribute-add-push t c = omega (arith, c .before .before .before .before .before .before .before .before .before .before .before .before .before .before .before .before .before .before .before .before .before .before .before .before .before .before .before .pre .1 .space)
 
 distribute-push-requires : (t : ℕ) → distribute-lts.Need-push-requires (
   find-reads.Asked,
@@ -475,7 +490,7 @@ distribute-push-requires : (t : ℕ) → distribute-lts.Need-push-requires (
   distribute-below t,
   distribute.Post,
 ) (distribute-at t) distribute.Post
-distribute-push-requires t c κs = let f = distr-push (c .before .before .before .before .before .before .before .before .before .before .before .before .before .before .before .before .before .before .before .before .before .before .before .before .before .before .before .before .pre .1) (some-left _ (c .before .before .before .before .before .before .before .before .before .before .before .before .before .before .before .before .before .before .before .before .before .before .before .before .if1 .left)) (c .before .before .before .before .before .before .before .before .before .before .before .before .before .before .before .before .before .before .before .before .before .find .ensures (sought ((c .before .before .before .before .before .before .before .before .before .before .before .before .before .before .before .before .before .before .before .before .before .before .before .before .before .before .before .before .pre .1) .scene) (the-first (c .before .before .before .before .before .before .before .before .before .before .before .before .before .before .before .before .before .before .before .before .before .before .before .before .before .before .before .before .pre .1) (some-left _ (c .before .before .before .before .before .before .before .before .before .before .before .before .before .before .before .before .before .before .before .before .before .before .before .before .if1 .left)) .pointer) (first-found (c .before .before .before .before .before .before .before .before .before .before .before .before .before .before .before .before .before .before .before .before .before .before .before .before .before .before .before .before .pre .1) (some-left _ (c .before .before .before .before .before .before .before .before .before .before .before .before .before .before .before .before .before .before .before .before .before .before .before .before .if1 .left))))) _ (making _ _ _ (c .before .before .before .before .before .before .before .before .before .before .before .before .execute .ensures ((c .before .before .before .before .before .before .before .before .before .before .before .before .before .before .before .before .before .before .before .before .before .before .before .before .before .before .before .before .pre .1) .scene .machine) (distr-ready (c .before .before .before .before .before .before .before .before .before .before .before .before .before .before .before .before .before .before .before .before .before .before .before .before .before .before .before .before .pre .1) (some-left _ (c .before .before .before .before .before .before .before .before .before .before .before .before .before .before .before .before .before .before .before .before .before .before .before .before .if1 .left)) (c .before .before .before .before .before .before .before .before .before .before .before .before .before .before .before .before .before .before .before .before .before .find .ensures (sought ((c .before .before .before .before .before .before .before .before .before .before .before .before .before .before .before .before .before .before .before .before .before .before .before .before .before .before .before .before .pre .1) .scene) (the-first (c .before .before .before .before .before .before .before .before .before .before .before .before .before .before .before .before .before .before .before .before .before .before .before .before .before .before .before .before .pre .1) (some-left _ (c .before .before .before .before .before .before .before .before .before .before .before .before .before .before .before .before .before .before .before .before .before .before .before .before .if1 .left)) .pointer) (first-found (c .before .before .before .before .before .before .before .before .before .before .before .before .before .before .before .before .before .before .before .before .before .before .before .before .before .before .before .before .pre .1) (some-left _ (c .before .before .before .before .before .before .before .before .before .before .before .before .before .before .before .before .before .before .before .before .before .before .before .before .if1 .left))))))) _ (c .before .before .before .before .before .before .before .made .given .1)) in (omega arith, omega (arith, c .before .before .before .before .put-name .kept .0, c .before .before .before .before .before .before .before .before .before .before .before .before .before .before .before .before .before .before .before .before .before .before .before .before .before .before .before .before .pre .1 .space, c .before .before .before .before .before .before .before .before .before .before .before .before .before .before .before .before .before .before .before .before .before .before .before .before .before .before .before .before .pre .1 .scene .within, (some-left _ (c .before .before .before .before .before .before .before .before .before .before .before .before .before .before .before .before .before .before .before .before .before .before .before .before .if1 .left))), f .0, f .1, f .2, f .3, f .4)
+distribute-push-requires t c κs = let f = distr-push (c .before .before .before .before .before .before .before .before .before .before .before .before .before .before .before .before .before .before .before .before .before .before .before .before .before .before .before .before .before .pre .1) (some-left _ (c .before .before .before .before .before .before .before .before .before .before .before .before .before .before .before .before .before .before .before .before .before .before .before .before .before .if1 .left)) (c .before .before .before .before .before .before .before .before .before .before .before .before .before .before .before .before .before .before .before .before .before .before .find .ensures (sought ((c .before .before .before .before .before .before .before .before .before .before .before .before .before .before .before .before .before .before .before .before .before .before .before .before .before .before .before .before .before .pre .1) .scene) (the-first (c .before .before .before .before .before .before .before .before .before .before .before .before .before .before .before .before .before .before .before .before .before .before .before .before .before .before .before .before .before .pre .1) (some-left _ (c .before .before .before .before .before .before .before .before .before .before .before .before .before .before .before .before .before .before .before .before .before .before .before .before .before .if1 .left)) .pointer) (first-found (c .before .before .before .before .before .before .before .before .before .before .before .before .before .before .before .before .before .before .before .before .before .before .before .before .before .before .before .before .before .pre .1) (some-left _ (c .before .before .before .before .before .before .before .before .before .before .before .before .before .before .before .before .before .before .before .before .before .before .before .before .before .if1 .left))))) _ (making _ _ _ (c .before .before .before .before .before .before .before .before .before .before .before .before .execute .ensures _ ((c .before .before .before .before .before .before .before .before .before .before .before .before .before .before .before .before .before .before .before .before .before .before .before .before .before .before .before .before .before .pre .1) .scene .machine) (distr-ready (c .before .before .before .before .before .before .before .before .before .before .before .before .before .before .before .before .before .before .before .before .before .before .before .before .before .before .before .before .before .pre .1) (some-left _ (c .before .before .before .before .before .before .before .before .before .before .before .before .before .before .before .before .before .before .before .before .before .before .before .before .before .if1 .left)) (c .before .before .before .before .before .before .before .before .before .before .before .before .before .before .before .before .before .before .before .before .before .before .find .ensures (sought ((c .before .before .before .before .before .before .before .before .before .before .before .before .before .before .before .before .before .before .before .before .before .before .before .before .before .before .before .before .before .pre .1) .scene) (the-first (c .before .before .before .before .before .before .before .before .before .before .before .before .before .before .before .before .before .before .before .before .before .before .before .before .before .before .before .before .before .pre .1) (some-left _ (c .before .before .before .before .before .before .before .before .before .before .before .before .before .before .before .before .before .before .before .before .before .before .before .before .before .if1 .left)) .pointer) (first-found (c .before .before .before .before .before .before .before .before .before .before .before .before .before .before .before .before .before .before .before .before .before .before .before .before .before .before .before .before .before .pre .1) (some-left _ (c .before .before .before .before .before .before .before .before .before .before .before .before .before .before .before .before .before .before .before .before .before .before .before .before .before .if1 .left))))))) _ (c .before .before .before .before .before .before .before .made .given .1)) in (omega arith, omega (arith, c .before .before .before .before .put-name .kept .0, c .before .before .before .before .before .before .before .before .before .before .before .before .before .before .before .before .before .before .before .before .before .before .before .before .before .before .before .before .before .pre .1 .space, c .before .before .before .before .before .before .before .before .before .before .before .before .before .before .before .before .before .before .before .before .before .before .before .before .before .before .before .before .before .pre .1 .scene .within, (some-left _ (c .before .before .before .before .before .before .before .before .before .before .before .before .before .before .before .before .before .before .before .before .before .before .before .before .before .if1 .left))), f .0, f .1, f .2, f .3, f .4)
 
 distribute-add-distribute : (t : ℕ) → distribute-lts.Need-add-distribute (
   find-reads.Asked,
@@ -489,7 +504,7 @@ distribute-add-distribute : (t : ℕ) → distribute-lts.Need-add-distribute (
   distribute-below t,
   distribute.Post,
 ) (distribute-at t) distribute.Post
-distribute-add-distribute t c = omega (arith, c .before .before .before .before .before .before .before .before .before .before .before .before .before .before .before .before .before .before .before .before .before .before .before .before .before .before .before .before .before .before .before .pre .1 .bytes, (some-left _ (c .before .before .before .before .before .before .before .before .before .before .before .before .before .before .before .before .before .before .before .before .before .before .before .before .before .before .before .if1 .left)))
+distribute-add-distribute t c = omega (arith, c .before .before .before .before .before .before .before .before .before .before .before .before .before .before .before .before .before .before .before .before .before .before .before .before .before .before .before .before .before .before .before .before .pre .1 .bytes, (some-left _ (c .before .before .before .before .before .before .before .before .before .before .before .before .before .before .before .before .before .before .before .before .before .before .before .before .before .before .before .before .if1 .left)))
 
 distribute-sub-distribute : (t : ℕ) → distribute-lts.Need-sub-distribute (
   find-reads.Asked,
@@ -503,7 +518,7 @@ distribute-sub-distribute : (t : ℕ) → distribute-lts.Need-sub-distribute (
   distribute-below t,
   distribute.Post,
 ) (distribute-at t) distribute.Post
-distribute-sub-distribute t c = omega (arith, (some-left _ (c .before .before .before .before .before .before .before .before .before .before .before .before .before .before .before .before .before .before .before .before .before .before .before .before .before .before .before .if1 .left)))
+distribute-sub-distribute t c = omega (arith, (some-left _ (c .before .before .before .before .before .before .before .before .before .before .before .before .before .before .before .before .before .before .before .before .before .before .before .before .before .before .before .before .if1 .left)))
 
 distribute-add-distribute-2 : (t : ℕ) → distribute-lts.Need-add-distribute-2 (
   find-reads.Asked,
@@ -517,7 +532,7 @@ distribute-add-distribute-2 : (t : ℕ) → distribute-lts.Need-add-distribute-2
   distribute-below t,
   distribute.Post,
 ) (distribute-at t) distribute.Post
-distribute-add-distribute-2 t c = omega (arith, c .before .before .before .before .before .before .before .before .before .before .before .before .before .before .before .before .before .before .before .before .before .before .before .before .before .before .before .before .before .before .before .pre .1 .space, c .before .before .before .before .before .before .before .before .before .before .before .before .before .before .before .before .before .before .before .before .before .before .before .before .before .before .before .before .before .before .before .fits .sp)
+distribute-add-distribute-2 t c = omega (arith, c .before .before .before .before .before .before .before .before .before .before .before .before .before .before .before .before .before .before .before .before .before .before .before .before .before .before .before .before .before .before .before .before .pre .1 .space, c .before .before .before .before .before .before .before .before .before .before .before .before .before .before .before .before .before .before .before .before .before .before .before .before .before .before .before .before .before .before .before .before .fits .sp)
 
 distribute-distribute-requires : (t : ℕ) → distribute-lts.Need-distribute-requires (
   find-reads.Asked,
@@ -531,7 +546,7 @@ distribute-distribute-requires : (t : ℕ) → distribute-lts.Need-distribute-re
   distribute-below t,
   distribute.Post,
 ) (distribute-at t) distribute.Post
-distribute-distribute-requires t c κs = (omega (arith, c .before .before .before .before .before .before .before .before .before .before .before .before .before .before .before .before .before .before .before .before .before .before .before .before .before .before .before .before .before .before .before .before .before .before .pre .0, (some-left _ (c .before .before .before .before .before .before .before .before .before .before .before .before .before .before .before .before .before .before .before .before .before .before .before .before .before .before .before .before .before .before .if1 .left))), others-ready (c .before .before .before .before .before .before .before .before .before .before .before .before .before .before .before .before .before .before .before .before .before .before .before .before .before .before .before .before .before .before .before .before .before .before .pre .1) (some-left _ (c .before .before .before .before .before .before .before .before .before .before .before .before .before .before .before .before .before .before .before .before .before .before .before .before .before .before .before .before .before .before .if1 .left)) (c .before .before .before .before .before .before .before .before .before .before .before .before .before .before .before .before .before .before .before .before .before .before .before .before .before .before .before .find .ensures (sought ((c .before .before .before .before .before .before .before .before .before .before .before .before .before .before .before .before .before .before .before .before .before .before .before .before .before .before .before .before .before .before .before .before .before .before .pre .1) .scene) (the-first (c .before .before .before .before .before .before .before .before .before .before .before .before .before .before .before .before .before .before .before .before .before .before .before .before .before .before .before .before .before .before .before .before .before .before .pre .1) (some-left _ (c .before .before .before .before .before .before .before .before .before .before .before .before .before .before .before .before .before .before .before .before .before .before .before .before .before .before .before .before .before .before .if1 .left)) .pointer) (first-found (c .before .before .before .before .before .before .before .before .before .before .before .before .before .before .before .before .before .before .before .before .before .before .before .before .before .before .before .before .before .before .before .before .before .before .pre .1) (some-left _ (c .before .before .before .before .before .before .before .before .before .before .before .before .before .before .before .before .before .before .before .before .before .before .before .before .before .before .before .before .before .before .if1 .left))))) _ (making _ _ _ (c .before .before .before .before .before .before .before .before .before .before .before .before .before .before .before .before .before .before .execute .ensures ((c .before .before .before .before .before .before .before .before .before .before .before .before .before .before .before .before .before .before .before .before .before .before .before .before .before .before .before .before .before .before .before .before .before .before .pre .1) .scene .machine) (distr-ready (c .before .before .before .before .before .before .before .before .before .before .before .before .before .before .before .before .before .before .before .before .before .before .before .before .before .before .before .before .before .before .before .before .before .before .pre .1) (some-left _ (c .before .before .before .before .before .before .before .before .before .before .before .before .before .before .before .before .before .before .before .before .before .before .before .before .before .before .before .before .before .before .if1 .left)) (c .before .before .before .before .before .before .before .before .before .before .before .before .before .before .before .before .before .before .before .before .before .before .before .before .before .before .before .find .ensures (sought ((c .before .before .before .before .before .before .before .before .before .before .before .before .before .before .before .before .before .before .before .before .before .before .before .before .before .before .before .before .before .before .before .before .before .before .pre .1) .scene) (the-first (c .before .before .before .before .before .before .before .before .before .before .before .before .before .before .before .before .before .before .before .before .before .before .before .before .before .before .before .before .before .before .before .before .before .before .pre .1) (some-left _ (c .before .before .before .before .before .before .before .before .before .before .before .before .before .before .before .before .before .before .before .before .before .before .before .before .before .before .before .before .before .before .if1 .left)) .pointer) (first-found (c .before .before .before .before .before .before .before .before .before .before .before .before .before .before .before .before .before .before .before .before .before .before .before .before .before .before .before .before .before .before .before .before .before .before .pre .1) (some-left _ (c .before .before .before .before .before .before .before .before .before .before .before .before .before .before .before .before .before .before .before .before .before .before .before .before .before .before .before .before .before .before .if1 .left))))))) _ (c .before .before .before .before .before .before .before .before .before .before .before .before .before .made .given .1)) (c .before .before .before .before .before .before .before .before .before .before .put-name .ensures) (c .before .before .before .before .before .push .ensures))
+distribute-distribute-requires t c κs = (omega (arith, c .before .before .before .before .before .before .before .before .before .before .before .before .before .before .before .before .before .before .before .before .before .before .before .before .before .before .before .before .before .before .before .before .before .before .before .pre .0, (some-left _ (c .before .before .before .before .before .before .before .before .before .before .before .before .before .before .before .before .before .before .before .before .before .before .before .before .before .before .before .before .before .before .before .if1 .left))), others-ready (c .before .before .before .before .before .before .before .before .before .before .before .before .before .before .before .before .before .before .before .before .before .before .before .before .before .before .before .before .before .before .before .before .before .before .before .pre .1) (some-left _ (c .before .before .before .before .before .before .before .before .before .before .before .before .before .before .before .before .before .before .before .before .before .before .before .before .before .before .before .before .before .before .before .if1 .left)) (c .before .before .before .before .before .before .before .before .before .before .before .before .before .before .before .before .before .before .before .before .before .before .before .before .before .before .before .before .find .ensures (sought ((c .before .before .before .before .before .before .before .before .before .before .before .before .before .before .before .before .before .before .before .before .before .before .before .before .before .before .before .before .before .before .before .before .before .before .before .pre .1) .scene) (the-first (c .before .before .before .before .before .before .before .before .before .before .before .before .before .before .before .before .before .before .before .before .before .before .before .before .before .before .before .before .before .before .before .before .before .before .before .pre .1) (some-left _ (c .before .before .before .before .before .before .before .before .before .before .before .before .before .before .before .before .before .before .before .before .before .before .before .before .before .before .before .before .before .before .before .if1 .left)) .pointer) (first-found (c .before .before .before .before .before .before .before .before .before .before .before .before .before .before .before .before .before .before .before .before .before .before .before .before .before .before .before .before .before .before .before .before .before .before .before .pre .1) (some-left _ (c .before .before .before .before .before .before .before .before .before .before .before .before .before .before .before .before .before .before .before .before .before .before .before .before .before .before .before .before .before .before .before .if1 .left))))) _ (making _ _ _ (c .before .before .before .before .before .before .before .before .before .before .before .before .before .before .before .before .before .before .execute .ensures _ ((c .before .before .before .before .before .before .before .before .before .before .before .before .before .before .before .before .before .before .before .before .before .before .before .before .before .before .before .before .before .before .before .before .before .before .before .pre .1) .scene .machine) (distr-ready (c .before .before .before .before .before .before .before .before .before .before .before .before .before .before .before .before .before .before .before .before .before .before .before .before .before .before .before .before .before .before .before .before .before .before .before .pre .1) (some-left _ (c .before .before .before .before .before .before .before .before .before .before .before .before .before .before .before .before .before .before .before .before .before .before .before .before .before .before .before .before .before .before .before .if1 .left)) (c .before .before .before .before .before .before .before .before .before .before .before .before .before .before .before .before .before .before .before .before .before .before .before .before .before .before .before .before .find .ensures (sought ((c .before .before .before .before .before .before .before .before .before .before .before .before .before .before .before .before .before .before .before .before .before .before .before .before .before .before .before .before .before .before .before .before .before .before .before .pre .1) .scene) (the-first (c .before .before .before .before .before .before .before .before .before .before .before .before .before .before .before .before .before .before .before .before .before .before .before .before .before .before .before .before .before .before .before .before .before .before .before .pre .1) (some-left _ (c .before .before .before .before .before .before .before .before .before .before .before .before .before .before .before .before .before .before .before .before .before .before .before .before .before .before .before .before .before .before .before .if1 .left)) .pointer) (first-found (c .before .before .before .before .before .before .before .before .before .before .before .before .before .before .before .before .before .before .before .before .before .before .before .before .before .before .before .before .before .before .before .before .before .before .before .pre .1) (some-left _ (c .before .before .before .before .before .before .before .before .before .before .before .before .before .before .before .before .before .before .before .before .before .before .before .before .before .before .before .before .before .before .before .if1 .left))))))) _ (c .before .before .before .before .before .before .before .before .before .before .before .before .before .made .given .1)) (c .before .before .before .before .before .before .before .before .before .before .put-name .ensures) (c .before .before .before .before .before .push .ensures))
 
 distribute-enum-known-r : (t : ℕ) → distribute-lts.Need-enum-known-r (
   find-reads.Asked,
@@ -601,7 +616,7 @@ distribute-returns-2 : (t : ℕ) → distribute-lts.Need-returns-2 (
   distribute-below t,
   distribute.Post,
 ) (distribute-at t) distribute.Post
-distribute-returns-2 t c = λ g. distributed g (some-left _ (c .before .before .before .before .before .before .before .before .before .before .before .before .before .before .before .before .before .before .before .before .before .before .before .before .before .before .before .before .before .before .before .before .before .before .before .before .if1 .left)) (c .before .before .before .before .before .before .before .before .before .before .before .before .before .before .before .before .before .before .before .before .before .before .before .before .before .before .before .before .before .before .before .before .before .find .ensures (sought (g .scene) (the-first g (some-left _ (c .before .before .before .before .before .before .before .before .before .before .before .before .before .before .before .before .before .before .before .before .before .before .before .before .before .before .before .before .before .before .before .before .before .before .before .before .if1 .left)) .pointer) (first-found g (some-left _ (c .before .before .before .before .before .before .before .before .before .before .before .before .before .before .before .before .before .before .before .before .before .before .before .before .before .before .before .before .before .before .before .before .before .before .before .before .if1 .left))))) _ (making _ _ _ (c .before .before .before .before .before .before .before .before .before .before .before .before .before .before .before .before .before .before .before .before .before .before .before .before .execute .ensures (g .scene .machine) (distr-ready g (some-left _ (c .before .before .before .before .before .before .before .before .before .before .before .before .before .before .before .before .before .before .before .before .before .before .before .before .before .before .before .before .before .before .before .before .before .before .before .before .if1 .left)) (c .before .before .before .before .before .before .before .before .before .before .before .before .before .before .before .before .before .before .before .before .before .before .before .before .before .before .before .before .before .before .before .before .before .find .ensures (sought (g .scene) (the-first g (some-left _ (c .before .before .before .before .before .before .before .before .before .before .before .before .before .before .before .before .before .before .before .before .before .before .before .before .before .before .before .before .before .before .before .before .before .before .before .before .if1 .left)) .pointer) (first-found g (some-left _ (c .before .before .before .before .before .before .before .before .before .before .before .before .before .before .before .before .before .before .before .before .before .before .before .before .before .before .before .before .before .before .before .before .before .before .before .before .if1 .left))))))) _ (c .before .before .before .before .before .before .before .before .before .before .before .before .before .before .before .before .before .before .before .made .given .1)) (c .before .before .before .before .before .before .before .before .before .before .before .before .before .before .before .before .put-name .ensures) (c .before .before .before .before .before .before .before .before .before .before .before .push .ensures) (c .before .before .before .before .before .before .before .before .before .before .before .before .before .before .before .before .before .before .before .before .before .before .before .before .execute .kept .1 .1 .1 .1 .1 .1 .0) (c .before .before .before .before .before .distribute .ensures (others-ready g (some-left _ (c .before .before .before .before .before .before .before .before .before .before .before .before .before .before .before .before .before .before .before .before .before .before .before .before .before .before .before .before .before .before .before .before .before .before .before .before .if1 .left)) (c .before .before .before .before .before .before .before .before .before .before .before .before .before .before .before .before .before .before .before .before .before .before .before .before .before .before .before .before .before .before .before .before .before .find .ensures (sought (g .scene) (the-first g (some-left _ (c .before .before .before .before .before .before .before .before .before .before .before .before .before .before .before .before .before .before .before .before .before .before .before .before .before .before .before .before .before .before .before .before .before .before .before .before .if1 .left)) .pointer) (first-found g (some-left _ (c .before .before .before .before .before .before .before .before .before .before .before .before .before .before .before .before .before .before .before .before .before .before .before .before .before .before .before .before .before .before .before .before .before .before .before .before .if1 .left))))) _ (making _ _ _ (c .before .before .before .before .before .before .before .before .before .before .before .before .before .before .before .before .before .before .before .before .before .before .before .before .execute .ensures (g .scene .machine) (distr-ready g (some-left _ (c .before .before .before .before .before .before .before .before .before .before .before .before .before .before .before .before .before .before .before .before .before .before .before .before .before .before .before .before .before .before .before .before .before .before .before .before .if1 .left)) (c .before .before .before .before .before .before .before .before .before .before .before .before .before .before .before .before .before .before .before .before .before .before .before .before .before .before .before .before .before .before .before .before .before .find .ensures (sought (g .scene) (the-first g (some-left _ (c .before .before .before .before .before .before .before .before .before .before .before .before .before .before .before .before .before .before .before .before .before .before .before .before .before .before .before .before .before .before .before .before .before .before .before .before .if1 .left)) .pointer) (first-found g (some-left _ (c .before .before .before .before .before .before .before .before .before .before .before .before .before .before .before .before .before .before .before .before .before .before .before .before .before .before .before .before .before .before .before .before .before .before .before .before .if1 .left))))))) _ (c .before .before .before .before .before .before .before .before .before .before .before .before .before .before .before .before .before .before .before .made .given .1)) (c .before .before .before .before .before .before .before .before .before .before .before .before .before .before .before .before .put-name .ensures) (c .before .before .before .before .before .before .before .before .before .before .before .push .ensures)))
+distribute-returns-2 t c = λ g. distributed g (some-left _ (c .before .before .before .before .before .before .before .before .before .before .before .before .before .before .before .before .before .before .before .before .before .before .before .before .before .before .before .before .before .before .before .before .before .before .before .before .before .if1 .left)) (c .before .before .before .before .before .before .before .before .before .before .before .before .before .before .before .before .before .before .before .before .before .before .before .before .before .before .before .before .before .before .before .before .before .before .find .ensures (sought (g .scene) (the-first g (some-left _ (c .before .before .before .before .before .before .before .before .before .before .before .before .before .before .before .before .before .before .before .before .before .before .before .before .before .before .before .before .before .before .before .before .before .before .before .before .before .if1 .left)) .pointer) (first-found g (some-left _ (c .before .before .before .before .before .before .before .before .before .before .before .before .before .before .before .before .before .before .before .before .before .before .before .before .before .before .before .before .before .before .before .before .before .before .before .before .before .if1 .left))))) _ (making _ _ _ (c .before .before .before .before .before .before .before .before .before .before .before .before .before .before .before .before .before .before .before .before .before .before .before .before .execute .ensures _ (g .scene .machine) (distr-ready g (some-left _ (c .before .before .before .before .before .before .before .before .before .before .before .before .before .before .before .before .before .before .before .before .before .before .before .before .before .before .before .before .before .before .before .before .before .before .before .before .before .if1 .left)) (c .before .before .before .before .before .before .before .before .before .before .before .before .before .before .before .before .before .before .before .before .before .before .before .before .before .before .before .before .before .before .before .before .before .before .find .ensures (sought (g .scene) (the-first g (some-left _ (c .before .before .before .before .before .before .before .before .before .before .before .before .before .before .before .before .before .before .before .before .before .before .before .before .before .before .before .before .before .before .before .before .before .before .before .before .before .if1 .left)) .pointer) (first-found g (some-left _ (c .before .before .before .before .before .before .before .before .before .before .before .before .before .before .before .before .before .before .before .before .before .before .before .before .before .before .before .before .before .before .before .before .before .before .before .before .before .if1 .left))))))) _ (c .before .before .before .before .before .before .before .before .before .before .before .before .before .before .before .before .before .before .before .made .given .1)) (c .before .before .before .before .before .before .before .before .before .before .before .before .before .before .before .before .put-name .ensures) (c .before .before .before .before .before .before .before .before .before .before .before .push .ensures) (c .before .before .before .before .before .before .before .before .before .before .before .before .before .before .before .before .before .before .before .before .before .before .before .before .execute .kept .1 .1 .1 .1 .1 .1 .0) (c .before .before .before .before .before .distribute .ensures (others-ready g (some-left _ (c .before .before .before .before .before .before .before .before .before .before .before .before .before .before .before .before .before .before .before .before .before .before .before .before .before .before .before .before .before .before .before .before .before .before .before .before .before .if1 .left)) (c .before .before .before .before .before .before .before .before .before .before .before .before .before .before .before .before .before .before .before .before .before .before .before .before .before .before .before .before .before .before .before .before .before .before .find .ensures (sought (g .scene) (the-first g (some-left _ (c .before .before .before .before .before .before .before .before .before .before .before .before .before .before .before .before .before .before .before .before .before .before .before .before .before .before .before .before .before .before .before .before .before .before .before .before .before .if1 .left)) .pointer) (first-found g (some-left _ (c .before .before .before .before .before .before .before .before .before .before .before .before .before .before .before .before .before .before .before .before .before .before .before .before .before .before .before .before .before .before .before .before .before .before .before .before .before .if1 .left))))) _ (making _ _ _ (c .before .before .before .before .before .before .before .before .before .before .before .before .before .before .before .before .before .before .before .before .before .before .before .before .execute .ensures _ (g .scene .machine) (distr-ready g (some-left _ (c .before .before .before .before .before .before .before .before .before .before .before .before .before .before .before .before .before .before .before .before .before .before .before .before .before .before .before .before .before .before .before .before .before .before .before .before .before .if1 .left)) (c .before .before .before .before .before .before .before .before .before .before .before .before .before .before .before .before .before .before .before .before .before .before .before .before .before .before .before .before .before .before .before .before .before .before .find .ensures (sought (g .scene) (the-first g (some-left _ (c .before .before .before .before .before .before .before .before .before .before .before .before .before .before .before .before .before .before .before .before .before .before .before .before .before .before .before .before .before .before .before .before .before .before .before .before .before .if1 .left)) .pointer) (first-found g (some-left _ (c .before .before .before .before .before .before .before .before .before .before .before .before .before .before .before .before .before .before .before .before .before .before .before .before .before .before .before .before .before .before .before .before .before .before .before .before .before .if1 .left))))))) _ (c .before .before .before .before .before .before .before .before .before .before .before .before .before .before .before .before .before .before .before .made .given .1)) (c .before .before .before .before .before .before .before .before .before .before .before .before .before .before .before .before .put-name .ensures) (c .before .before .before .before .before .before .before .before .before .before .before .push .ensures)))
 
 distribute-same-length-4 : (t : ℕ) → distribute-lts.Need-same-length-4 (
   find-reads.Asked,
@@ -657,7 +672,7 @@ distribute-returns-3 : (t : ℕ) → distribute-lts.Need-returns-3 (
   distribute-below t,
   distribute.Post,
 ) (distribute-at t) distribute.Post
-distribute-returns-3 t c = λ g. first-stopped g (some-left _ (c .before .before .before .before .before .before .before .before .before .before .before .before .before .before .before .before .before .before .if1 .left)) (c .before .before .before .before .before .before .before .before .before .before .before .before .before .before .before .find .ensures (sought (g .scene) (the-first g (some-left _ (c .before .before .before .before .before .before .before .before .before .before .before .before .before .before .before .before .before .before .if1 .left)) .pointer) (first-found g (some-left _ (c .before .before .before .before .before .before .before .before .before .before .before .before .before .before .before .before .before .before .if1 .left))))) _ (c .before .before .before .before .before .before .execute .ensures (g .scene .machine) (distr-ready g (some-left _ (c .before .before .before .before .before .before .before .before .before .before .before .before .before .before .before .before .before .before .if1 .left)) (c .before .before .before .before .before .before .before .before .before .before .before .before .before .before .before .find .ensures (sought (g .scene) (the-first g (some-left _ (c .before .before .before .before .before .before .before .before .before .before .before .before .before .before .before .before .before .before .if1 .left)) .pointer) (first-found g (some-left _ (c .before .before .before .before .before .before .before .before .before .before .before .before .before .before .before .before .before .before .if1 .left))))))) (c .before .r .given .1)
+distribute-returns-3 t c = λ g. first-stopped g (some-left _ (c .before .before .before .before .before .before .before .before .before .before .before .before .before .before .before .before .before .before .before .if1 .left)) (c .before .before .before .before .before .before .before .before .before .before .before .before .before .before .before .before .find .ensures (sought (g .scene) (the-first g (some-left _ (c .before .before .before .before .before .before .before .before .before .before .before .before .before .before .before .before .before .before .before .if1 .left)) .pointer) (first-found g (some-left _ (c .before .before .before .before .before .before .before .before .before .before .before .before .before .before .before .before .before .before .before .if1 .left))))) _ (c .before .before .before .before .before .before .execute .ensures _ (g .scene .machine) (distr-ready g (some-left _ (c .before .before .before .before .before .before .before .before .before .before .before .before .before .before .before .before .before .before .before .if1 .left)) (c .before .before .before .before .before .before .before .before .before .before .before .before .before .before .before .before .find .ensures (sought (g .scene) (the-first g (some-left _ (c .before .before .before .before .before .before .before .before .before .before .before .before .before .before .before .before .before .before .before .if1 .left)) .pointer) (first-found g (some-left _ (c .before .before .before .before .before .before .before .before .before .before .before .before .before .before .before .before .before .before .before .if1 .left))))))) (c .before .r .given .1)
 
 pub +distribute-spec : {M : Type 1} → statement M
 +distribute-spec = close μ-distribute λ t. distribute-lts.spec (
@@ -685,6 +700,7 @@ pub +distribute-spec : {M : Type 1} → statement M
     (distribute-mul-execute-2 t)
     (distribute-slice-read-execute-2 t)
     (distribute-cast-execute-2 t)
+    (distribute-slice-read-t19 t)
     (distribute-add-execute t)
     (distribute-mul-execute-3 t)
     (distribute-slice-read-execute-3 t)

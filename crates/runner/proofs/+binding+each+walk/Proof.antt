@@ -4,6 +4,7 @@ use Prim.Native.Nat.{_+_}
 use mathlib.Core.Path.{sym, _∙_}
 use borrow.Author.Needs.{needs}
 use native.Mathlib.Omega.{arith}
+use Rattle.steps.proofs.Executing.{four-words}
 use Rattle.runner.proofs.Lets as lets
 use Rattle.runner.proofs.Lets.{bound-ready, second-ready}
 use Rattle.runner.proofs.Comprehensions as comprehensions
@@ -590,6 +591,26 @@ walk-enum-known-z : (t : ℕ) → walk-lts.Need-enum-known-z (
 ) (walk-at t) walk.Post
 walk-enum-known-z t c = search needs
 
+walk-slice-read-t25 : (t : ℕ) → walk-lts.Need-slice-read-t25 (
+  head-at-reads.Asked,
+  head-at-reads.Learnt,
+  variable-reads.Asked,
+  variable-reads.Learnt,
+  single-reads.Asked,
+  single-reads.Learnt,
+  iota-reads.Asked,
+  iota-reads.Learnt,
+  plus-reads.Asked,
+  plus-reads.Learnt,
+  sum-reads.Asked,
+  sum-reads.Learnt,
+  binding-below t,
+  binding.Post,
+  each-below t,
+  each.Post,
+) (walk-at t) walk.Post
+walk-slice-read-t25 t c = omega (arith, four-words (c .before .before .before .before .before .before .before .before .pre .1 .scene .held))
+
 walk-add-single : (t : ℕ) → walk-lts.Need-add-single (
   head-at-reads.Asked,
   head-at-reads.Learnt,
@@ -608,7 +629,7 @@ walk-add-single : (t : ℕ) → walk-lts.Need-add-single (
   each-below t,
   each.Post,
 ) (walk-at t) walk.Post
-walk-add-single t c = omega (arith, dispatch.room-behind (c .before .before .before .before .before .before .before .pre .1))
+walk-add-single t c = omega (arith, dispatch.room-behind (c .before .before .before .before .before .before .before .before .pre .1))
 
 walk-single-requires : (t : ℕ) → walk-lts.Need-single-requires (
   head-at-reads.Asked,
@@ -628,7 +649,7 @@ walk-single-requires : (t : ℕ) → walk-lts.Need-single-requires (
   each-below t,
   each.Post,
 ) (walk-at t) walk.Post
-walk-single-requires t c κs = (c .before .before .before .before .before .before .before .before .before .before .pre .1 .scene .machine, dispatch.const-ready (c .before .before .before .before .before .before .before .before .before .before .pre .1) _ _ (sym (c .before .before .before .before .z .given .1) ∙ c .before .before .before .before .before .before .head-at .ensures))
+walk-single-requires t c κs = (_, c .before .before .before .before .before .before .before .before .before .before .before .pre .1 .scene .machine, dispatch.const-ready (c .before .before .before .before .before .before .before .before .before .before .before .pre .1) _ _ (sym (c .before .before .before .before .before .z .given .1) ∙ c .before .before .before .before .before .before .before .head-at .ensures))
 
 walk-enum-known-x-2 : (t : ℕ) → walk-lts.Need-enum-known-x-2 (
   head-at-reads.Asked,
@@ -1108,7 +1129,7 @@ walk-returns-2 : (t : ℕ) → walk-lts.Need-returns-2 (
   each-below t,
   each.Post,
 ) (walk-at t) walk.Post
-walk-returns-2 t c = λ g. dispatch.const-runs g _ _ (sym (c .before .before .before .before .before .before .before .before .before .before .z .given .1) ∙ c .before .before .before .before .before .before .before .before .before .before .before .before .head-at .ensures) (record { sfits = c .before .before .before .before .before .before .before .before .before .known-told2 .given .0 .1 }) (c .before .before .before .before .before .single .ensures (g .scene .machine) (dispatch.const-ready g _ _ (sym (c .before .before .before .before .before .before .before .before .before .before .z .given .1) ∙ c .before .before .before .before .before .before .before .before .before .before .before .before .head-at .ensures)))
+walk-returns-2 t c = λ g. dispatch.const-runs g _ _ (sym (c .before .before .before .before .before .before .before .before .before .before .before .z .given .1) ∙ c .before .before .before .before .before .before .before .before .before .before .before .before .before .head-at .ensures) (record { sfits = c .before .before .before .before .before .before .before .before .before .before .known-told2 .given .0 .1 }) (c .before .before .before .before .before .single .ensures _ (g .scene .machine) (dispatch.const-ready g _ _ (sym (c .before .before .before .before .before .before .before .before .before .before .before .z .given .1) ∙ c .before .before .before .before .before .before .before .before .before .before .before .before .before .head-at .ensures)))
 
 walk-same-length-5 : (t : ℕ) → walk-lts.Need-same-length-5 (
   head-at-reads.Asked,
@@ -1639,6 +1660,7 @@ pub +binding+each+walk-spec : {M : Type 1} → statement M
     (walk-add-variable t)
     (walk-variable-requires t)
     (walk-enum-known-z t)
+    (walk-slice-read-t25 t)
     (walk-add-single t)
     (walk-single-requires t)
     (walk-enum-known-x-2 t)
