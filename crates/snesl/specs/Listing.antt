@@ -2,17 +2,18 @@
 use Prim.Native.Nat.{ℕ, zero, suc, _+_}
 use mathlib.Core.Bool.{true, false}
 use mathlib.Core.List.{List, [], _∷_, _++_, map}
+use mathlib.Core.Option.{Option, some, none}
 use lib.Dec.{leb}
+use lib.IntN.{ℤ}
 use lib.ListN.{length}
 use Rattle.snesl.specs.declared.code.Transducer.{Transducer}
-use Rattle.snesl.specs.declared.code.Transducer.the-variants.{Const, ToFlags, Usum, MapTwoPlus, ScanPlus, Distr, SumPlus}
 use Rattle.snesl.specs.declared.refusal.Refusal.{Refusal}
 use Rattle.snesl.specs.declared.refusal.Refusal.the-variants.{NoAnswerRoom}
 use Rattle.snesl.specs.Terms.{Term, All, ∅}
 use Rattle.snesl.specs.Ascii.{ascii, pieces}
 use Rattle.snesl.specs.Text.{showNumber, showInt, joined}
 use Rattle.snesl.specs.Trees.{Tree, leaf, node}
-use Rattle.snesl.specs.Transducers.{operands}
+use Rattle.snesl.specs.Transducers.{operands, signature}
 use Rattle.snesl.specs.Programs.{Program, done, define, withCtrl, count}
 use Rattle.snesl.specs.Translation.{code, tree}
 use Rattle.snesl.specs.Records.{Input, Front, refused, front, readFormula}
@@ -27,15 +28,13 @@ idText s = ascii "s" ++ showNumber s
 abbrev pub idsText : List ℕ → List ℕ
 idsText ss = joined (map idText ss)
 
--- a transducer's name, as under "Translation"
+-- a transducer's name, as under "Translation", with its constant
+abbrev pub constantText : Option ℤ → List ℕ
+constantText none = []
+constantText (some z) = showInt z
+
 abbrev pub nameText : Transducer → List ℕ
-nameText (Const z) = ascii "Const_" ++ showInt z
-nameText (ToFlags s) = ascii "ToFlags"
-nameText (Usum s) = ascii "Usum"
-nameText (MapTwoPlus s t) = ascii "MapTwo+"
-nameText (ScanPlus z s t) = ascii "ScanPlus_" ++ showInt z
-nameText (Distr s t) = ascii "Distr"
-nameText (SumPlus s t) = ascii "SumPlus"
+nameText t = signature t .name ++ constantText (signature t .constant)
 
 -- s3 := Usum(s1)
 abbrev pub defineLine : ℕ → Transducer → List ℕ

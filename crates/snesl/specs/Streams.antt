@@ -6,12 +6,26 @@ use mathlib.Core.List.{List, [], _∷_, _++_, map}
 use mathlib.Core.Option.{Option}
 use lib.IntN.{ℤ, pos}
 use lib.ListN.{length, getElem?}
+use Rattle.snesl.specs.declared.code.Kind.{Kind}
+use Rattle.snesl.specs.declared.code.Kind.the-variants.{Ints, Flags, Units}
 
 -- a vector of integers, of booleans or of units
 pub data Stream : Type 0 where
   ints : List ℤ → Stream
   flags : List Bool → Stream
   units : ℕ → Stream
+
+-- what a stream's elements are
+abbrev pub kindOf : Stream → Kind
+kindOf (ints zs) = Ints
+kindOf (flags bs) = Flags
+kindOf (units n) = Units
+
+-- ⟨⟩ of a kind
+abbrev pub bare : Kind → Stream
+bare Ints = ints []
+bare Flags = flags []
+bare Units = units 0
 
 -- Notation 1.4, on streams of one kind. Where the kinds differ, which no rule of the paper meets, it is the first.
 infixr 45 _then_

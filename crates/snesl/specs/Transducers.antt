@@ -8,11 +8,14 @@ use mathlib.Core.Option.{Option, some, none}
 use lib.Dec.{eqb}
 use lib.IntN.{ℤ, pos, negsuc, _+ℤ_}
 use lib.ListN.{length, replicate}
+use Rattle.snesl.specs.declared.code.Kind.{Kind}
+use Rattle.snesl.specs.declared.code.Kind.the-variants.{Ints, Flags, Units}
 use Rattle.snesl.specs.declared.code.StreamId.{StreamId}
 use Rattle.snesl.specs.declared.code.Transducer.{Transducer}
 use Rattle.snesl.specs.declared.code.Transducer.the-variants.{Const, ToFlags, Usum, MapTwoPlus, ScanPlus, Distr, SumPlus}
 use Rattle.snesl.specs.Values.{inRange}
-use Rattle.snesl.specs.Streams.{Stream, ints, flags, units, Store, _!_}
+use Rattle.snesl.specs.Ascii.{ascii}
+use Rattle.snesl.specs.Streams.{Stream, ints, flags, units, bare, Store, _!_}
 
 -- what a transducer answers: its output, or why it stopped and at which element
 pub data Answer : Type 0 where
@@ -196,12 +199,23 @@ operands (ScanPlus z s t) = s .0 ∷ t .0 ∷ []
 operands (Distr s t) = s .0 ∷ t .0 ∷ []
 operands (SumPlus s t) = s .0 ∷ t .0 ∷ []
 
+-- What is fixed of a transducer: its printed name (01, "Translation") without its constant, the constant where it has one, the kinds of its operands in order, and
+-- the kind of its output.
+pub record Signature : Type 0 where
+  pub name : List ℕ
+  pub constant : Option ℤ
+  pub inputs : List Kind
+  pub output : Kind
+
+abbrev pub signature : Transducer → Signature
+signature (Const z) = record { name = ascii "Const_"; constant = some z; inputs = []; output = Ints }
+signature (ToFlags s) = record { name = ascii "ToFlags"; constant = none; inputs = Ints ∷ []; output = Flags }
+signature (Usum s) = record { name = ascii "Usum"; constant = none; inputs = Flags ∷ []; output = Units }
+signature (MapTwoPlus s t) = record { name = ascii "MapTwo+"; constant = none; inputs = Ints ∷ Ints ∷ []; output = Ints }
+signature (ScanPlus z s t) = record { name = ascii "ScanPlus_"; constant = some z; inputs = Flags ∷ Ints ∷ []; output = Ints }
+signature (Distr s t) = record { name = ascii "Distr"; constant = none; inputs = Flags ∷ Ints ∷ []; output = Ints }
+signature (SumPlus s t) = record { name = ascii "SumPlus"; constant = none; inputs = Flags ∷ Ints ∷ []; output = Ints }
+
 -- a transducer's output where it is not executed: ⟨⟩
 abbrev pub empty : Transducer → Stream
-empty (Const z) = ints []
-empty (ToFlags s) = flags []
-empty (Usum s) = units 0
-empty (MapTwoPlus s t) = ints []
-empty (ScanPlus z s t) = ints []
-empty (Distr s t) = ints []
-empty (SumPlus s t) = ints []
+empty t = bare (signature t .output)
