@@ -9,6 +9,7 @@ use lib.Dec.{ltb}
 use lib.ListN.{length, set, length-append}
 use lib.Seq.{sets, length-sets}
 use Rattle.snesl.specs.Text.{digitsThen, showNumber}
+use Rattle.snesl.proofs.Texts.Decimals.{enough}
 use Rattle.decimals.proofs.Stores.{set-front}
 use Rattle.decimals.specs.Writing.{Writes}
 
@@ -26,22 +27,6 @@ then-append (suc f) n rest = go (ltb n 10) (then-append f (n / 10) ((48 + n % 10
     go true p q = refl
     go false p q = p ∙ sym (append-assoc (digitsThen f (n / 10) []) ((48 + n % 10) ∷ []) rest) ∙ ap (λ (l : List ℕ). l ++ rest) (sym q)
 
--- more than n steps change nothing
-fuel : (f g n : ℕ) (rest : List ℕ) → n ≤ f → n ≤ g → digitsThen f n rest ≡ digitsThen g n rest
-unfolding digitsThen
-fuel zero zero n rest p q = refl
-fuel zero (suc g) n rest p q = let e : n ≡ 0 = omega arith in rw e
-fuel (suc f) zero n rest p q = let e : n ≡ 0 = omega arith in rw e
-fuel (suc f) (suc g) n rest p q = go (ltb n 10) refl (fuel f g (n / 10) ((48 + n % 10) ∷ rest))
-  where
-    go : (b : Bool) → ltb n 10 ≡ b
-        → (n / 10 ≤ f → n / 10 ≤ g → digitsThen f (n / 10) ((48 + n % 10) ∷ rest) ≡ digitsThen g (n / 10) ((48 + n % 10) ∷ rest))
-        → _≡_ {A = List ℕ}
-        (elim b [ true ↦ (48 + n) ∷ rest | false ↦ digitsThen f (n / 10) ((48 + n % 10) ∷ rest) ])
-        (elim b [ true ↦ (48 + n) ∷ rest | false ↦ digitsThen g (n / 10) ((48 + n % 10) ∷ rest) ])
-    go true e r = refl
-    go false e r = let l : 10 ≤ n = ltb-false n 10 e in r (omega arith) (omega arith)
-
 pub show-small : (n : ℕ) → n < 10 → showNumber n ≡ (48 + n % 10) ∷ []
 unfolding digitsThen
 show-small zero h = refl
@@ -52,7 +37,7 @@ unfolding digitsThen
 show-more zero h = absurd (omega arith)
 show-more (suc k) h =
     (rw (le-ltb (suc k) 10 h, digitsThen))
-    ∙ fuel k (suc k / 10) (suc k / 10) ((48 + suc k % 10) ∷ []) (omega arith) (omega arith)
+    ∙ enough k (suc k / 10) (suc k / 10) ((48 + suc k % 10) ∷ []) (omega arith) (omega arith)
     ∙ then-append (suc k / 10) (suc k / 10) ((48 + suc k % 10) ∷ [])
 
 -- ---- how many digits

@@ -10,15 +10,11 @@ use lib.Dec.{eqb}
 use lib.ListN.{length, getD, set, take, drop, drop-of-length-le}
 use lib.Seq.{drop-cons, take-suc, set-at, append-snoc, length-take-le, getD-set-same, getD-set-other}
 use Rattle.snesl.specs.Machine.{sumOf}
+use Rattle.snesl.proofs.Correctness.Charged.{sumOf-append}
 use Rattle.levels.specs.Counts.{totalOf}
 use Rattle.levels.specs.declared.counts.Total.the-variants.{Of, Over}
 
 -- ---- sums
-
-pub sum-append : (ms ns : List ℕ) → sumOf (ms ++ ns) ≡ sumOf ms + sumOf ns
-unfolding sumOf
-sum-append [] ns = omega arith
-sum-append (m ∷ ms) ns = omega (arith, sum-append ms ns)
 
 sum-on : (i : ℕ) (ns : List ℕ) → i < length ns → sumOf (drop i ns) ≡ getD ns i 0 + sumOf (drop (i + 1) ns)
 unfolding sumOf
@@ -29,7 +25,7 @@ unfolding sumOf
 sum-front i ns h =
     ap (λ (j : ℕ). sumOf (take j ns)) (add-one i)
     ∙ ap sumOf (take-suc ns i 0 h)
-    ∙ sum-append (take i ns) (getD ns i 0 ∷ [])
+    ∙ sumOf-append (take i ns) (getD ns i 0 ∷ [])
     ∙ omega arith
 
 pub sum-less : (i n : ℕ) (ns : List ℕ) → i ≤ n → sumOf (take i ns) ≤ sumOf (take n ns)

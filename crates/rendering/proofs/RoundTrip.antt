@@ -12,6 +12,7 @@ use lib.Dec.{eqb, leb, ltb}
 use lib.IntN.{ℤ}
 use lib.ListN.{length, take, drop, length-map}
 use lib.Seq.{take-at}
+use Rattle.laws.proofs.Tests.{both-true}
 use Rattle.snesl.specs.Values.{Val, inRange, Each, each-none, each-more, InRange}
 use Rattle.snesl.specs.Streams.{Store, len, bit, contents, room}
 use Rattle.snesl.specs.Trees.{order}
@@ -44,10 +45,6 @@ record Accepted (t : List ℕ) (d : ℕ) (es : List ℤ) (ls : List ℕ) (n : �
 no-refusal : {why : Refusal} {n : ℕ} {X : Type 0} → Refused why ≡ Elements n → X
 no-refusal e = let z : _≡_ {A = ℕ} 0 1 = cc in absurd (omega arith)
 
-both : (p q : Bool) → (p && q) ≡ true → (p ≡ true) × (q ≡ true)
-both true q e = (refl, e)
-both false q e = let z : _≡_ {A = ℕ} 0 1 = cc in absurd (omega arith)
-
 module _ (t : List ℕ) (d : ℕ) (es : List ℤ) (ls : List ℕ) where
   abbrev roomy : Val d → Bool
   roomy v = leb (room (valueStore d v)) (usedOf (length es)) && leb (suc d) (length ls)
@@ -71,7 +68,7 @@ module _ (t : List ℕ) (d : ℕ) (es : List ℤ) (ls : List ℕ) where
           let e : Elements (room (valueStore d v)) ≡ Elements n = ap (λ (c : Conversion). c .answer) (sym w) ∙ h in
           let k : room (valueStore d v) ≡ n = cc in
           let f : room (valueStore d v) ≤ usedOf (length es) =
-          leb-true (room (valueStore d v)) (usedOf (length es)) (both (leb (room (valueStore d v)) (usedOf (length es))) (leb (suc d) (length ls)) q .0) in
+          leb-true (room (valueStore d v)) (usedOf (length es)) (both-true (leb (room (valueStore d v)) (usedOf (length es))) (leb (suc d) (length ls)) q .0) in
           record { value = v; reads = r; shallow = s; size = k; few = omega arith; whole = w }
       deep s v r false q = no-refusal (ap (λ (c : Conversion). c .answer) (sym (stored-value v s r false q)) ∙ h)
 
@@ -174,8 +171,8 @@ module _ (zs : List ℤ) (ls : List ℕ) (d : ℕ) (old : List ℕ) where
     where
       fit : d ≤ mostDepth → rightLengths ls d (length zs) ≡ true → (o : Option ℕ) → misfitTree 1 (treeOf d ls zs) ≡ o → Legible zs ls d old n
       fit s r none m =
-          let p = both (eqb (length ls) (suc d)) (eqb (sumOf ls) (length zs) && leb (sumOf ls) mostElements) r in
-          let q = both (eqb (sumOf ls) (length zs)) (leb (sumOf ls) mostElements) (p .1) in
+          let p = both-true (eqb (length ls) (suc d)) (eqb (sumOf ls) (length zs) && leb (sumOf ls) mostElements) r in
+          let q = both-true (eqb (sumOf ls) (length zs)) (leb (sumOf ls) mostElements) (p .1) in
           row-legible n s (eqb-true (length ls) (suc d) (p .0)) (eqb-true (sumOf ls) (length zs) (q .0)) m (text-by zs ls d old s true r) h
       fit s r (some j) m =
           no-refused-text

@@ -15,7 +15,7 @@ use Rattle.snesl.specs.Representation.{concat, segments, represent}
 use Rattle.valuetext.specs.Laying.{lay, advance, Under, Apart}
 use Rattle.decimals.proofs.Stores.{sets-append}
 use Rattle.valuetext.proofs.Laying.{length-advance, bits-length, under-more}
-use Rattle.levels.proofs.Counting.{sum-append}
+use Rattle.snesl.proofs.Correctness.Charged.{sumOf-append}
 
 -- the streams of some values, in tree order
 abbrev pub streams : (d : ℕ) → List (Val d) → Store
@@ -60,7 +60,7 @@ unfolding sumOf represent order contents
 lens-total zero vs = omega (arith, length-append vs [])
 lens-total (suc d) vs =
     ap sumOf (lens-more d vs)
-    ∙ sum-append (map len (streams d (concat vs))) (length (segments vs) ∷ [])
+    ∙ sumOf-append (map len (streams d (concat vs))) (length (segments vs) ∷ [])
     ∙ omega (arith, lens-total d (concat vs), room-more d vs)
 
 -- ---- counted from 0
