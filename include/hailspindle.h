@@ -1,21 +1,29 @@
 /*
  * Hailspindle: formulas over nested lists, checked, listed and run by flat stream instructions.
  *
- * For C11 and C++. Link with libhailspindle.a, which `rt staticlib hailspindle` writes to
- * target/staticlib. The library needs nothing else: it takes no memory of its own beside the stack,
- * keeps nothing between calls, and may be called from several threads at once.
+ * For C11 and C++ on x86-64: the compiler that makes the library makes code for no other processor.
+ * Link with libhailspindle.a, which `rt staticlib hailspindle` writes to target/staticlib. Of the C
+ * library it wants memcpy and memset at link time, and nothing else. It takes no memory of its own
+ * beside the stack, keeps nothing between calls, and may be called from several threads at once.
+ * The most stack that a call was found to take is 57,816 bytes (measured at the limits, not proved:
+ * docs/MEASUREMENTS.md), so leave a call 64 KiB.
+ *
+ * docs/LANGUAGE.md says what a formula and a job are, byte by byte, and what each of them means.
  *
  * EVERY CALL
  *
  * answers 0 where it is accepted, and else the number of its refusal (below).
  *
- * A buffer is a pointer and the number of its elements, counted in elements and not in bytes. The
- * pointer is not NULL, also where the number is 0, and a buffer that is written overlaps no other
- * buffer of the call. Any bytes and any numbers may be handed in: what makes no sense is refused.
+ * A buffer is a pointer and the number of its elements, counted in elements and not in bytes. Where
+ * the number is 0 the pointer may be NULL. A buffer that is written overlaps no other buffer of the
+ * call. Any bytes and any numbers may be handed in: what makes no sense is refused.
  *
  * The last buffer takes the call's figures, in the order in which each call lists them. A shorter
  * buffer gets the first ones, a longer one keeps its content behind them, and a caller who wants none
  * lends 0 elements. Where a call is refused, its first figure is the place and its others are 0.
+ *
+ * To ask how many bytes a listing or an answer has, lend 0 bytes for it: where all else is well the
+ * call is refused by 10, and the place is the bytes that it needs. For a run that is a whole run.
  *
  * THE REFUSALS
  *
@@ -55,6 +63,11 @@
 
 #include <stddef.h>
 #include <stdint.h>
+#include <string.h>
+
+/* The version of this header and of the library that goes with it, also as one number that grows. */
+#define HAILSPINDLE_VERSION "0.1.0"
+#define HAILSPINDLE_VERSION_NUMBER 100 /* 10,000 for each major, 100 for each minor, 1 for each patch */
 
 #ifdef __cplusplus
 extern "C" {
@@ -75,14 +88,49 @@ enum {
     HAILSPINDLE_NO_REPRESENTATION = 11
 };
 
+/* Limits and sizes. */
 enum {
     /* the most bytes of a job or a formula */
     HAILSPINDLE_JOB_BYTES = 65536,
+    /* the most bytes of a value text in its VA record */
+    HAILSPINDLE_VALUE_BYTES = 65535,
     /* the most elements of a stream buffer that are used; more may be lent and are left alone */
     HAILSPINDLE_STREAM_ELEMENTS = 16384,
+    /* what the run program lends for an answer and the list program for a listing. No job and no
+     * formula is known that needs more, and 10 tells where one does */
+    HAILSPINDLE_ANSWER_BYTES = 65536,
+    HAILSPINDLE_LISTING_BYTES = 65536,
     /* the deepest value, and one more than that: the most lengths of a value's streams */
     HAILSPINDLE_DEPTH = 8,
     HAILSPINDLE_LENGTHS = 9
+};
+
+/* Where each figure stands among those of its call, and how many the call has. */
+enum {
+    /* of every refused call: the place */
+    HAILSPINDLE_PLACE = 0,
+
+    HAILSPINDLE_CHECK_DEPTH = 0,
+    HAILSPINDLE_CHECK_FIGURES = 1,
+
+    HAILSPINDLE_LIST_BYTES = 0,
+    HAILSPINDLE_LIST_FIGURES = 1,
+
+    HAILSPINDLE_RUN_BYTES = 0,
+    HAILSPINDLE_RUN_WORK = 1,
+    HAILSPINDLE_RUN_STEPS = 2,
+    HAILSPINDLE_RUN_ROOM = 3,
+    HAILSPINDLE_RUN_FIGURES = 4,
+
+    HAILSPINDLE_FIND_START = 0,
+    HAILSPINDLE_FIND_BYTES = 1,
+    HAILSPINDLE_FIND_FIGURES = 2,
+
+    HAILSPINDLE_TO_STREAMS_ELEMENTS = 0,
+    HAILSPINDLE_TO_STREAMS_FIGURES = 1,
+
+    HAILSPINDLE_TO_TEXT_BYTES = 0,
+    HAILSPINDLE_TO_TEXT_FIGURES = 1
 };
 
 /*
@@ -100,8 +148,7 @@ uint64_t hailspindle_check(const uint8_t *formula, size_t formula_length, uint64
  * Lists the instructions that a formula becomes, a line each.
  *
  * formula   read
- * text      gets the listing from its start on and keeps its content behind it; 65,536 bytes do for
- *           most formulas
+ * text      gets the listing from its start on and keeps its content behind it
  * figures   1: the bytes of the listing
  *
  * Refused by 1 to 6, or by 10; then text is untouched.
@@ -170,6 +217,54 @@ uint64_t hailspindle_streams_to_text(const int32_t *elements, size_t elements_le
                                      const size_t *lengths, size_t lengths_length, uint8_t depth,
                                      uint8_t *answer, size_t answer_length, uint64_t *figures,
                                      size_t figures_length);
+
+/*
+ * The two functions below are of this header alone, for convenience: they are not part of the
+ * library, and nothing is proved of them.
+ */
+
+/* What a call's answer means, in a few words. For a number that is none of 0 to 11, "unknown". */
+static inline const char *hailspindle_refusal_text(uint64_t number)
+{
+    switch (number) {
+    case HAILSPINDLE_ACCEPTED: return "accepted";
+    case HAILSPINDLE_TOO_LONG: return "too many bytes";
+    case HAILSPINDLE_NO_RECORD: return "no record that may stand there";
+    case HAILSPINDLE_OVER_LIMIT: return "a variable, a depth or a using list is over its limit";
+    case HAILSPINDLE_TOO_MANY: return "one input, record or nesting too many";
+    case HAILSPINDLE_UNBOUND: return "a name is unbound or stands twice";
+    case HAILSPINDLE_WRONG_TYPE: return "the types don't fit";
+    case HAILSPINDLE_NO_VALUE_TEXT: return "a value text is no value of its input's depth";
+    case HAILSPINDLE_NO_VALUE: return "a number is out of range, or iota of a negative number";
+    case HAILSPINDLE_NO_ROOM: return "the stream buffer is too short";
+    case HAILSPINDLE_NO_ANSWER_ROOM: return "the buffer for the text is too short";
+    case HAILSPINDLE_NO_REPRESENTATION: return "the streams represent no value";
+    default: return "unknown";
+    }
+}
+
+/*
+ * Appends a VA record with a value text to a job that has job_length bytes in a buffer of job_room,
+ * and answers how many bytes it has then. Answers 0, and writes nothing, where the text has more than
+ * HAILSPINDLE_VALUE_BYTES or the record does not fit the buffer or HAILSPINDLE_JOB_BYTES.
+ */
+static inline size_t hailspindle_append_value(uint8_t *job, size_t job_length, size_t job_room,
+                                              const char *text, size_t text_length)
+{
+    size_t room = HAILSPINDLE_JOB_BYTES;
+    if (job_room < room)
+        room = job_room;
+    if (text_length > HAILSPINDLE_VALUE_BYTES || job_length > room || room - job_length < 4 ||
+        room - job_length - 4 < text_length)
+        return 0;
+    job[job_length] = 'V';
+    job[job_length + 1] = 'A';
+    job[job_length + 2] = (uint8_t)(text_length & 255);
+    job[job_length + 3] = (uint8_t)(text_length >> 8);
+    if (text_length > 0)
+        memcpy(job + job_length + 4, text, text_length);
+    return job_length + 4 + text_length;
+}
 
 #ifdef __cplusplus
 }

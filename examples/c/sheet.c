@@ -1,6 +1,6 @@
 /*
  * A lead's sheet: a correction is added to each reading, and the readings of each stop are summed.
- * Then the same sheet with a reading that is too large, to show a refusal.
+ * Then the same sheet with a reading that is too large, to show a refusal, and its listing.
  *
  * Build and run, after `rt staticlib hailspindle`: make -C examples/c
  */
@@ -23,59 +23,60 @@ static const uint8_t formula[] = {
 
 static uint8_t job[HAILSPINDLE_JOB_BYTES];
 static int32_t streams[HAILSPINDLE_STREAM_ELEMENTS];
-static uint8_t answer[65536];
+static uint8_t answer[HAILSPINDLE_ANSWER_BYTES];
 
-/* In the order of the refusals' numbers. */
-static const char *const refusals[] = {
-    "accepted",
-    "too many bytes",
-    "no record that may stand there",
-    "a variable, a depth or a using list is over its limit",
-    "one input, record or nesting too many",
-    "a name is unbound or stands twice",
-    "the types don't fit",
-    "a value text is no value of its input's depth",
-    "a number is out of range, or iota of a negative number",
-    "the stream buffer is too short",
-    "the answer buffer is too short",
-    "the streams represent no value",
-};
-
-/* Puts a VA record behind the bytes that the job has, and answers how many it has then. */
+/*
+ * Puts a VA record behind the bytes that the job has, and answers how many it has then, or 0 where
+ * the text is too long for the record's two bytes or the job has no room for it. A job that is 0
+ * already stays so, and the caller asks once at the end.
+ */
 static size_t add_value(size_t length, const char *text)
 {
-    size_t bytes = strlen(text);
-    job[length] = 'V';
-    job[length + 1] = 'A';
-    job[length + 2] = (uint8_t)(bytes % 256);
-    job[length + 3] = (uint8_t)(bytes / 256);
-    memcpy(job + length + 4, text, bytes);
-    return length + 4 + bytes;
+    return length == 0 ? 0 : hailspindle_append_value(job, length, sizeof job, text, strlen(text));
 }
 
 static void run_sheet(const char *stops, const char *correction)
 {
-    uint64_t figures[4];
+    uint64_t figures[HAILSPINDLE_RUN_FIGURES];
     size_t length = sizeof formula;
     memcpy(job, formula, length);
     length = add_value(length, stops);
     length = add_value(length, correction);
 
-    uint64_t number = hailspindle_run(job, length, streams, HAILSPINDLE_STREAM_ELEMENTS, answer,
-                                      sizeof answer, figures, 4);
     printf("stops %s, correction %s\n", stops, correction);
-    if (number != HAILSPINDLE_ACCEPTED) {
-        printf("  refused %" PRIu64 " at %" PRIu64 ": %s\n", number, figures[0], refusals[number]);
+    if (length == 0) {
+        printf("  the texts don't fit a job\n");
         return;
     }
-    printf("  totals %.*s\n", (int)figures[0], (const char *)answer);
-    printf("  work %" PRIu64 ", steps %" PRIu64 ", room %" PRIu64 "\n", figures[1], figures[2],
-           figures[3]);
+    uint64_t number = hailspindle_run(job, length, streams, HAILSPINDLE_STREAM_ELEMENTS, answer,
+                                      sizeof answer, figures, HAILSPINDLE_RUN_FIGURES);
+    if (number != HAILSPINDLE_ACCEPTED) {
+        printf("  refused %" PRIu64 " at %" PRIu64 ": %s\n", number, figures[HAILSPINDLE_PLACE],
+               hailspindle_refusal_text(number));
+        return;
+    }
+    printf("  totals %.*s\n", (int)figures[HAILSPINDLE_RUN_BYTES], (const char *)answer);
+    printf("  work %" PRIu64 ", steps %" PRIu64 ", room %" PRIu64 "\n",
+           figures[HAILSPINDLE_RUN_WORK], figures[HAILSPINDLE_RUN_STEPS],
+           figures[HAILSPINDLE_RUN_ROOM]);
+}
+
+/* Asks how long the formula's listing is by lending nothing for it, and then has it written. */
+static void list_sheet(void)
+{
+    uint64_t figures[HAILSPINDLE_LIST_FIGURES];
+    uint64_t number = hailspindle_list(formula, sizeof formula, NULL, 0, figures, 1);
+    if (number == HAILSPINDLE_NO_ANSWER_ROOM)
+        printf("a listing of %" PRIu64 " bytes\n", figures[HAILSPINDLE_PLACE]);
+    number = hailspindle_list(formula, sizeof formula, answer, sizeof answer, figures, 1);
+    if (number == HAILSPINDLE_ACCEPTED)
+        printf("%.*s", (int)figures[HAILSPINDLE_LIST_BYTES], (const char *)answer);
 }
 
 int main(void)
 {
     run_sheet("{{3,1},{},{4}}", "2");
     run_sheet("{{2147483647},{1}}", "2");
+    list_sheet();
     return 0;
 }
