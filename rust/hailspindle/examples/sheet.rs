@@ -17,7 +17,7 @@ fn run_sheet(stops: &str, correction: &str) {
     add_value(&mut job, stops);
     add_value(&mut job, correction);
     let mut streams = vec![0; hailspindle::STREAM_ELEMENTS];
-    let mut answer = vec![0; 65_536];
+    let mut answer = vec![0; hailspindle::TEXT_BYTES];
 
     println!("stops {stops}, correction {correction}");
     match hailspindle::run(&job, &mut streams, &mut answer) {

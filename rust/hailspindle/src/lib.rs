@@ -3,7 +3,7 @@
 //!
 //! Every buffer is the caller's: a call that is refused answers a [`Refusal`], and a buffer is
 //! changed only where the call's documentation says so. `include/hailspindle.h` documents the same
-//! calls for C.
+//! calls for C, and `docs/LANGUAGE.md` what a formula and a job are.
 
 #![deny(unsafe_code)]
 #![forbid(missing_docs)]
@@ -20,12 +20,19 @@ pub const STREAM_ELEMENTS: usize = 16_384;
 /// The bytes that a formula or a job may have.
 pub const JOB_BYTES: usize = 65_536;
 
+/// The bytes that the run program lends for an answer and the list program for a listing. No job and
+/// no formula is known that needs more; where one does, the refusal's place is the bytes it needs.
+pub const TEXT_BYTES: usize = 65_536;
+
+/// The most lengths of a value's streams, one more than the deepest depth.
+pub const LENGTHS: usize = 9;
+
 /// What an accepted run tells beside what it writes.
 #[derive(Clone, Copy, Debug, PartialEq, Eq)]
 pub struct Counts {
     /// The bytes of the answer's text.
     pub text_bytes: usize,
-    /// The work by document 01's charges.
+    /// The work: the charge over every evaluation.
     pub work: u64,
     /// The transducers executed.
     pub steps: u64,

@@ -2,8 +2,9 @@
 
 use std::fmt;
 
-/// A refusal with its place; document 01's table gives each its number.
+/// A refusal with its place; `docs/LANGUAGE.md` says of each number what it means and when it comes.
 #[derive(Clone, Copy, Debug, PartialEq, Eq)]
+#[non_exhaustive]
 pub enum Refusal {
     /// 1: over 65,536 bytes.
     TooLong,
@@ -29,10 +30,17 @@ pub enum Refusal {
     NoAnswerRoom(u64),
     /// 11: the streams represent no value; the number of the first stream that does not fit.
     NoRepresentation(u64),
+    /// A number that this crate doesn't know, as a newer library may answer it.
+    Unknown {
+        /// The number that the library answered.
+        number: u64,
+        /// The place beside it.
+        place: u64,
+    },
 }
 
 impl Refusal {
-    /// `number` is one of 1 to 11.
+    /// What a refused call answered: its number and its first figure.
     pub(crate) fn new(number: u64, place: u64) -> Refusal {
         match number {
             1 => Refusal::TooLong,
@@ -46,11 +54,11 @@ impl Refusal {
             9 => Refusal::NoRoom(place),
             10 => Refusal::NoAnswerRoom(place),
             11 => Refusal::NoRepresentation(place),
-            _ => unreachable!("the library is proved to answer 0 or one of 1 to 11"),
+            _ => Refusal::Unknown { number, place },
         }
     }
 
-    /// Its number, 1 to 11.
+    /// Its number: 1 to 11, or one that this crate doesn't know.
     pub fn number(self) -> u64 {
         match self {
             Refusal::TooLong => 1,
@@ -64,6 +72,7 @@ impl Refusal {
             Refusal::NoRoom(_) => 9,
             Refusal::NoAnswerRoom(_) => 10,
             Refusal::NoRepresentation(_) => 11,
+            Refusal::Unknown { number, .. } => number,
         }
     }
 
@@ -80,7 +89,8 @@ impl Refusal {
             | Refusal::NoValue(place)
             | Refusal::NoRoom(place)
             | Refusal::NoAnswerRoom(place)
-            | Refusal::NoRepresentation(place) => place,
+            | Refusal::NoRepresentation(place)
+            | Refusal::Unknown { place, .. } => place,
         }
     }
 }
@@ -120,8 +130,27 @@ impl fmt::Display for Refusal {
             Refusal::NoRepresentation(tree) => {
                 write!(formatter, "streams that represent no value, the first misfit is {tree}")
             }
+            Refusal::Unknown { number, place } => {
+                write!(formatter, "number {number}, which this crate does not know, at {place}")
+            }
         }
     }
 }
 
 impl std::error::Error for Refusal {}
+
+#[cfg(test)]
+mod tests {
+    use super::Refusal;
+
+    #[test]
+    fn a_number_keeps_its_number_and_place() {
+        for number in 1..20 {
+            let refusal = Refusal::new(number, 7);
+            let place = if number == 1 { 0 } else { 7 };
+            assert_eq!((refusal.number(), refusal.place()), (number, place));
+            assert_eq!(matches!(refusal, Refusal::Unknown { .. }), number > 11);
+            assert!(!refusal.to_string().is_empty());
+        }
+    }
+}
