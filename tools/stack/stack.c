@@ -20,8 +20,8 @@ static uint8_t job[HAILSPINDLE_JOB_BYTES];
 static size_t formula_length;
 static size_t job_length;
 static int32_t streams[HAILSPINDLE_STREAM_ELEMENTS];
-static uint8_t answer[65536];
-static uint64_t figures[4];
+static uint8_t answer[HAILSPINDLE_ANSWER_BYTES];
+static uint64_t figures[HAILSPINDLE_RUN_FIGURES];
 static uint64_t number;
 
 static void put(const char *mark, size_t fields, const uint8_t *bytes)
@@ -117,6 +117,19 @@ static void loops_and_sums(void)
     put_texts();
 }
 
+/* LT in the second part of LT, one nesting left, and there a loop that lists eight names. */
+static void lets_and_a_loop(void)
+{
+    put_inputs();
+    for (int i = 0; i < NESTING - 1; i++) {
+        PUT("LT", 20);
+        PUT("IO", 8);
+    }
+    PUT("EA", 21, 20, 8, 8, 9, 10, 11, 12, 13, 14, 15);
+    PUT("PL", 21, 8);
+    put_texts();
+}
+
 static void *nothing(void *unused)
 {
     return unused;
@@ -169,6 +182,7 @@ int main(void)
         {"64 lets, each in the last one's first part", lets_in_lets},
         {"8 loops in one another, 56 lets", loops_in_loops},
         {"21 loops in one another with sums, 43 lets", loops_and_sums},
+        {"63 lets, then a loop that lists 8", lets_and_a_loop},
     };
     size_t base = stack_of(nothing);
     for (size_t i = 0; i < sizeof jobs / sizeof *jobs; i++) {
