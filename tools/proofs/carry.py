@@ -20,13 +20,13 @@ def kind(name):
 
 def matched(old, new):
     """The names of one list and those that they have become in the other, by order and kind."""
-    matcher = difflib.SequenceMatcher(None, [kind(name) for name in old], [kind(name) for name in new], autojunk=False)
+    matcher = difflib.SequenceMatcher(None, *([kind(name) for name in names] for names in (old, new)), autojunk=False)
     return {old[block.a + i]: new[block.b + i] for block in matcher.get_matching_blocks() for i in range(block.size)}
 
 
 def moved(answer, old, new):
     """An answer with each of its paths along the old chain of places written along the new one."""
-    names = matched([name for level in reversed(old) for name in level], [name for level in reversed(new) for name in level])
+    names = matched(*([name for level in reversed(chain) for name in level] for chain in (old, new)))
 
     def new_name(distance, name):
         if distance == 0 and len(new[0]) == 1 and kind(new[0][0]) == kind(name):
@@ -60,8 +60,9 @@ class Answer:
 
 
 def answers_in(text, prefix, needs):
-    block = rf"^(?:-- src.*\n)?({re.escape(prefix)}(\S+)) : (.*(?:\n.*)*?)\n((?:unfolding .*\n)?)\1( t)? c( κs)? =((?:.*\n)(?:[ ]+.*\n|\n(?=    ))*)"
-    answers = (Answer(found) for found in re.finditer(block, text, re.M))
+    statement = rf"^(?:-- src.*\n)?({re.escape(prefix)}(\S+)) : (.*(?:\n.*)*?)\n"
+    answer = r"((?:unfolding .*\n)?)\1( t)? c( κs)? =((?:.*\n)(?:[ ]+.*\n|\n(?=    ))*)"
+    answers = (Answer(found) for found in re.finditer(statement + answer, text, re.M))
     return {answer.name: answer for answer in answers if answer.name in needs}
 
 
@@ -87,10 +88,12 @@ def carry(text, old, new, function):
     gone = [name for name in answers if name not in became]
     if gone:
         print("gone:", ", ".join(gone))
-    first, last = min(answer.start for answer in answers.values()), max(answer.end for answer in answers.values())
+    first = min(answer.start for answer in answers.values())
+    last = max(answer.end for answer in answers.values())
     text = text[:first] + "\n".join(blocks) + text[last:]
     if function:
-        listed = rf"{prefix}lts\.spec \({prefix}callees t\)\s+\({prefix}at t\)\s+{prefix[:-1]}\.Post((?:\s+\({prefix}\S+ t\))+)"
+        listed = rf"{prefix}lts\.spec \({prefix}callees t\)\s+\({prefix}at t\)\s+{prefix[:-1]}\.Post"
+        listed += rf"((?:\s+\({prefix}\S+ t\))+)"
         names = "".join(f"\n    ({prefix}{need} t)" for need in new.needs)
     else:
         listed = r"\(tie\.spec(?:\s+(?:Inv|μ)-\S+)*((?:\s+[a-z0-9κ-]+)+)\)"
