@@ -37,3 +37,7 @@ locatedIn i (job is k e next ss) = partAmong i ss
 -- the finder's part of a job is what stands there (proofs/Parts, `find-located`)
 abbrev pub located : ℕ → List ℕ → Part
 located i t = locatedIn i (readJob t)
+
+-- where a part of a slice starts: in the slice's own memory, which has this block and offset
+abbrev pub startOf : ℕ × ℕ → Part → ℕ × ℕ
+startOf slice p = (slice .0, slice .1 + p .start)

@@ -4,8 +4,9 @@ use formula::read::Text;
 use formula::read::read_job;
 use formula::read::text_at;
 ghost use mathlib.Core.Path.{_≡_};
+ghost use denote.Ref.{ptr};
 ghost use Rattle.snesl.specs.Finder as finder;
-ghost use Rattle.finder.specs.Parts.{Held, partFrom, located};
+ghost use Rattle.finder.specs.Parts.{Held, partFrom, located, startOf};
 
 // So many bytes of the job from a start on.
 pub struct Part {
@@ -55,9 +56,10 @@ pub fn locate(bytes: &[u8], i: usize) -> Part
     }
 }
 
-// The text of input number i; an empty part where there is none.
+// The text of input number i, where it stands in the job; an empty part at the job's start where there is none.
 pub fn find(bytes: &[u8], i: usize) -> &[u8]
     ensures { λ r. ⌜ now r ≡ finder.find i (now (bytes .entry)) ⌝ }
+    ensures { λ r. ⌜ ptr r ≡ startOf (ptr (bytes .entry)) (located i (now (bytes .entry))) ⌝ }
 {
     let part = locate(bytes, i);
     let start = part.start;

@@ -4,11 +4,7 @@ use refusals::line::number;
 use refusals::line::place;
 use sheet::Ran;
 use sheet::run;
-ghost use mathlib.Core.Path.{_≡_};
-ghost use lib.ListN.{length};
-ghost use Rattle.snesl.specs.Outcome.{outcome};
-ghost use Rattle.snesl.specs.Demands.{Demands};
-ghost use Rattle.hailspindle.specs.Runs.{Exact};
+ghost use Rattle.hailspindle.specs.Runs.{Exact, Keeps};
 
 // Four figures: the answer's bytes, work, steps and room, or the refusal's place and three times 0.
 #[no_mangle]
@@ -19,7 +15,7 @@ pub extern "C" fn hailspindle_run(
     figures: &mut [u64],
 ) -> u64
     ensures exact { λ r. ⌜ Exact (now (job .entry)) (now (streams .entry)) (now (streams .exit)) (now (answer .entry)) (now (answer .exit)) (now (figures .entry)) (now (figures .exit)) r ⌝ }
-    ensures demands { λ _. ⌜ Demands (now (job .entry)) (length (now (answer .entry))) (outcome (now (job .entry)) (length (now (streams .entry))) (length (now (answer .entry)))) ⌝ }
+    ensures demands { λ r. ⌜ Keeps (now (job .entry)) (now (streams .entry)) (now (streams .exit)) (now (answer .entry)) (now (answer .exit)) (now (figures .entry)) (now (figures .exit)) r ⌝ }
 {
     match run(job, streams, answer) {
         Ran::Refused(refusal) => {

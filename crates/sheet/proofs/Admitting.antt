@@ -19,7 +19,7 @@ use Rattle.snesl.specs.Checking as checking
 use Rattle.snesl.specs.Checking.{Typed, typed, context, depths, checkFormula}
 use Rattle.snesl.specs.Inputs.{Values, wrong, right, inputValues}
 use Rattle.snesl.specs.Outcome.{refusal, outcomeRead, outcomeTyped, valued, outcome, streamsRefused}
-use Rattle.snesl.proofs.Jobs.EarlyRefusals.{Early, early-long, early-record, early-limit, early-many, early-unbound, early-type, early-text, reading-refuses-early, checking-refuses-early}
+use Rattle.snesl.proofs.Jobs.EarlyRefusals.{early-keeps, reading-refuses-early, checking-refuses-early}
 use Rattle.formula.specs.Reading.{formulaOf, jobOf}
 use Rattle.formula.specs.declared.read.JobRead.the-variants as found
 use Rattle.formula.specs.declared.read.FormulaRead.the-variants as formula
@@ -127,15 +127,6 @@ module _ (t : List ℕ) where
           go (right vs) q = refl
 
 -- ---- the outcome
-
-early-keeps : (old : List ℤ) {r : Refusal} → Early r → streamsRefused old r ≡ old
-early-keeps old early-long = refl
-early-keeps old early-record = refl
-early-keeps old early-limit = refl
-early-keeps old early-many = refl
-early-keeps old early-unbound = refl
-early-keeps old early-type = refl
-early-keeps old early-text = refl
 
 -- a refusal that writes nothing
 pub record Turned (t : List ℕ) (r : Refusal) : Type 0 where

@@ -11,7 +11,7 @@ use Rattle.snesl.specs.Trees.{Tree, mapTree}
 use Rattle.snesl.specs.Machine.{State}
 use Rattle.snesl.specs.Representation.{Holds}
 use Rattle.snesl.specs.Inputs.{inputOver}
-use Rattle.snesl.specs.Demands.{Accepted}
+use Rattle.snesl.specs.Demands.{Told, shows, declines, Accepted}
 use Rattle.snesl.specs.Outcome.{Outcome, refusal, value, executed, outcome, streamsAfter, answerAfter}
 use Rattle.environment.specs.Words.{treeWords}
 use Rattle.steps.specs.Holding.{Held}
@@ -23,6 +23,11 @@ use Rattle.sheet.specs.declared.Ran.the-variants.{Value, Refused}
 abbrev pub ranOf : Outcome → Ran
 ranOf (refusal r) = Refused r
 ranOf (value text work steps room held) = Value (record { text = length text; work = work; steps = steps; room = room })
+
+-- an answer as the demands speak of it
+abbrev pub told : Ran → Told
+told (Value c) = shows (c .text) (c .work) (c .steps) (c .room)
+told (Refused r) = declines r
 
 -- the answer, and what is left of the two buffers
 pub record Exact (t : List ℕ) (streams streams′ : List ℤ) (answer answer′ : List ℕ) (r : Ran) : Type 0 where

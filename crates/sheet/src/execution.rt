@@ -13,8 +13,9 @@ ghost use mathlib.Core.List.{[], _∷_};
 ghost use Prim.Native.Nat.{_≤_};
 ghost use lib.ListN.{length};
 ghost use Rattle.snesl.specs.Limits.{mostElements};
+ghost use Rattle.snesl.specs.Demands.{Demands};
 ghost use Rattle.leaves.specs.Places.{mostWords};
-ghost use Rattle.sheet.specs.Runs.{Admitted, execution, Performs, spoiledFrom, Executes};
+ghost use Rattle.sheet.specs.Runs.{told, Admitted, execution, Performs, spoiledFrom};
 
 // The most words that an input's binding takes, and those that a nesting of the walk takes.
 const INPUT_WORDS: usize = 29;
@@ -65,11 +66,11 @@ fn spoiled_from(ran: Ran, lent: usize) -> usize
     }
 }
 
-// On the used part of the stream buffer, which is all zero after a refusal.
+// On the used part of the stream buffer, which is all zero after a refusal. The demands are kept on that part.
 pub fn execute(job: &[u8], formula: Formula, buf: &mut [i32], answer: &mut [u8]) -> Ran
     requires { ⌜ Admitted (now job) formula ⌝ }
     requires { ⌜ length (now buf) ≤ mostElements ⌝ }
-    ensures { λ r. ⌜ ((g : Admitted (now (job .entry)) formula) → Executes (execution g (length (now (buf .entry))) (length (now (answer .entry)))) (now (buf .entry)) (now (buf .exit)) (now (answer .entry)) (now (answer .exit)) r) ⌝ }
+    ensures demands { λ r. ⌜ Demands (now (job .entry)) (now (buf .entry)) (now (buf .exit)) (now (answer .entry)) (now (answer .exit)) (told r) ⌝ }
 {
     let mut env = [0u32; WORDS];
     let mut state = [0usize; 4];

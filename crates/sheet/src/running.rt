@@ -5,11 +5,9 @@ use crate::admission::admit;
 use crate::execution::execute;
 use snesl::limits::Buffer;
 ghost use mathlib.Core.Path.{_≡_};
-ghost use lib.ListN.{length};
 ghost use Rattle.snesl.specs.Limits.{usedOf};
-ghost use Rattle.snesl.specs.Outcome.{outcome};
 ghost use Rattle.snesl.specs.Demands.{Demands};
-ghost use Rattle.sheet.specs.Runs.{Exact};
+ghost use Rattle.sheet.specs.Runs.{told, Exact};
 
 // How many elements of a stream buffer are used.
 fn used_part(lent: usize) -> usize
@@ -24,7 +22,7 @@ fn used_part(lent: usize) -> usize
 // Runs a job. The stream buffer takes its streams and the answer buffer its text.
 pub fn run(job: &[u8], streams: &mut [i32], answer: &mut [u8]) -> Ran
     ensures exact { λ r. ⌜ Exact (now (job .entry)) (now (streams .entry)) (now (streams .exit)) (now (answer .entry)) (now (answer .exit)) r ⌝ }
-    ensures demands { λ r. ⌜ Demands (now (job .entry)) (length (now (answer .entry))) (outcome (now (job .entry)) (length (now (streams .entry))) (length (now (answer .entry)))) ⌝ }
+    ensures demands { λ r. ⌜ Demands (now (job .entry)) (now (streams .entry)) (now (streams .exit)) (now (answer .entry)) (now (answer .exit)) (told r) ⌝ }
 {
     match admit(job) {
         Admission::Refused(refusal) => Ran::Refused(refusal),

@@ -5,4 +5,5 @@ pub mod EarlyRefusals
 pub mod Course
 pub mod Ending
 pub mod Demands
+pub mod OneAnswer
 pub mod Exactly

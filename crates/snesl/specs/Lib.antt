@@ -23,7 +23,7 @@ pub mod Checking
 pub mod Inputs
 pub mod Listing
 pub mod Outcome
+pub mod Demands
 pub mod Report
 pub mod Notation
 pub mod Formed
-pub mod Demands

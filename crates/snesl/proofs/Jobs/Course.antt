@@ -11,7 +11,7 @@ use Rattle.snesl.specs.Checking
 use Rattle.snesl.specs.Checking.{Typed, typed, context, depths, checkFormula}
 use Rattle.snesl.specs.Inputs.{Values, wrong, right, inputValues, inputOver}
 use Rattle.snesl.specs.Outcome.{refusal, outcomeRead, outcomeTyped, valued, executed, outcome}
-use Rattle.snesl.specs.Demands.{Accepted}
+use Rattle.snesl.specs.Demands.{Accepted, TurnedAway, unread, untyped, unvalued}
 use Rattle.snesl.proofs.Jobs.EarlyRefusals.{Early, early-text, reading-refuses-early, checking-refuses-early}
 
 -- the outcome of an accepted job
@@ -23,7 +23,7 @@ outcome-executed {t} a lent answerLent =
     ∙ ap (valued (usedOf lent) answerLent (a .inputs) (a .term)) (a .valued)
 
 pub data Course (t : List ℕ) (lent answerLent : ℕ) : Type 0 where
-  refused-early : {r : Refusal} → Early r → outcome t lent answerLent ≡ refusal r → Course t lent answerLent
+  refused-early : {r : Refusal} → TurnedAway t r → Early r → outcome t lent answerLent ≡ refusal r → Course t lent answerLent
   accepted : Accepted t → Course t lent answerLent
 
 pub course : (t : List ℕ) (lent answerLent : ℕ) → Course t lent answerLent
@@ -34,7 +34,7 @@ course t lent answerLent = read (readJob t) refl
         → (vs : Values (depths is)) → inputValues t is ss ≡ vs
         → Course t lent answerLent
     texts is k e next ss r d f c (wrong p) h =
-        refused-early (early-text {p = p})
+        refused-early (unvalued r c h) (early-text {p = p})
         (ap (outcomeRead t (usedOf lent) answerLent) r
         ∙ ap (outcomeTyped t (usedOf lent) answerLent is ss) c
         ∙ ap (valued (usedOf lent) answerLent is f) h)
@@ -57,10 +57,10 @@ course t lent answerLent = read (readJob t) refl
         → (y : Typed (context is)) → checkFormula is e ≡ y
         → Course t lent answerLent
     types is k e next ss r (Checking.Typed.refused why) c =
-        refused-early (checking-refuses-early is e c)
+        refused-early (untyped r c) (checking-refuses-early is e c)
         (ap (outcomeRead t (usedOf lent) answerLent) r ∙ ap (outcomeTyped t (usedOf lent) answerLent is ss) c)
     types is k e next ss r (typed d f) c = texts is k e next ss r d f c (inputValues t is ss) refl
 
     read : (j : JobRead) → readJob t ≡ j → Course t lent answerLent
-    read (Records.JobRead.refused why) r = refused-early (reading-refuses-early t r) (ap (outcomeRead t (usedOf lent) answerLent) r)
+    read (Records.JobRead.refused why) r = refused-early (unread r) (reading-refuses-early t r) (ap (outcomeRead t (usedOf lent) answerLent) r)
     read (job is k e next ss) r = types is k e next ss r (checkFormula is e) refl

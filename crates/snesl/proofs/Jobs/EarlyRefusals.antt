@@ -6,6 +6,7 @@ use mathlib.Core.List.{List, []}
 use mathlib.Core.Option.{Option, some, none}
 use mathlib.Core.Path.{_≡_, refl, subst}
 use lib.Dec.{eqb, ltb, leb}
+use lib.IntN.{ℤ}
 use lib.ListN.{length}
 use Rattle.snesl.specs.declared.refusal.Refusal.{Refusal}
 use Rattle.snesl.specs.declared.refusal.Refusal.the-variants.{TooLong, NoRecord, OverLimit, TooMany, Unbound, WrongType, NoValueText}
@@ -14,6 +15,7 @@ use Rattle.snesl.specs.Terms as terms
 use Rattle.snesl.specs.Terms.{_∋_, Term, All, ∅, _▹_}
 use Rattle.snesl.specs.Records
 use Rattle.snesl.specs.Records.{Raw, Head, absent, over, single, letting, eaching, headAt, byteAt, markAt, markIN, markVA, Scanned, scanned, thenScan, tooDeep, counted, scan, Input, Declared, declared, inputFirst, inputAt, inputOk, inputsAt, Span, Texts, texts, spanFirst, spanAt, textsAt, expressionAfter, inputsThen, frontOf, JobRead, job, textsThen, jobEnd, readJob}
+use Rattle.snesl.specs.Outcome.{streamsRefused}
 use Rattle.snesl.specs.Checking
 use Rattle.snesl.specs.Checking.{Name, Found, missing, found, find, isBound, asInt, asInts, Sequence, noSequence, sequence, asSequence, usable, listedInts, listedNames, pointers, Typed, typed, demand, typedIf, typedSequence, typedThen, check, turned, context, inputNames, repeated, checkInputs, checkFormula}
 
@@ -26,6 +28,16 @@ pub data Early : Refusal → Type 0 where
   early-unbound : {p : ℕ} → Early (Unbound p)
   early-type : {p : ℕ} → Early (WrongType p)
   early-text : {p : ℕ} → Early (NoValueText p)
+
+-- nothing is written then
+pub early-keeps : (old : List ℤ) {r : Refusal} → Early r → streamsRefused old r ≡ old
+early-keeps old early-long = refl
+early-keeps old early-record = refl
+early-keeps old early-limit = refl
+early-keeps old early-many = refl
+early-keeps old early-unbound = refl
+early-keeps old early-type = refl
+early-keeps old early-text = refl
 
 -- what holds either way holds of what a test chooses
 chosen : {A : Type 0} (P : A → Type 0) (b : Bool) {x y : A} → P x → P y → P (elim b [ true ↦ x | false ↦ y ])

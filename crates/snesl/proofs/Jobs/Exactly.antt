@@ -19,11 +19,11 @@ use Rattle.snesl.specs.Bounded.{Passes}
 use Rattle.snesl.specs.Text.{show}
 use Rattle.snesl.specs.Inputs.{inputOver}
 use Rattle.snesl.specs.Outcome.{Outcome, refusal, value, finished, loaded, executed, outcome}
-use Rattle.snesl.specs.Demands.{Accepted, environment, resultTree}
+use Rattle.snesl.specs.Demands.{Accepted, environment, program, resultTree, valueless, crowded, filled, unshown}
 use Rattle.snesl.proofs.Bounded.Room.{full-iff}
 use Rattle.snesl.proofs.Jobs.InputRoom.{none-over}
 use Rattle.snesl.proofs.Jobs.Course.{outcome-executed, Course, refused-early, accepted, course}
-use Rattle.snesl.proofs.Jobs.Ending.{program, Ending, crowded, filled, valueless, unshown, shown, ending}
+use Rattle.snesl.proofs.Jobs.Ending.{Ending, short, shown, ending}
 
 -- an outcome that is no 9
 abbrev pub Roomy : Outcome → Type 0
@@ -35,19 +35,19 @@ module _ {t : List ℕ} (a : Accepted t) (lent answerLent : ℕ) where
   eight-exactly roomy = (λ h. there (ending a lent answerLent) (h .1), λ h. back (ending a lent answerLent) roomy h)
     where
       there : {s : ℕ} {o : Outcome} → Ending a (usedOf lent) answerLent o → o ≡ refusal (NoValue s) → eval (a .term) (environment a) ≡ none
-      there (crowded e) q = let z : _≡_ {A = ℕ} 0 1 = cc in absurd (omega arith)
-      there (filled e f) q = let z : _≡_ {A = ℕ} 0 1 = cc in absurd (omega arith)
-      there (valueless e) q = e
-      there (unshown e longer) q = let z : _≡_ {A = ℕ} 0 1 = cc in absurd (omega arith)
-      there (shown e fits w roomy) q = let z : _≡_ {A = ℕ} 0 1 = cc in absurd (omega arith)
+      there (short (crowded e)) q = let z : _≡_ {A = ℕ} 0 1 = cc in absurd (omega arith)
+      there (short (filled e)) q = let z : _≡_ {A = ℕ} 0 1 = cc in absurd (omega arith)
+      there (short (valueless e rule c)) q = e
+      there (short (unshown e c longer)) q = let z : _≡_ {A = ℕ} 0 1 = cc in absurd (omega arith)
+      there (shown e fits c w roomy) q = let z : _≡_ {A = ℕ} 0 1 = cc in absurd (omega arith)
 
       back : {o : Outcome} → Ending a (usedOf lent) answerLent o → Roomy o → eval (a .term) (environment a) ≡ none
           → (s : ℕ) × (o ≡ refusal (NoValue s))
-      back (crowded {s = s} e) roomy h = absurd (roomy s refl)
-      back (filled {s = s} e f) roomy h = absurd (roomy s refl)
-      back (valueless {s = s} e) roomy h = (s, refl)
-      back (unshown e longer) roomy h = none-some (sym h ∙ e)
-      back (shown e fits w roomy) _ h = none-some (sym h ∙ e)
+      back (short (crowded {s = s} e)) roomy h = absurd (roomy s refl)
+      back (short (filled {s = s} e)) roomy h = absurd (roomy s refl)
+      back (short (valueless {s = s} e rule c)) roomy h = (s, refl)
+      back (short (unshown e c longer)) roomy h = none-some (sym h ∙ e)
+      back (shown e fits c w roomy) _ h = none-some (sym h ∙ e)
 
   -- an outcome that answers this value, by its text if that fits
   abbrev Answers : Val (a .depth) → Outcome → Type 0
@@ -63,16 +63,16 @@ module _ {t : List ℕ} (a : Accepted t) (lent answerLent : ℕ) where
   value-exactly {v} = go (ending a lent answerLent)
     where
       go : {o : Outcome} → Ending a (usedOf lent) answerLent o → Roomy o → eval (a .term) (environment a) ≡ some v → Answers v o
-      go (crowded {s = s} e) roomy h = absurd (roomy s refl)
-      go (filled {s = s} e f) roomy h = absurd (roomy s refl)
-      go (valueless e) roomy h = none-some (sym e ∙ h)
-      go (unshown {v = w} e longer) roomy h =
+      go (short (crowded {s = s} e)) roomy h = absurd (roomy s refl)
+      go (short (filled {s = s} e)) roomy h = absurd (roomy s refl)
+      go (short (valueless e rule c)) roomy h = none-some (sym e ∙ h)
+      go (short (unshown {v = w} e c longer)) roomy h =
           let same : w ≡ v = cc in
           inr (
             subst (λ u. answerLent < length (show (a .depth) u)) same longer,
             ap (λ u. refusal (NoAnswerRoom (length (show (a .depth) u)))) same,
           )
-      go (shown {v = w} {m = m} e fits ran roomy) _ h =
+      go (shown {v = w} {m = m} e fits c ran roomy) _ h =
           let same : w ≡ v = cc in
           let work : m .work ≡ charge (a .term) (environment a) = omega (arith, ran .work) in
           let steps : m .steps ≡ countTrue (reached (a .term) (environment a)) = omega (arith, ran .steps) in
@@ -99,13 +99,13 @@ module _ {t : List ℕ} (a : Accepted t) (lent answerLent : ℕ) where
     where
       there : {o : Outcome} → Ending a (usedOf lent) answerLent o → o ≡ refusal (NoRoom s)
           → (inputOver (usedOf lent) 0 0 (a .given) ≡ some s) ⊎ ((inputOver (usedOf lent) 0 0 (a .given) ≡ none) × Fills s)
-      there (crowded {s = k} e) q = let same : k ≡ s = cc in inl (e ∙ ap some same)
-      there (filled {s = k} e f) q =
+      there (short (crowded {s = k} e)) q = let same : k ≡ s = cc in inl (e ∙ ap some same)
+      there (short (filled {s = k} c)) q =
           let same : k ≡ s = cc in
-          inr (e, full-iff (usedOf lent) (program a) 1 (loaded (a .given)) (none-over (usedOf lent) (a .given) .0 e) s .0 (f ∙ ap (stopped full) same))
-      there (valueless e) q = let z : _≡_ {A = ℕ} 0 1 = cc in absurd (omega arith)
-      there (unshown e longer) q = let z : _≡_ {A = ℕ} 0 1 = cc in absurd (omega arith)
-      there (shown e fits w roomy) q = let z : _≡_ {A = ℕ} 0 1 = cc in absurd (omega arith)
+          inr (c .loads, full-iff (usedOf lent) (program a) 1 (loaded (a .given)) (none-over (usedOf lent) (a .given) .0 (c .loads)) s .0 (c .runs ∙ ap (stopped full) same))
+      there (short (valueless e rule c)) q = let z : _≡_ {A = ℕ} 0 1 = cc in absurd (omega arith)
+      there (short (unshown e c longer)) q = let z : _≡_ {A = ℕ} 0 1 = cc in absurd (omega arith)
+      there (shown e fits c w roomy) q = let z : _≡_ {A = ℕ} 0 1 = cc in absurd (omega arith)
 
       over : inputOver (usedOf lent) 0 0 (a .given) ≡ some s → outcome t lent answerLent ≡ refusal (NoRoom s)
       over e = outcome-executed a lent answerLent ∙ ap (executed (usedOf lent) answerLent (a .inputs) (a .term) (a .given)) e
@@ -124,15 +124,15 @@ pub value-fits : (t : List ℕ) (lent answerLent : ℕ) {text : List ℕ} {work 
 value-fits t lent answerLent {text} {work} {steps} {r} {held} = go (course t lent answerLent)
   where
     of : {a : Accepted t} {o : Outcome} → Ending a (usedOf lent) answerLent o → o ≡ value text work steps r held → (r ≤ usedOf lent) × (length held ≡ r)
-    of (crowded e) q = let z : _≡_ {A = ℕ} 0 1 = cc in absurd (omega arith)
-    of (filled e f) q = let z : _≡_ {A = ℕ} 0 1 = cc in absurd (omega arith)
-    of (valueless e) q = let z : _≡_ {A = ℕ} 0 1 = cc in absurd (omega arith)
-    of (unshown e longer) q = let z : _≡_ {A = ℕ} 0 1 = cc in absurd (omega arith)
-    of (shown {m = m} e fits w roomy) q =
+    of (short (crowded e)) q = let z : _≡_ {A = ℕ} 0 1 = cc in absurd (omega arith)
+    of (short (filled c)) q = let z : _≡_ {A = ℕ} 0 1 = cc in absurd (omega arith)
+    of (short (valueless e rule c)) q = let z : _≡_ {A = ℕ} 0 1 = cc in absurd (omega arith)
+    of (short (unshown e c longer)) q = let z : _≡_ {A = ℕ} 0 1 = cc in absurd (omega arith)
+    of (shown {m = m} e fits c w roomy) q =
         let same : room (m .store) ≡ r = cc in
         let stands : contents (m .store) ≡ held = cc in
         (omega arith, omega (arith, ap length stands))
 
     go : Course t lent answerLent → outcome t lent answerLent ≡ value text work steps r held → (r ≤ usedOf lent) × (length held ≡ r)
-    go (refused-early early e) q = let z : _≡_ {A = ℕ} 0 1 = cc in absurd (omega arith)
+    go (refused-early away early e) q = let z : _≡_ {A = ℕ} 0 1 = cc in absurd (omega arith)
     go (accepted a) q = of (ending a lent answerLent) q

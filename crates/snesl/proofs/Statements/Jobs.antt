@@ -21,11 +21,12 @@ use Rattle.snesl.specs.Bounded.{Passes}
 use Rattle.snesl.specs.Text.{show}
 use Rattle.snesl.specs.Checking.{turnedOnto, turned, depths}
 use Rattle.snesl.specs.Inputs.{inputTrees, inputStart, inputStreams, inputOver}
-use Rattle.snesl.specs.Outcome.{refusal, value, loaded, outcome}
-use Rattle.snesl.specs.Demands.{Accepted, environment, Demands}
+use Rattle.snesl.specs.Outcome.{refusal, value, loaded, outcome, streamsAfter, answerAfter}
+use Rattle.snesl.specs.Demands.{Told, declines, toldOf, Accepted, environment, Demands}
 use Rattle.snesl.proofs.Jobs.InputStreams as InputStreams
 use Rattle.snesl.proofs.Jobs.InputRoom as InputRoom
 use Rattle.snesl.proofs.Jobs.Demands as Keeping
+use Rattle.snesl.proofs.Jobs.OneAnswer as OneAnswer
 use Rattle.snesl.proofs.Jobs.Exactly as Exactly
 
 -- 1. The inputs. Their streams are those of the ids below the code's first one, and in them each input's tree holds its value: so correctness holds of a
@@ -62,10 +63,25 @@ pub the-first-input-over : {ds : List ℕ} (cap s : ℕ) (vs : All Val ds)
     × (cap < room (take (inputStart (take (suc i) ds)) (inputStreams vs))))
 the-first-input-over = InputRoom.some-over
 
--- 3. The demands (specs/Demands.antt), for every job and whatever is lent. A value is the one that the rules give, its text is the answer, the streams held
--- represent it, work and steps are the charges; 8 is given only where the rules give no value, and 10 only where the value's text is too long.
-pub every-outcome-keeps-the-demands : (t : List ℕ) (lent answerLent : ℕ) → Demands t answerLent (outcome t lent answerLent)
+-- 3. The demands (specs/Demands.antt), for every job and whatever is lent: a call that answers and leaves what the outcome says keeps them;
+pub every-outcome-keeps-the-demands : (t : List ℕ) (streams : List ℤ) (answer : List ℕ)
+    → Demands t streams (streamsAfter streams (outcome t (length streams) (length answer))) answer (answerAfter answer (outcome t (length streams) (length answer)))
+    (toldOf (outcome t (length streams) (length answer)))
 every-outcome-keeps-the-demands = Keeping.demands
+
+-- and no other call does: by the demands alone there is one answer and one content of each buffer.
+pub the-demands-leave-one-answer : {t : List ℕ} {streams streams₁ streams₂ : List ℤ} {answer answer₁ answer₂ : List ℕ} {r₁ r₂ : Told}
+    → Demands t streams streams₁ answer answer₁ r₁
+    → Demands t streams streams₂ answer answer₂ r₂
+    → (r₁ ≡ r₂) × (streams₁ ≡ streams₂) × (answer₁ ≡ answer₂)
+the-demands-leave-one-answer = OneAnswer.one-answer
+
+-- Where the rules give no value, the answer is 8, or 9 before it, and never a value.
+pub no-value-is-never-shown : {t : List ℕ} {streams streams′ : List ℤ} {answer answer′ : List ℕ} {r : Told} (a : Accepted t)
+    → Demands t streams streams′ answer answer′ r
+    → eval (a .term) (environment a) ≡ none
+    → (s : ℕ) × ((r ≡ declines (NoValue s)) ⊎ (r ≡ declines (NoRoom s)))
+no-value-is-never-shown = OneAnswer.no-value-shows
 
 -- 4. A job that meets none of 1 to 7 and no 9 is refused by 8 exactly if the rules give it no value;
 module _ {t : List ℕ} (a : Accepted t) (lent answerLent : ℕ) where

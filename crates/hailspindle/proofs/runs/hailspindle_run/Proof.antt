@@ -1,10 +1,5 @@
--- The answer of `run` is the reply's, and what it promises is handed on.
-use mathlib.Core.List.{[], _∷_}
-use mathlib.Core.Path.{sym, ap, _∙_}
-use lib.ListN.{length}
-use Rattle.snesl.specs.Outcome.{outcome}
-use Rattle.hailspindle.specs.Replies.{Reply, noted}
-use Rattle.hailspindle.proofs.Replying.{run-refused, run-valued}
+-- What `run` keeps is kept by the number and the figures; `exact` follows from that alone.
+use Rattle.hailspindle.proofs.Replying.{refused-keeps, valued-keeps, keeps-exactly}
 use borrow.Author.Needs.{needs}
 use Rattle.hailspindle.proofs.runs.hailspindle_run.Statement.{statement}
 use Rattle.hailspindle.proofs.runs.hailspindle_run.Tie as tie
@@ -40,7 +35,10 @@ same-length-3 : tie.Need-same-length-3
 same-length-3 c = search needs
 
 returns : tie.Need-returns
-returns c = (record { says = c .number .ensures ∙ ap (λ (a : Reply). a .number) (run-refused (outcome (c .before .before .before .before .before .before .before .before .before .before .before .before .before .before .before .before .before .before .args .job .now) (length (c .before .before .before .before .before .before .before .before .before .before .before .before .before .before .before .before .before .before .args .streams .now)) (length (c .before .before .before .before .before .before .before .before .before .before .before .before .before .before .before .before .before .before .args .answer .now))) _ (sym (c .before .before .before .before .before .before .before .refusal .given .1) ∙ c .before .before .before .before .before .before .before .before .before .before .before .before .run .ensures .0 .says)); figures-are = c .before .before .before .four .ensures ∙ ap (λ p. noted (p ∷ 0 ∷ 0 ∷ 0 ∷ []) (c .before .before .before .before .before .before .before .before .before .before .before .before .before .before .before .before .before .before .args .figures .now)) (c .before .before .before .before .before .place .ensures) ∙ ap (λ (a : Reply). noted (a .figures) (c .before .before .before .before .before .before .before .before .before .before .before .before .before .before .before .before .before .before .args .figures .now)) (run-refused (outcome (c .before .before .before .before .before .before .before .before .before .before .before .before .before .before .before .before .before .before .args .job .now) (length (c .before .before .before .before .before .before .before .before .before .before .before .before .before .before .before .before .before .before .args .streams .now)) (length (c .before .before .before .before .before .before .before .before .before .before .before .before .before .before .before .before .before .before .args .answer .now))) _ (sym (c .before .before .before .before .before .before .before .refusal .given .1) ∙ c .before .before .before .before .before .before .before .before .before .before .before .before .run .ensures .0 .says)); streams-are = c .before .before .before .before .before .before .before .before .before .before .before .before .run .ensures .0 .streams-are; answer-is = c .before .before .before .before .before .before .before .before .before .before .before .before .run .ensures .0 .answer-is }, c .before .before .before .before .before .before .before .before .before .before .before .before .run .ensures .1)
+returns c =
+    let before = c .before .before .before .before .before .before .before .before .before .before .before .before in
+    let k = refused-keeps (before .run .ensures .1) (c .before .before .before .before .before .before .before .refusal .given .0 .0) (c .before .before .before .before .before .before .before .refusal .given .1) (c .number .ensures) (c .before .before .before .before .before .place .ensures) (c .before .before .before .four .ensures) in
+    search (k, keeps-exactly k)
 
 same-length-4 : tie.Need-same-length-4
 same-length-4 c = search needs
@@ -52,7 +50,10 @@ same-length-6 : tie.Need-same-length-6
 same-length-6 c = search needs
 
 returns-2 : tie.Need-returns-2
-returns-2 c = (record { says = ap (λ (a : Reply). a .number) (run-valued (outcome (c .before .before .before .before .before .before .before .before .before .before .before .before .before .before .before .before .args .job .now) (length (c .before .before .before .before .before .before .before .before .before .before .before .before .before .before .before .before .args .streams .now)) (length (c .before .before .before .before .before .before .before .before .before .before .before .before .before .before .before .before .args .answer .now))) _ (sym (c .before .before .before .before .before .counts .given .1) ∙ c .before .before .before .before .before .before .before .before .before .before .run .ensures .0 .says)); figures-are = c .before .before .four2 .ensures ∙ ap (λ (a : Reply). noted (a .figures) (c .before .before .before .before .before .before .before .before .before .before .before .before .before .before .before .before .args .figures .now)) (run-valued (outcome (c .before .before .before .before .before .before .before .before .before .before .before .before .before .before .before .before .args .job .now) (length (c .before .before .before .before .before .before .before .before .before .before .before .before .before .before .before .before .args .streams .now)) (length (c .before .before .before .before .before .before .before .before .before .before .before .before .before .before .before .before .args .answer .now))) _ (sym (c .before .before .before .before .before .counts .given .1) ∙ c .before .before .before .before .before .before .before .before .before .before .run .ensures .0 .says)); streams-are = c .before .before .before .before .before .before .before .before .before .before .run .ensures .0 .streams-are; answer-is = c .before .before .before .before .before .before .before .before .before .before .run .ensures .0 .answer-is }, c .before .before .before .before .before .before .before .before .before .before .run .ensures .1)
+returns-2 c =
+    let before = c .before .before .before .before .before .before .before .before .before .before in
+    let k = valued-keeps (before .run .ensures .1) (c .before .before .before .before .before .counts .given .0 .0) (c .before .before .before .before .before .counts .given .1) (c .before .before .four2 .ensures) in
+    search (k, keeps-exactly k)
 
 pub hailspindle-run-spec : {M : Type 1} → statement M
 hailspindle-run-spec =

@@ -1,6 +1,6 @@
--- What was performed stays where it has a value, and else the buffer is cleared.
+-- What was performed stays where it has a value, and else the buffer is cleared: so the demands are kept.
 use borrow.Author.Needs.{needs}
-use Rattle.sheet.proofs.Performing.{settled}
+use Rattle.sheet.proofs.Whole.{kept-used}
 use Rattle.sheet.proofs.execution.execute.Statement.{statement}
 use Rattle.sheet.proofs.execution.execute.Tie as tie
 
@@ -26,7 +26,10 @@ same-length-2 : tie.Need-same-length-2
 same-length-2 c = search needs
 
 returns : tie.Need-returns
-returns c = λ g. settled (c .before .before .before .before .before .before .before .before .before .perform .ensures g) (c .before .before .before .before .before .before .before .before .before .perform .kept .1 .1 .1 .0) (c .before .before .before .spoiled-from .ensures) (c .before .clear .ensures)
+returns c =
+    let pre = c .before .before .before .before .before .before .before .before .before .before .before .before .before .before .before .before .pre in
+    let performed = c .before .before .before .before .before .before .before .before .before .perform in
+    kept-used (pre .0) (pre .1) (performed .ensures (pre .0)) (performed .kept .1 .1 .1 .0) (c .before .before .before .spoiled-from .ensures) (c .before .clear .ensures)
 
 pub execute-spec : {M : Type 1} → statement M
 execute-spec =

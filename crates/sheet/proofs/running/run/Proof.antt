@@ -1,12 +1,13 @@
--- Refused by 1 to 7, or executed on the used part; what every outcome promises is snesl's theorem.
+-- Refused by 1 to 7, or executed on the used part: either way the demands are kept, and `exact` follows from them alone.
 use mathlib.Core.Path.{sym, _∙_}
 use native.Mathlib.Omega.{arith}
 use borrow.Author.Needs.{needs}
 use lib.ListN.{length}
 use lib.Seq.{length-take-le}
-use Rattle.snesl.proofs.Jobs.Demands.{demands}
+use Rattle.sheet.specs.declared.Ran.the-variants.{Refused}
 use Rattle.sheet.proofs.Admitting.{turned, taken-in}
-use Rattle.sheet.proofs.Whole.{untouched, exact}
+use Rattle.sheet.proofs.OneAnswer.{exacted}
+use Rattle.sheet.proofs.Whole.{kept-untouched, kept-whole}
 use Rattle.sheet.proofs.running.run.Statement.{statement}
 use Rattle.sheet.proofs.running.run.Tie as tie
 
@@ -32,7 +33,11 @@ execute-requires : tie.Need-execute-requires
 execute-requires c κs = ((taken-in (c .before .before .before .before .before .before .before .before .before .args .job .now) (c .before .before .before .before .formula .given .0 .0) (sym (c .before .before .before .before .formula .given .1) ∙ c .before .before .before .before .before .before .admit .ensures)), omega (arith, (length-take-le (c .before .before .used-part .result) (c .before .before .before .before .before .before .before .before .before .args .streams .now) (omega (arith, c .before .before .used-part .ensures))), c .before .before .used-part .ensures))
 
 returns : tie.Need-returns
-returns c = (untouched (c .before .refusal .given .0 .0) (c .before .before .before .before .before .before .args .streams .now) (c .before .before .before .before .before .before .args .answer .now) (turned (c .before .before .before .before .before .before .args .job .now) (c .before .refusal .given .0 .0) (sym (c .before .refusal .given .1) ∙ c .before .before .before .admit .ensures)), demands (c .before .before .before .before .before .before .args .job .now) (length (c .before .before .before .before .before .before .args .streams .now)) (length (c .before .before .before .before .before .before .args .answer .now)))
+returns c =
+    let given = c .before .before .before .before .before .before .args in
+    let refusal = c .before .refusal .given in
+    let k = kept-untouched (refusal .0 .0) (given .streams .now) (given .answer .now) (turned (given .job .now) (refusal .0 .0) (sym (refusal .1) ∙ c .before .before .before .admit .ensures)) in
+    search (k, exacted (Refused (refusal .0 .0)) k)
 
 same-length : tie.Need-same-length
 same-length c = search needs
@@ -41,7 +46,12 @@ same-length-2 : tie.Need-same-length-2
 same-length-2 c = search needs
 
 returns-2 : tie.Need-returns-2
-returns-2 c = (exact (taken-in (c .before .before .before .before .before .before .before .before .before .before .before .before .before .args .job .now) (c .before .before .before .before .before .before .before .before .formula .given .0 .0) (sym (c .before .before .before .before .before .before .before .before .formula .given .1) ∙ c .before .before .before .before .before .before .before .before .before .before .admit .ensures)) (c .before .before .before .before .before .before .before .before .before .before .before .before .before .args .streams .now) (c .before .before .before .execute .last .1 .1 .0) (c .before .before .before .before .before .before .used-part .result) (c .before .before .before .before .before .before .used-part .ensures) (length-take-le (c .before .before .before .before .before .before .used-part .result) (c .before .before .before .before .before .before .before .before .before .before .before .before .before .args .streams .now) (omega (arith, c .before .before .before .before .before .before .used-part .ensures))) (c .before .before .before .execute .kept .1 .1 .0) (c .before .before .before .execute .ensures (taken-in (c .before .before .before .before .before .before .before .before .before .before .before .before .before .args .job .now) (c .before .before .before .before .before .before .before .before .formula .given .0 .0) (sym (c .before .before .before .before .before .before .before .before .formula .given .1) ∙ c .before .before .before .before .before .before .before .before .before .before .admit .ensures))), demands (c .before .before .before .before .before .before .before .before .before .before .before .before .before .args .job .now) (length (c .before .before .before .before .before .before .before .before .before .before .before .before .before .args .streams .now)) (length (c .before .before .before .before .before .before .before .before .before .before .before .before .before .args .answer .now)))
+returns-2 c =
+    let streams = c .before .before .before .before .before .before .before .before .before .before .before .before .before .args .streams .now in
+    let used = c .before .before .before .before .before .before .used-part in
+    let executed = c .before .before .before .execute in
+    let k = kept-whole streams (executed .last .1 .1 .0) (used .result) (used .ensures) (length-take-le (used .result) streams (omega (arith, used .ensures))) (executed .kept .1 .1 .0) (executed .result) (executed .ensures) in
+    search (k, exacted (executed .result) k)
 
 pub run-spec : {M : Type 1} → statement M
 run-spec =
