@@ -3,3 +3,4 @@ pub mod Parts
 pub mod NumberText
 pub mod NumberWriting
 pub mod IntText
+pub mod ShortInts

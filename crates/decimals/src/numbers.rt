@@ -82,7 +82,7 @@ fn read_digits(text: &[u8]) -> Digits
 }
 
 // An int: optional minus, digits, no leading zero, no minus zero, in range.
-pub fn read_int(text: &[u8]) -> ReadInt
+fn read_any_int(text: &[u8]) -> ReadInt
     ensures { λ r. ⌜ r ≡ intAt (now (text .entry)) ⌝ }
 {
     if text.len() == 0 {
@@ -112,6 +112,35 @@ pub fn read_int(text: &[u8]) -> ReadInt
             Digits::No => ReadInt::No,
         }
     }
+}
+
+// The same, where nearly every int has one to nine digits and no minus: those are in range whatever they are, so their loop tests none.
+pub fn read_int(text: &[u8]) -> ReadInt
+    ensures { λ r. ⌜ r ≡ intAt (now (text .entry)) ⌝ }
+{
+    if byte_at(text, 0) < 49 {
+        return read_any_int(text);
+    }
+    let mut n: u64 = 0;
+    let mut i: usize = 0;
+    loop {
+        match digit_at(text, i) {
+            Digit::Of(d) => {
+                if i == 9 {
+                    return read_any_int(text);
+                }
+                n = n * 10 + d;
+                i += 1;
+            }
+            Digit::End => {
+                break;
+            }
+        }
+    }
+    if i == 0 {
+        return read_any_int(text);
+    }
+    ReadInt::Int(n as i32, i)
 }
 
 // One byte at a position, if it lies within the buffer; answers the next position.

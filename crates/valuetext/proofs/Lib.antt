@@ -3,3 +3,4 @@ pub mod ReadingSteps
 pub mod ReadingAt
 pub mod Represented
 pub mod StoringSteps
+pub mod ReadingInts

@@ -28,6 +28,15 @@ pub enum After {
     Else,
 }
 
+// An element at a place, if it lies within the lent elements.
+fn store(elements: &mut [i32], at: usize, z: i32)
+    ensures { λ r. ⌜ now (elements .exit) ≡ set (now (elements .entry)) at z ⌝ }
+{
+    if at < elements.len() {
+        elements[at] = z;
+    }
+}
+
 // One element more for a level's stream. A place past the lent elements is only counted.
 fn append(elements: &mut [i32], cursors: &mut [usize], level: usize, z: i32)
     requires { ⌜ (level < length (now cursors)) × (getD (now cursors) level 0 + 1 < 2 ^ 64) ⌝ }
@@ -36,10 +45,7 @@ fn append(elements: &mut [i32], cursors: &mut [usize], level: usize, z: i32)
 {
     let at = cursors[level];
     cursors[level] = at + 1;
-    if at >= elements.len() {
-        return;
-    }
-    elements[at] = z;
+    store(elements, at, z);
 }
 
 fn opening_of(text: &[u8]) -> Opening
@@ -80,6 +86,44 @@ fn read_leaf(text: &[u8], elements: &mut [i32], cursors: &mut [usize]) -> Taken
     }
 }
 
+// The ints of a list, behind its brace, up to and with its closing one. Most of a text is such lists, so the cursors of the data and of the flags stay in locals.
+fn read_ints(text: &[u8], elements: &mut [i32], cursors: &mut [usize]) -> Taken
+    requires { ⌜ Ready 1 (now text) (now elements) (now cursors) ⌝ }
+    requires { ⌜ Opening.Items ≡ openingAt (now text) ⌝ }
+    ensures { λ r. ⌜ ReadAs 1 (now (text .entry)) (now (elements .entry)) (now (elements .exit)) (now (cursors .entry)) (now (cursors .exit)) r ⌝ }
+{
+    let mut data = cursors[0];
+    let mut flags = cursors[1];
+    let mut k: usize = 1;
+    loop {
+        match read_int(&text[k..]) {
+            ReadInt::Int(z, n) => {
+                store(elements, data, z);
+                store(elements, flags, 0);
+                data += 1;
+                flags += 1;
+                match what_follows(text, k + n) {
+                    After::Comma => {
+                        k = k + n + 1;
+                    }
+                    After::Close => {
+                        store(elements, flags, 1);
+                        cursors[0] = data;
+                        cursors[1] = flags + 1;
+                        return Taken::Bytes(k + n + 1);
+                    }
+                    After::Else => {
+                        return Taken::No;
+                    }
+                }
+            }
+            ReadInt::No => {
+                return Taken::No;
+            }
+        }
+    }
+}
+
 // An item, from the text's first byte on: an int, or a list.
 pub(crate) fn read_item(
     text: &[u8],
@@ -99,7 +143,12 @@ pub(crate) fn read_item(
             append(elements, cursors, level, 1);
             Taken::Bytes(2)
         }
-        Opening::Items => read_list(text, depth, elements, cursors),
+        Opening::Items => {
+            if depth == 1 {
+                return read_ints(text, elements, cursors);
+            }
+            read_list(text, depth, elements, cursors)
+        }
         Opening::No => Taken::No,
     }
 }

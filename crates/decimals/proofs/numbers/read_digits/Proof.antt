@@ -54,10 +54,22 @@ shared-slice-read-if4 : tie.Need-shared-slice-read-if4 Inv-loop μ-loop
 shared-slice-read-if4 c = omega (arith, c .before .before .before .before .before .before .loop .inv .inside, c .before .before .if2 .left)
 
 returns-4 : tie.Need-returns-4 Inv-loop μ-loop
-returns-4 c = reading-leading (c .before .before .before .before .before .before .before .loop .inv) (is-end (c .before .before .before .before .before .before .before .before .before .args .text .now) (c .before .before .before .before .before .before .before .loop .i) (sym (c .before .before .before .before .enum-told .given .1) ∙ c .before .before .before .before .before .before .digit-at .ensures)) (c .before .before .before .if2 .left) (c .before .before .if3 .left) (c .if4 .taken)
+returns-4 c =
+    let at-if2 = c .before .before .before in
+    let at-enum-told = at-if2 .before in
+    let at-digit-at = at-enum-told .before .before in
+    let at-loop = at-digit-at .before in
+    let at-start = at-loop .before .before in
+    reading-leading (at-loop .loop .inv) (is-end (at-start .args .text .now) (at-loop .loop .i) (sym (at-enum-told .enum-told .given .1) ∙ at-digit-at .digit-at .ensures)) (at-if2 .if2 .left) (c .before .before .if3 .left) (c .if4 .taken)
 
 returns-5 : tie.Need-returns-5 Inv-loop μ-loop
-returns-5 c = reading-several (c .before .before .before .before .before .before .before .loop .inv) (is-end (c .before .before .before .before .before .before .before .before .before .args .text .now) (c .before .before .before .before .before .before .before .loop .i) (sym (c .before .before .before .before .enum-told .given .1) ∙ c .before .before .before .before .before .before .digit-at .ensures)) (c .before .before .before .if2 .left) (c .before .before .if3 .left) (c .if4 .left)
+returns-5 c =
+    let at-if2 = c .before .before .before in
+    let at-enum-told = at-if2 .before in
+    let at-digit-at = at-enum-told .before .before in
+    let at-loop = at-digit-at .before in
+    let at-start = at-loop .before .before in
+    reading-several (at-loop .loop .inv) (is-end (at-start .args .text .now) (at-loop .loop .i) (sym (at-enum-told .enum-told .given .1) ∙ at-digit-at .digit-at .ensures)) (at-if2 .if2 .left) (c .before .before .if3 .left) (c .if4 .left)
 
 pub read-digits-spec : {M : Type 1} → statement M
 read-digits-spec =

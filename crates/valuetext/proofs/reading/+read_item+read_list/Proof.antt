@@ -17,6 +17,7 @@ use Rattle.valuetext.proofs.reading.read_list.Kinds as read-list-kinds
 use Rattle.valuetext.proofs.reading.+read_item+read_list.Lts-read_list as read-list-lts
 use Rattle.valuetext.proofs.reading.append.Reads as append-reads
 use Rattle.valuetext.proofs.reading.opening_of.Reads as opening-of-reads
+use Rattle.valuetext.proofs.reading.read_ints.Reads as read-ints-reads
 use Rattle.valuetext.proofs.reading.read_leaf.Reads as read-leaf-reads
 use Rattle.valuetext.proofs.reading.what_follows.Reads as what-follows-reads
 use Rattle.valuetext.proofs.reading.+read_item+read_list.{statement}
@@ -42,209 +43,113 @@ abbrev read-list-below : ℕ → In 3 read-list-kinds.ps
 read-list-below t =
     and 3 read-list-kinds.ps (falls 3 read-list-kinds.ps _<_ μ-read-list t) read-list.Pre
 
-read-item-read-leaf-requires : (t : ℕ) → read-item-lts.Need-read-leaf-requires (
+abbrev read-item-callees : ℕ → read-item-lts.Claims
+read-item-callees t = (
   read-leaf-reads.Asked,
   read-leaf-reads.Learnt,
   opening-of-reads.Asked,
   opening-of-reads.Learnt,
   append-reads.Asked,
   append-reads.Learnt,
+  read-ints-reads.Asked,
+  read-ints-reads.Learnt,
   read-list-below t,
   read-list.Post,
-) (read-item-at t) read-item.Post
+)
+
+abbrev read-list-callees : ℕ → read-list-lts.Claims
+read-list-callees t = (
+  read-item-below t,
+  read-item.Post,
+  append-reads.Asked,
+  append-reads.Learnt,
+  what-follows-reads.Asked,
+  what-follows-reads.Learnt,
+)
+
+read-item-read-leaf-requires : (t : ℕ) → read-item-lts.Need-read-leaf-requires (read-item-callees t) (read-item-at t) read-item.Post
 read-item-read-leaf-requires t c κs = ready-at (c .before .before .if1 .taken) (c .before .before .before .before .before .pre .1)
 
-read-item-same-length : (t : ℕ) → read-item-lts.Need-same-length (
-  read-leaf-reads.Asked,
-  read-leaf-reads.Learnt,
-  opening-of-reads.Asked,
-  opening-of-reads.Learnt,
-  append-reads.Asked,
-  append-reads.Learnt,
-  read-list-below t,
-  read-list.Post,
-) (read-item-at t) read-item.Post
+read-item-same-length : (t : ℕ) → read-item-lts.Need-same-length (read-item-callees t) (read-item-at t) read-item.Post
 read-item-same-length t c = search needs
 
-read-item-same-length-2 : (t : ℕ) → read-item-lts.Need-same-length-2 (
-  read-leaf-reads.Asked,
-  read-leaf-reads.Learnt,
-  opening-of-reads.Asked,
-  opening-of-reads.Learnt,
-  append-reads.Asked,
-  append-reads.Learnt,
-  read-list-below t,
-  read-list.Post,
-) (read-item-at t) read-item.Post
+read-item-same-length-2 : (t : ℕ) → read-item-lts.Need-same-length-2 (read-item-callees t) (read-item-at t) read-item.Post
 read-item-same-length-2 t c = search needs
 
-read-item-returns : (t : ℕ) → read-item-lts.Need-returns (
-  read-leaf-reads.Asked,
-  read-leaf-reads.Learnt,
-  opening-of-reads.Asked,
-  opening-of-reads.Learnt,
-  append-reads.Asked,
-  append-reads.Learnt,
-  read-list-below t,
-  read-list.Post,
-) (read-item-at t) read-item.Post
+read-item-returns : (t : ℕ) → read-item-lts.Need-returns (read-item-callees t) (read-item-at t) read-item.Post
 read-item-returns t c = read-at (sym (c .before .before .before .before .before .before .if1 .taken)) (c .before .before .before .read-leaf .ensures)
 
-read-item-opening-of-requires : (t : ℕ) → read-item-lts.Need-opening-of-requires (
-  read-leaf-reads.Asked,
-  read-leaf-reads.Learnt,
-  opening-of-reads.Asked,
-  opening-of-reads.Learnt,
-  append-reads.Asked,
-  append-reads.Learnt,
-  read-list-below t,
-  read-list.Post,
-) (read-item-at t) read-item.Post
+read-item-opening-of-requires : (t : ℕ) → read-item-lts.Need-opening-of-requires (read-item-callees t) (read-item-at t) read-item.Post
 read-item-opening-of-requires t c κs = tt
 
-read-item-enum-told : (t : ℕ) → read-item-lts.Need-enum-told (
-  read-leaf-reads.Asked,
-  read-leaf-reads.Learnt,
-  opening-of-reads.Asked,
-  opening-of-reads.Learnt,
-  append-reads.Asked,
-  append-reads.Learnt,
-  read-list-below t,
-  read-list.Post,
-) (read-item-at t) read-item.Post
+read-item-enum-told : (t : ℕ) → read-item-lts.Need-enum-told (read-item-callees t) (read-item-at t) read-item.Post
 read-item-enum-told t c = search needs
 
-read-item-append-requires : (t : ℕ) → read-item-lts.Need-append-requires (
-  read-leaf-reads.Asked,
-  read-leaf-reads.Learnt,
-  opening-of-reads.Asked,
-  opening-of-reads.Learnt,
-  append-reads.Asked,
-  append-reads.Learnt,
-  read-list-below t,
-  read-list.Post,
-) (read-item-at t) read-item.Post
-read-item-append-requires t c κs = empty-ready-at (c .before .before .before .before .before .before .before .before .args .depth) (c .before .before .before .before .before .if1 .left) (c .before .before .before .before .before .before .before .before .pre .1) (sym (c .before .before .enum-told .given .1) ∙ c .before .before .before .before .opening-of .ensures)
+read-item-append-requires : (t : ℕ) → read-item-lts.Need-append-requires (read-item-callees t) (read-item-at t) read-item.Post
+read-item-append-requires t c κs =
+    let at-enum-told = c .before .before in
+    let at-opening-of = at-enum-told .before .before in
+    let at-if1 = at-opening-of .before in
+    let at-start = at-if1 .before .before .before in
+    empty-ready-at (at-start .args .depth) (at-if1 .if1 .left) (at-start .pre .1) (sym (at-enum-told .enum-told .given .1) ∙ at-opening-of .opening-of .ensures)
 
-read-item-enum-told-2 : (t : ℕ) → read-item-lts.Need-enum-told-2 (
-  read-leaf-reads.Asked,
-  read-leaf-reads.Learnt,
-  opening-of-reads.Asked,
-  opening-of-reads.Learnt,
-  append-reads.Asked,
-  append-reads.Learnt,
-  read-list-below t,
-  read-list.Post,
-) (read-item-at t) read-item.Post
+read-item-enum-told-2 : (t : ℕ) → read-item-lts.Need-enum-told-2 (read-item-callees t) (read-item-at t) read-item.Post
 read-item-enum-told-2 t c = search needs
 
-read-item-read-list-requires : (t : ℕ) → read-item-lts.Need-read-list-requires (
-  read-leaf-reads.Asked,
-  read-leaf-reads.Learnt,
-  opening-of-reads.Asked,
-  opening-of-reads.Learnt,
-  append-reads.Asked,
-  append-reads.Learnt,
-  read-list-below t,
-  read-list.Post,
-) (read-item-at t) read-item.Post
-read-item-read-list-requires t c κs = (omega (arith, c .before .before .before .before .before .before .before .before .pre .0), (c .before .before .before .before .before .before .before .before .pre .1, (omega (arith, c .before .before .before .before .before .if1 .left), sym (c .before .before .enum-told2 .given .1) ∙ c .before .before .before .before .opening-of .ensures)))
+read-item-read-ints-requires : (t : ℕ) → read-item-lts.Need-read-ints-requires (read-item-callees t) (read-item-at t) read-item.Post
+read-item-read-ints-requires t c κs =
+    let at-if2 = c .before .before in
+    let at-enum-told2 = at-if2 .before in
+    let at-opening-of = at-enum-told2 .before .before in
+    let at-start = at-opening-of .before .before .before .before in
+    (ready-at (at-if2 .if2 .taken) (at-start .pre .1), sym (at-enum-told2 .enum-told2 .given .1) ∙ at-opening-of .opening-of .ensures)
 
-read-item-enum-told-3 : (t : ℕ) → read-item-lts.Need-enum-told-3 (
-  read-leaf-reads.Asked,
-  read-leaf-reads.Learnt,
-  opening-of-reads.Asked,
-  opening-of-reads.Learnt,
-  append-reads.Asked,
-  append-reads.Learnt,
-  read-list-below t,
-  read-list.Post,
-) (read-item-at t) read-item.Post
-read-item-enum-told-3 t c = search needs
-
-read-item-same-length-3 : (t : ℕ) → read-item-lts.Need-same-length-3 (
-  read-leaf-reads.Asked,
-  read-leaf-reads.Learnt,
-  opening-of-reads.Asked,
-  opening-of-reads.Learnt,
-  append-reads.Asked,
-  append-reads.Learnt,
-  read-list-below t,
-  read-list.Post,
-) (read-item-at t) read-item.Post
+read-item-same-length-3 : (t : ℕ) → read-item-lts.Need-same-length-3 (read-item-callees t) (read-item-at t) read-item.Post
 read-item-same-length-3 t c = search needs
 
-read-item-same-length-4 : (t : ℕ) → read-item-lts.Need-same-length-4 (
-  read-leaf-reads.Asked,
-  read-leaf-reads.Learnt,
-  opening-of-reads.Asked,
-  opening-of-reads.Learnt,
-  append-reads.Asked,
-  append-reads.Learnt,
-  read-list-below t,
-  read-list.Post,
-) (read-item-at t) read-item.Post
+read-item-same-length-4 : (t : ℕ) → read-item-lts.Need-same-length-4 (read-item-callees t) (read-item-at t) read-item.Post
 read-item-same-length-4 t c = search needs
 
-read-item-returns-2 : (t : ℕ) → read-item-lts.Need-returns-2 (
-  read-leaf-reads.Asked,
-  read-leaf-reads.Learnt,
-  opening-of-reads.Asked,
-  opening-of-reads.Learnt,
-  append-reads.Asked,
-  append-reads.Learnt,
-  read-list-below t,
-  read-list.Post,
-) (read-item-at t) read-item.Post
-read-item-returns-2 t c = empty-at (c .before .before .before .before .before .before .before .before .before .before .before .before .args .depth) (c .before .before .before .before .before .before .before .before .before .if1 .left) (sym (c .before .before .before .before .before .before .enum-told .given .1) ∙ c .before .before .before .before .before .before .before .before .opening-of .ensures) (c .before .before .before .append .ensures .0) (c .before .before .before .append .ensures .1)
+read-item-returns-2 : (t : ℕ) → read-item-lts.Need-returns-2 (read-item-callees t) (read-item-at t) read-item.Post
+read-item-returns-2 t c = read-at (sym (c .before .before .before .before .before .before .if2 .taken)) (c .before .before .before .read-ints .ensures)
 
-read-item-same-length-5 : (t : ℕ) → read-item-lts.Need-same-length-5 (
-  read-leaf-reads.Asked,
-  read-leaf-reads.Learnt,
-  opening-of-reads.Asked,
-  opening-of-reads.Learnt,
-  append-reads.Asked,
-  append-reads.Learnt,
-  read-list-below t,
-  read-list.Post,
-) (read-item-at t) read-item.Post
+read-item-read-list-requires : (t : ℕ) → read-item-lts.Need-read-list-requires (read-item-callees t) (read-item-at t) read-item.Post
+read-item-read-list-requires t c κs =
+    let at-enum-told2 = c .before .before .before in
+    let at-opening-of = at-enum-told2 .before .before in
+    let at-if1 = at-opening-of .before in
+    let at-start = at-if1 .before .before .before in
+    (omega (arith, at-start .pre .0), (at-start .pre .1, (omega (arith, at-if1 .if1 .left), sym (at-enum-told2 .enum-told2 .given .1) ∙ at-opening-of .opening-of .ensures)))
+
+read-item-enum-told-3 : (t : ℕ) → read-item-lts.Need-enum-told-3 (read-item-callees t) (read-item-at t) read-item.Post
+read-item-enum-told-3 t c = search needs
+
+read-item-same-length-5 : (t : ℕ) → read-item-lts.Need-same-length-5 (read-item-callees t) (read-item-at t) read-item.Post
 read-item-same-length-5 t c = search needs
 
-read-item-same-length-6 : (t : ℕ) → read-item-lts.Need-same-length-6 (
-  read-leaf-reads.Asked,
-  read-leaf-reads.Learnt,
-  opening-of-reads.Asked,
-  opening-of-reads.Learnt,
-  append-reads.Asked,
-  append-reads.Learnt,
-  read-list-below t,
-  read-list.Post,
-) (read-item-at t) read-item.Post
+read-item-same-length-6 : (t : ℕ) → read-item-lts.Need-same-length-6 (read-item-callees t) (read-item-at t) read-item.Post
 read-item-same-length-6 t c = search needs
 
-read-item-returns-3 : (t : ℕ) → read-item-lts.Need-returns-3 (
-  read-leaf-reads.Asked,
-  read-leaf-reads.Learnt,
-  opening-of-reads.Asked,
-  opening-of-reads.Learnt,
-  append-reads.Asked,
-  append-reads.Learnt,
-  read-list-below t,
-  read-list.Post,
-) (read-item-at t) read-item.Post
-read-item-returns-3 t c = c .before .before .before .read-list .ensures
+read-item-returns-3 : (t : ℕ) → read-item-lts.Need-returns-3 (read-item-callees t) (read-item-at t) read-item.Post
+read-item-returns-3 t c =
+    let at-append = c .before .before .before in
+    let at-enum-told = at-append .before .before .before in
+    let at-opening-of = at-enum-told .before .before in
+    let at-if1 = at-opening-of .before in
+    let at-start = at-if1 .before .before .before in
+    empty-at (at-start .args .depth) (at-if1 .if1 .left) (sym (at-enum-told .enum-told .given .1) ∙ at-opening-of .opening-of .ensures) (at-append .append .ensures .0) (at-append .append .ensures .1)
 
-read-item-returns-4 : (t : ℕ) → read-item-lts.Need-returns-4 (
-  read-leaf-reads.Asked,
-  read-leaf-reads.Learnt,
-  opening-of-reads.Asked,
-  opening-of-reads.Learnt,
-  append-reads.Asked,
-  append-reads.Learnt,
-  read-list-below t,
-  read-list.Post,
-) (read-item-at t) read-item.Post
-read-item-returns-4 t c = no-list-at (c .before .before .before .before .before .before .args .depth) (c .before .before .before .if1 .left) (sym (c .enum-told3 .given .1) ∙ c .before .before .opening-of .ensures)
+read-item-same-length-7 : (t : ℕ) → read-item-lts.Need-same-length-7 (read-item-callees t) (read-item-at t) read-item.Post
+read-item-same-length-7 t c = search needs
+
+read-item-same-length-8 : (t : ℕ) → read-item-lts.Need-same-length-8 (read-item-callees t) (read-item-at t) read-item.Post
+read-item-same-length-8 t c = search needs
+
+read-item-returns-4 : (t : ℕ) → read-item-lts.Need-returns-4 (read-item-callees t) (read-item-at t) read-item.Post
+read-item-returns-4 t c = c .before .before .before .read-list .ensures
+
+read-item-returns-5 : (t : ℕ) → read-item-lts.Need-returns-5 (read-item-callees t) (read-item-at t) read-item.Post
+read-item-returns-5 t c = no-list-at (c .before .before .before .before .before .before .args .depth) (c .before .before .before .if1 .left) (sym (c .enum-told3 .given .1) ∙ c .before .before .opening-of .ensures)
 
 abbrev read-list-Inv-loop : read-list-lts.InvT-loop
 read-list-Inv-loop text depth elements₀ cursors₀ k₀ elements cursors k = Listing (depth - 1) text elements₀ elements cursors₀ cursors k
@@ -252,317 +157,204 @@ read-list-Inv-loop text depth elements₀ cursors₀ k₀ elements cursors k = L
 abbrev read-list-μ-loop : read-list-lts.MeasureT-loop
 read-list-μ-loop text depth elements₀ cursors₀ k₀ elements cursors k = length text - k
 
-read-list-loop-holds : (t : ℕ) → read-list-lts.Need-loop-holds (
-  read-item-below t,
-  read-item.Post,
-  append-reads.Asked,
-  append-reads.Learnt,
-  what-follows-reads.Asked,
-  what-follows-reads.Learnt,
-) (read-list-at t) read-list.Post read-list-Inv-loop read-list-μ-loop
+read-list-loop-holds : (t : ℕ) → read-list-lts.Need-loop-holds (read-list-callees t) (read-list-at t) read-list.Post read-list-Inv-loop read-list-μ-loop
 read-list-loop-holds t c = listing-start (ready-at (sym (deeper (c .before .before .args .depth) (c .before .before .pre .1 .1 .0))) (c .before .before .pre .1 .0)) (c .before .before .pre .1 .1 .1)
 
-read-list-sub-read-item : (t : ℕ) → read-list-lts.Need-sub-read-item (
-  read-item-below t,
-  read-item.Post,
-  append-reads.Asked,
-  append-reads.Learnt,
-  what-follows-reads.Asked,
-  what-follows-reads.Learnt,
-) (read-list-at t) read-list.Post read-list-Inv-loop read-list-μ-loop
+read-list-sub-read-item : (t : ℕ) → read-list-lts.Need-sub-read-item (read-list-callees t) (read-list-at t) read-list.Post read-list-Inv-loop read-list-μ-loop
 read-list-sub-read-item t c = omega (arith, c .loop .inv .inside)
 
-read-list-part-read-item-start : (t : ℕ) → read-list-lts.Need-part-read-item-start (
-  read-item-below t,
-  read-item.Post,
-  append-reads.Asked,
-  append-reads.Learnt,
-  what-follows-reads.Asked,
-  what-follows-reads.Learnt,
-) (read-list-at t) read-list.Post read-list-Inv-loop read-list-μ-loop
+read-list-part-read-item-start : (t : ℕ) → read-list-lts.Need-part-read-item-start (read-list-callees t) (read-list-at t) read-list.Post read-list-Inv-loop read-list-μ-loop
 read-list-part-read-item-start t c = omega (arith, c .loop .inv .inside)
 
-read-list-part-read-item-end : (t : ℕ) → read-list-lts.Need-part-read-item-end (
-  read-item-below t,
-  read-item.Post,
-  append-reads.Asked,
-  append-reads.Learnt,
-  what-follows-reads.Asked,
-  what-follows-reads.Learnt,
-) (read-list-at t) read-list.Post read-list-Inv-loop read-list-μ-loop
+read-list-part-read-item-end : (t : ℕ) → read-list-lts.Need-part-read-item-end (read-list-callees t) (read-list-at t) read-list.Post read-list-Inv-loop read-list-μ-loop
 read-list-part-read-item-end t c = omega arith
 
-read-list-sub-read-item-2 : (t : ℕ) → read-list-lts.Need-sub-read-item-2 (
-  read-item-below t,
-  read-item.Post,
-  append-reads.Asked,
-  append-reads.Learnt,
-  what-follows-reads.Asked,
-  what-follows-reads.Learnt,
-) (read-list-at t) read-list.Post read-list-Inv-loop read-list-μ-loop
+read-list-sub-read-item-2 : (t : ℕ) → read-list-lts.Need-sub-read-item-2 (read-list-callees t) (read-list-at t) read-list.Post read-list-Inv-loop read-list-μ-loop
 read-list-sub-read-item-2 t c = omega (arith, c .before .before .before .before .pre .1 .1 .0)
 
-read-list-read-item-requires : (t : ℕ) → read-list-lts.Need-read-item-requires (
-  read-item-below t,
-  read-item.Post,
-  append-reads.Asked,
-  append-reads.Learnt,
-  what-follows-reads.Asked,
-  what-follows-reads.Learnt,
-) (read-list-at t) read-list.Post read-list-Inv-loop read-list-μ-loop
+read-list-read-item-requires : (t : ℕ) → read-list-lts.Need-read-item-requires (read-list-callees t) (read-list-at t) read-list.Post read-list-Inv-loop read-list-μ-loop
 read-list-read-item-requires t c κs = (omega (arith, c .before .before .before .before .before .before .pre .0, c .before .before .before .before .before .before .pre .1 .1 .0), part-ready (c .before .before .before .before .before .before .args .text .now) (c .before .before .before .loop .k) (item-ready (c .before .before .before .loop .inv)))
 
-read-list-enum-known-n : (t : ℕ) → read-list-lts.Need-enum-known-n (
-  read-item-below t,
-  read-item.Post,
-  append-reads.Asked,
-  append-reads.Learnt,
-  what-follows-reads.Asked,
-  what-follows-reads.Learnt,
-) (read-list-at t) read-list.Post read-list-Inv-loop read-list-μ-loop
+read-list-enum-known-n : (t : ℕ) → read-list-lts.Need-enum-known-n (read-list-callees t) (read-list-at t) read-list.Post read-list-Inv-loop read-list-μ-loop
 read-list-enum-known-n t c = search needs
 
-read-list-append-requires : (t : ℕ) → read-list-lts.Need-append-requires (
-  read-item-below t,
-  read-item.Post,
-  append-reads.Asked,
-  append-reads.Learnt,
-  what-follows-reads.Asked,
-  what-follows-reads.Learnt,
-) (read-list-at t) read-list.Post read-list-Inv-loop read-list-μ-loop
-read-list-append-requires t c κs = flag-ready-at (deeper (c .before .before .before .before .before .before .before .before .before .before .before .before .before .before .before .args .depth) (c .before .before .before .before .before .before .before .before .before .before .before .before .before .before .before .pre .1 .1 .0)) (c .before .before .before .before .before .before .before .before .before .before .before .before .loop .inv) (laid-of (part-read (c .before .before .before .before .before .before .before .before .before .before .before .before .before .before .before .args .text .now) (c .before .before .before .before .before .before .before .before .before .before .before .before .loop .k) (c .before .before .before .before .before .before .before .before .read-item .ensures)) (c .before .before .before .n .given .1))
+read-list-append-requires : (t : ℕ) → read-list-lts.Need-append-requires (read-list-callees t) (read-list-at t) read-list.Post read-list-Inv-loop read-list-μ-loop
+read-list-append-requires t c κs =
+    let at-n = c .before .before .before in
+    let at-read-item = at-n .before .before .before .before .before in
+    let at-loop = at-read-item .before .before .before .before in
+    let at-start = at-loop .before .before .before in
+    let laid = laid-of (part-read (at-start .args .text .now) (at-loop .loop .k) (at-read-item .read-item .ensures)) (at-n .n .given .1) in
+    flag-ready-at (deeper (at-start .args .depth) (at-start .pre .1 .1 .0)) (at-loop .loop .inv) laid
 
-read-list-add-what-follows : (t : ℕ) → read-list-lts.Need-add-what-follows (
-  read-item-below t,
-  read-item.Post,
-  append-reads.Asked,
-  append-reads.Learnt,
-  what-follows-reads.Asked,
-  what-follows-reads.Learnt,
-) (read-list-at t) read-list.Post read-list-Inv-loop read-list-μ-loop
-read-list-add-what-follows t c = omega (arith, (item-at (deeper (c .before .before .before .before .before .before .before .before .before .before .before .before .before .before .before .before .before .before .before .args .depth) (c .before .before .before .before .before .before .before .before .before .before .before .before .before .before .before .before .before .before .before .pre .1 .1 .0)) (c .before .before .before .before .before .before .before .before .before .before .before .before .before .before .before .before .loop .inv) (laid-of (part-read (c .before .before .before .before .before .before .before .before .before .before .before .before .before .before .before .before .before .before .before .args .text .now) (c .before .before .before .before .before .before .before .before .before .before .before .before .before .before .before .before .loop .k) (c .before .before .before .before .before .before .before .before .before .before .before .before .read-item .ensures)) (c .before .before .before .before .before .before .before .n .given .1)) (c .before .before .before .append .ensures .0) (c .before .before .before .append .ensures .1)) .inside, c .before .before .before .before .before .before .before .before .before .before .before .before .before .before .before .before .before .before .before .good .0 .0)
+read-list-add-what-follows : (t : ℕ) → read-list-lts.Need-add-what-follows (read-list-callees t) (read-list-at t) read-list.Post read-list-Inv-loop read-list-μ-loop
+read-list-add-what-follows t c =
+    let at-append = c .before .before .before in
+    let at-n = at-append .before .before .before .before in
+    let at-read-item = at-n .before .before .before .before .before in
+    let at-loop = at-read-item .before .before .before .before in
+    let at-start = at-loop .before .before .before in
+    let laid = laid-of (part-read (at-start .args .text .now) (at-loop .loop .k) (at-read-item .read-item .ensures)) (at-n .n .given .1) in
+    omega (arith, (item-at (deeper (at-start .args .depth) (at-start .pre .1 .1 .0)) (at-loop .loop .inv) laid (at-append .append .ensures .0) (at-append .append .ensures .1)) .inside, at-start .good .0 .0)
 
-read-list-what-follows-requires : (t : ℕ) → read-list-lts.Need-what-follows-requires (
-  read-item-below t,
-  read-item.Post,
-  append-reads.Asked,
-  append-reads.Learnt,
-  what-follows-reads.Asked,
-  what-follows-reads.Learnt,
-) (read-list-at t) read-list.Post read-list-Inv-loop read-list-μ-loop
+read-list-what-follows-requires : (t : ℕ) → read-list-lts.Need-what-follows-requires (read-list-callees t) (read-list-at t) read-list.Post read-list-Inv-loop read-list-μ-loop
 read-list-what-follows-requires t c κs = tt
 
-read-list-enum-told : (t : ℕ) → read-list-lts.Need-enum-told (
-  read-item-below t,
-  read-item.Post,
-  append-reads.Asked,
-  append-reads.Learnt,
-  what-follows-reads.Asked,
-  what-follows-reads.Learnt,
-) (read-list-at t) read-list.Post read-list-Inv-loop read-list-μ-loop
+read-list-enum-told : (t : ℕ) → read-list-lts.Need-enum-told (read-list-callees t) (read-list-at t) read-list.Post read-list-Inv-loop read-list-μ-loop
 read-list-enum-told t c = search needs
 
-read-list-add-k : (t : ℕ) → read-list-lts.Need-add-k (
-  read-item-below t,
-  read-item.Post,
-  append-reads.Asked,
-  append-reads.Learnt,
-  what-follows-reads.Asked,
-  what-follows-reads.Learnt,
-) (read-list-at t) read-list.Post read-list-Inv-loop read-list-μ-loop
-read-list-add-k t c = omega (arith, comma-inside (item-at (deeper (c .before .before .before .before .before .before .before .before .before .before .before .before .before .before .before .before .before .before .before .before .before .before .args .depth) (c .before .before .before .before .before .before .before .before .before .before .before .before .before .before .before .before .before .before .before .before .before .before .pre .1 .1 .0)) (c .before .before .before .before .before .before .before .before .before .before .before .before .before .before .before .before .before .before .before .loop .inv) (laid-of (part-read (c .before .before .before .before .before .before .before .before .before .before .before .before .before .before .before .before .before .before .before .before .before .before .args .text .now) (c .before .before .before .before .before .before .before .before .before .before .before .before .before .before .before .before .before .before .before .loop .k) (c .before .before .before .before .before .before .before .before .before .before .before .before .before .before .before .read-item .ensures)) (c .before .before .before .before .before .before .before .before .before .before .n .given .1)) (c .before .before .before .before .before .before .append .ensures .0) (c .before .before .before .before .before .before .append .ensures .1)) (sym (c .enum-told .given .1) ∙ c .before .before .what-follows .ensures), c .before .before .before .before .before .before .before .before .before .before .before .before .before .before .before .before .before .before .before .before .before .before .good .0 .0)
+read-list-add-k : (t : ℕ) → read-list-lts.Need-add-k (read-list-callees t) (read-list-at t) read-list.Post read-list-Inv-loop read-list-μ-loop
+read-list-add-k t c =
+    let at-append = c .before .before .before .before .before .before in
+    let at-n = at-append .before .before .before .before in
+    let at-read-item = at-n .before .before .before .before .before in
+    let at-loop = at-read-item .before .before .before .before in
+    let at-start = at-loop .before .before .before in
+    let laid = laid-of (part-read (at-start .args .text .now) (at-loop .loop .k) (at-read-item .read-item .ensures)) (at-n .n .given .1) in
+    omega (arith, comma-inside (item-at (deeper (at-start .args .depth) (at-start .pre .1 .1 .0)) (at-loop .loop .inv) laid (at-append .append .ensures .0) (at-append .append .ensures .1)) (sym (c .enum-told .given .1) ∙ c .before .before .what-follows .ensures), at-start .good .0 .0)
 
-read-list-add-k-2 : (t : ℕ) → read-list-lts.Need-add-k-2 (
-  read-item-below t,
-  read-item.Post,
-  append-reads.Asked,
-  append-reads.Learnt,
-  what-follows-reads.Asked,
-  what-follows-reads.Learnt,
-) (read-list-at t) read-list.Post read-list-Inv-loop read-list-μ-loop
-read-list-add-k-2 t c = omega (arith, comma-inside (item-at (deeper (c .before .before .before .before .before .before .before .before .before .before .before .before .before .before .before .before .before .before .before .before .before .before .args .depth) (c .before .before .before .before .before .before .before .before .before .before .before .before .before .before .before .before .before .before .before .before .before .before .pre .1 .1 .0)) (c .before .before .before .before .before .before .before .before .before .before .before .before .before .before .before .before .before .before .before .loop .inv) (laid-of (part-read (c .before .before .before .before .before .before .before .before .before .before .before .before .before .before .before .before .before .before .before .before .before .before .args .text .now) (c .before .before .before .before .before .before .before .before .before .before .before .before .before .before .before .before .before .before .before .loop .k) (c .before .before .before .before .before .before .before .before .before .before .before .before .before .before .before .read-item .ensures)) (c .before .before .before .before .before .before .before .before .before .before .n .given .1)) (c .before .before .before .before .before .before .append .ensures .0) (c .before .before .before .before .before .before .append .ensures .1)) (sym (c .enum-told .given .1) ∙ c .before .before .what-follows .ensures), c .before .before .before .before .before .before .before .before .before .before .before .before .before .before .before .before .before .before .before .before .before .before .good .0 .0)
+read-list-add-k-2 : (t : ℕ) → read-list-lts.Need-add-k-2 (read-list-callees t) (read-list-at t) read-list.Post read-list-Inv-loop read-list-μ-loop
+read-list-add-k-2 t c =
+    let at-append = c .before .before .before .before .before .before in
+    let at-n = at-append .before .before .before .before in
+    let at-read-item = at-n .before .before .before .before .before in
+    let at-loop = at-read-item .before .before .before .before in
+    let at-start = at-loop .before .before .before in
+    let laid = laid-of (part-read (at-start .args .text .now) (at-loop .loop .k) (at-read-item .read-item .ensures)) (at-n .n .given .1) in
+    omega (arith, comma-inside (item-at (deeper (at-start .args .depth) (at-start .pre .1 .1 .0)) (at-loop .loop .inv) laid (at-append .append .ensures .0) (at-append .append .ensures .1)) (sym (c .enum-told .given .1) ∙ c .before .before .what-follows .ensures), at-start .good .0 .0)
 
-read-list-loop-less : (t : ℕ) → read-list-lts.Need-loop-less (
-  read-item-below t,
-  read-item.Post,
-  append-reads.Asked,
-  append-reads.Learnt,
-  what-follows-reads.Asked,
-  what-follows-reads.Learnt,
-) (read-list-at t) read-list.Post read-list-Inv-loop read-list-μ-loop
-read-list-loop-less t c = omega (arith, comma-inside (item-at (deeper (c .before .before .before .before .before .before .before .before .before .before .before .before .before .before .before .before .before .before .before .before .before .before .args .depth) (c .before .before .before .before .before .before .before .before .before .before .before .before .before .before .before .before .before .before .before .before .before .before .pre .1 .1 .0)) (c .before .before .before .before .before .before .before .before .before .before .before .before .before .before .before .before .before .before .before .loop .inv) (laid-of (part-read (c .before .before .before .before .before .before .before .before .before .before .before .before .before .before .before .before .before .before .before .before .before .before .args .text .now) (c .before .before .before .before .before .before .before .before .before .before .before .before .before .before .before .before .before .before .before .loop .k) (c .before .before .before .before .before .before .before .before .before .before .before .before .before .before .before .read-item .ensures)) (c .before .before .before .before .before .before .before .before .before .before .n .given .1)) (c .before .before .before .before .before .before .append .ensures .0) (c .before .before .before .before .before .before .append .ensures .1)) (sym (c .enum-told .given .1) ∙ c .before .before .what-follows .ensures))
+read-list-loop-less : (t : ℕ) → read-list-lts.Need-loop-less (read-list-callees t) (read-list-at t) read-list.Post read-list-Inv-loop read-list-μ-loop
+read-list-loop-less t c =
+    let at-append = c .before .before .before .before .before .before in
+    let at-n = at-append .before .before .before .before in
+    let at-read-item = at-n .before .before .before .before .before in
+    let at-loop = at-read-item .before .before .before .before in
+    let at-start = at-loop .before .before .before in
+    let laid = laid-of (part-read (at-start .args .text .now) (at-loop .loop .k) (at-read-item .read-item .ensures)) (at-n .n .given .1) in
+    omega (arith, comma-inside (item-at (deeper (at-start .args .depth) (at-start .pre .1 .1 .0)) (at-loop .loop .inv) laid (at-append .append .ensures .0) (at-append .append .ensures .1)) (sym (c .enum-told .given .1) ∙ c .before .before .what-follows .ensures))
 
-read-list-loop-again : (t : ℕ) → read-list-lts.Need-loop-again (
-  read-item-below t,
-  read-item.Post,
-  append-reads.Asked,
-  append-reads.Learnt,
-  what-follows-reads.Asked,
-  what-follows-reads.Learnt,
-) (read-list-at t) read-list.Post read-list-Inv-loop read-list-μ-loop
-read-list-loop-again t c = item-comma (item-at (deeper (c .before .before .before .before .before .before .before .before .before .before .before .before .before .before .before .before .before .before .before .before .before .before .args .depth) (c .before .before .before .before .before .before .before .before .before .before .before .before .before .before .before .before .before .before .before .before .before .before .pre .1 .1 .0)) (c .before .before .before .before .before .before .before .before .before .before .before .before .before .before .before .before .before .before .before .loop .inv) (laid-of (part-read (c .before .before .before .before .before .before .before .before .before .before .before .before .before .before .before .before .before .before .before .before .before .before .args .text .now) (c .before .before .before .before .before .before .before .before .before .before .before .before .before .before .before .before .before .before .before .loop .k) (c .before .before .before .before .before .before .before .before .before .before .before .before .before .before .before .read-item .ensures)) (c .before .before .before .before .before .before .before .before .before .before .n .given .1)) (c .before .before .before .before .before .before .append .ensures .0) (c .before .before .before .before .before .before .append .ensures .1)) (sym (c .enum-told .given .1) ∙ c .before .before .what-follows .ensures)
+read-list-loop-again : (t : ℕ) → read-list-lts.Need-loop-again (read-list-callees t) (read-list-at t) read-list.Post read-list-Inv-loop read-list-μ-loop
+read-list-loop-again t c =
+    let at-append = c .before .before .before .before .before .before in
+    let at-n = at-append .before .before .before .before in
+    let at-read-item = at-n .before .before .before .before .before in
+    let at-loop = at-read-item .before .before .before .before in
+    let at-start = at-loop .before .before .before in
+    let laid = laid-of (part-read (at-start .args .text .now) (at-loop .loop .k) (at-read-item .read-item .ensures)) (at-n .n .given .1) in
+    item-comma (item-at (deeper (at-start .args .depth) (at-start .pre .1 .1 .0)) (at-loop .loop .inv) laid (at-append .append .ensures .0) (at-append .append .ensures .1)) (sym (c .enum-told .given .1) ∙ c .before .before .what-follows .ensures)
 
-read-list-enum-told-2 : (t : ℕ) → read-list-lts.Need-enum-told-2 (
-  read-item-below t,
-  read-item.Post,
-  append-reads.Asked,
-  append-reads.Learnt,
-  what-follows-reads.Asked,
-  what-follows-reads.Learnt,
-) (read-list-at t) read-list.Post read-list-Inv-loop read-list-μ-loop
+read-list-enum-told-2 : (t : ℕ) → read-list-lts.Need-enum-told-2 (read-list-callees t) (read-list-at t) read-list.Post read-list-Inv-loop read-list-μ-loop
 read-list-enum-told-2 t c = search needs
 
-read-list-append-requires-2 : (t : ℕ) → read-list-lts.Need-append-requires-2 (
-  read-item-below t,
-  read-item.Post,
-  append-reads.Asked,
-  append-reads.Learnt,
-  what-follows-reads.Asked,
-  what-follows-reads.Learnt,
-) (read-list-at t) read-list.Post read-list-Inv-loop read-list-μ-loop
-read-list-append-requires-2 t c κs = end-ready-at (deeper (c .before .before .before .before .before .before .before .before .before .before .before .before .before .before .before .before .before .before .before .before .before .before .before .before .args .depth) (c .before .before .before .before .before .before .before .before .before .before .before .before .before .before .before .before .before .before .before .before .before .before .before .before .pre .1 .1 .0)) (item-at (deeper (c .before .before .before .before .before .before .before .before .before .before .before .before .before .before .before .before .before .before .before .before .before .before .before .before .args .depth) (c .before .before .before .before .before .before .before .before .before .before .before .before .before .before .before .before .before .before .before .before .before .before .before .before .pre .1 .1 .0)) (c .before .before .before .before .before .before .before .before .before .before .before .before .before .before .before .before .before .before .before .before .before .loop .inv) (laid-of (part-read (c .before .before .before .before .before .before .before .before .before .before .before .before .before .before .before .before .before .before .before .before .before .before .before .before .args .text .now) (c .before .before .before .before .before .before .before .before .before .before .before .before .before .before .before .before .before .before .before .before .before .loop .k) (c .before .before .before .before .before .before .before .before .before .before .before .before .before .before .before .before .before .read-item .ensures)) (c .before .before .before .before .before .before .before .before .before .before .before .before .n .given .1)) (c .before .before .before .before .before .before .before .before .append .ensures .0) (c .before .before .before .before .before .before .before .before .append .ensures .1)) (sym (c .before .before .enum-told2 .given .1) ∙ c .before .before .before .before .what-follows .ensures)
+read-list-append-requires-2 : (t : ℕ) → read-list-lts.Need-append-requires-2 (read-list-callees t) (read-list-at t) read-list.Post read-list-Inv-loop read-list-μ-loop
+read-list-append-requires-2 t c κs =
+    let at-what-follows = c .before .before .before .before in
+    let at-append = at-what-follows .before .before .before .before in
+    let at-n = at-append .before .before .before .before in
+    let at-read-item = at-n .before .before .before .before .before in
+    let at-loop = at-read-item .before .before .before .before in
+    let at-start = at-loop .before .before .before in
+    let laid = laid-of (part-read (at-start .args .text .now) (at-loop .loop .k) (at-read-item .read-item .ensures)) (at-n .n .given .1) in
+    end-ready-at (deeper (at-start .args .depth) (at-start .pre .1 .1 .0)) (item-at (deeper (at-start .args .depth) (at-start .pre .1 .1 .0)) (at-loop .loop .inv) laid (at-append .append .ensures .0) (at-append .append .ensures .1)) (sym (c .before .before .enum-told2 .given .1) ∙ at-what-follows .what-follows .ensures)
 
-read-list-add-t30 : (t : ℕ) → read-list-lts.Need-add-t30 (
-  read-item-below t,
-  read-item.Post,
-  append-reads.Asked,
-  append-reads.Learnt,
-  what-follows-reads.Asked,
-  what-follows-reads.Learnt,
-) (read-list-at t) read-list.Post read-list-Inv-loop read-list-μ-loop
-read-list-add-t30 t c = omega (arith, close-inside (item-at (deeper (c .before .before .before .before .before .before .before .before .before .before .before .before .before .before .before .before .before .before .before .before .before .before .before .before .before .before .before .before .args .depth) (c .before .before .before .before .before .before .before .before .before .before .before .before .before .before .before .before .before .before .before .before .before .before .before .before .before .before .before .before .pre .1 .1 .0)) (c .before .before .before .before .before .before .before .before .before .before .before .before .before .before .before .before .before .before .before .before .before .before .before .before .before .loop .inv) (laid-of (part-read (c .before .before .before .before .before .before .before .before .before .before .before .before .before .before .before .before .before .before .before .before .before .before .before .before .before .before .before .before .args .text .now) (c .before .before .before .before .before .before .before .before .before .before .before .before .before .before .before .before .before .before .before .before .before .before .before .before .before .loop .k) (c .before .before .before .before .before .before .before .before .before .before .before .before .before .before .before .before .before .before .before .before .before .read-item .ensures)) (c .before .before .before .before .before .before .before .before .before .before .before .before .before .before .before .before .n .given .1)) (c .before .before .before .before .before .before .before .before .before .before .before .before .append .ensures .0) (c .before .before .before .before .before .before .before .before .before .before .before .before .append .ensures .1)) (sym (c .before .before .before .before .before .before .enum-told2 .given .1) ∙ c .before .before .before .before .before .before .before .before .what-follows .ensures), c .before .before .before .before .before .before .before .before .before .before .before .before .before .before .before .before .before .before .before .before .before .before .before .before .before .before .before .before .good .0 .0)
+read-list-add-t30 : (t : ℕ) → read-list-lts.Need-add-t30 (read-list-callees t) (read-list-at t) read-list.Post read-list-Inv-loop read-list-μ-loop
+read-list-add-t30 t c =
+    let at-enum-told2 = c .before .before .before .before .before .before in
+    let at-what-follows = at-enum-told2 .before .before in
+    let at-append = at-what-follows .before .before .before .before in
+    let at-n = at-append .before .before .before .before in
+    let at-read-item = at-n .before .before .before .before .before in
+    let at-loop = at-read-item .before .before .before .before in
+    let at-start = at-loop .before .before .before in
+    let laid = laid-of (part-read (at-start .args .text .now) (at-loop .loop .k) (at-read-item .read-item .ensures)) (at-n .n .given .1) in
+    omega (arith, close-inside (item-at (deeper (at-start .args .depth) (at-start .pre .1 .1 .0)) (at-loop .loop .inv) laid (at-append .append .ensures .0) (at-append .append .ensures .1)) (sym (at-enum-told2 .enum-told2 .given .1) ∙ at-what-follows .what-follows .ensures), at-start .good .0 .0)
 
-read-list-add-t31 : (t : ℕ) → read-list-lts.Need-add-t31 (
-  read-item-below t,
-  read-item.Post,
-  append-reads.Asked,
-  append-reads.Learnt,
-  what-follows-reads.Asked,
-  what-follows-reads.Learnt,
-) (read-list-at t) read-list.Post read-list-Inv-loop read-list-μ-loop
-read-list-add-t31 t c = omega (arith, close-inside (item-at (deeper (c .before .before .before .before .before .before .before .before .before .before .before .before .before .before .before .before .before .before .before .before .before .before .before .before .before .before .before .before .args .depth) (c .before .before .before .before .before .before .before .before .before .before .before .before .before .before .before .before .before .before .before .before .before .before .before .before .before .before .before .before .pre .1 .1 .0)) (c .before .before .before .before .before .before .before .before .before .before .before .before .before .before .before .before .before .before .before .before .before .before .before .before .before .loop .inv) (laid-of (part-read (c .before .before .before .before .before .before .before .before .before .before .before .before .before .before .before .before .before .before .before .before .before .before .before .before .before .before .before .before .args .text .now) (c .before .before .before .before .before .before .before .before .before .before .before .before .before .before .before .before .before .before .before .before .before .before .before .before .before .loop .k) (c .before .before .before .before .before .before .before .before .before .before .before .before .before .before .before .before .before .before .before .before .before .read-item .ensures)) (c .before .before .before .before .before .before .before .before .before .before .before .before .before .before .before .before .n .given .1)) (c .before .before .before .before .before .before .before .before .before .before .before .before .append .ensures .0) (c .before .before .before .before .before .before .before .before .before .before .before .before .append .ensures .1)) (sym (c .before .before .before .before .before .before .enum-told2 .given .1) ∙ c .before .before .before .before .before .before .before .before .what-follows .ensures), c .before .before .before .before .before .before .before .before .before .before .before .before .before .before .before .before .before .before .before .before .before .before .before .before .before .before .before .before .good .0 .0)
+read-list-add-t31 : (t : ℕ) → read-list-lts.Need-add-t31 (read-list-callees t) (read-list-at t) read-list.Post read-list-Inv-loop read-list-μ-loop
+read-list-add-t31 t c =
+    let at-enum-told2 = c .before .before .before .before .before .before in
+    let at-what-follows = at-enum-told2 .before .before in
+    let at-append = at-what-follows .before .before .before .before in
+    let at-n = at-append .before .before .before .before in
+    let at-read-item = at-n .before .before .before .before .before in
+    let at-loop = at-read-item .before .before .before .before in
+    let at-start = at-loop .before .before .before in
+    let laid = laid-of (part-read (at-start .args .text .now) (at-loop .loop .k) (at-read-item .read-item .ensures)) (at-n .n .given .1) in
+    omega (arith, close-inside (item-at (deeper (at-start .args .depth) (at-start .pre .1 .1 .0)) (at-loop .loop .inv) laid (at-append .append .ensures .0) (at-append .append .ensures .1)) (sym (at-enum-told2 .enum-told2 .given .1) ∙ at-what-follows .what-follows .ensures), at-start .good .0 .0)
 
-read-list-same-length : (t : ℕ) → read-list-lts.Need-same-length (
-  read-item-below t,
-  read-item.Post,
-  append-reads.Asked,
-  append-reads.Learnt,
-  what-follows-reads.Asked,
-  what-follows-reads.Learnt,
-) (read-list-at t) read-list.Post read-list-Inv-loop read-list-μ-loop
-read-list-same-length t c = omega (arith, listing-lengths (c .before .before .before .before .before .before .before .before .before .before .before .before .before .before .before .before .before .before .before .before .before .before .before .before .before .loop .inv) .0, c .before .before .before .before .before .before .before .before .before .before .before .before .before .before .before .before .before .before .before .before .before .read-item .kept .1 .1 .0, c .before .before .before .before .before .before .before .before .before .before .before .before .append .kept .0, c .before .before .before .append2 .kept .0)
+read-list-same-length : (t : ℕ) → read-list-lts.Need-same-length (read-list-callees t) (read-list-at t) read-list.Post read-list-Inv-loop read-list-μ-loop
+read-list-same-length t c =
+    let at-append2 = c .before .before .before in
+    let at-append = at-append2 .before .before .before .before .before .before .before .before .before in
+    let at-read-item = at-append .before .before .before .before .before .before .before .before .before in
+    let at-loop = at-read-item .before .before .before .before in
+    omega (arith, listing-lengths (at-loop .loop .inv) .0, at-read-item .read-item .kept .1 .1 .0, at-append .append .kept .0, at-append2 .append2 .kept .0)
 
-read-list-same-length-2 : (t : ℕ) → read-list-lts.Need-same-length-2 (
-  read-item-below t,
-  read-item.Post,
-  append-reads.Asked,
-  append-reads.Learnt,
-  what-follows-reads.Asked,
-  what-follows-reads.Learnt,
-) (read-list-at t) read-list.Post read-list-Inv-loop read-list-μ-loop
-read-list-same-length-2 t c = omega (arith, listing-lengths (c .before .before .before .before .before .before .before .before .before .before .before .before .before .before .before .before .before .before .before .before .before .before .before .before .before .loop .inv) .1, c .before .before .before .before .before .before .before .before .before .before .before .before .before .before .before .before .before .before .before .before .before .read-item .kept .1 .1 .1 .0, c .before .before .before .before .before .before .before .before .before .before .before .before .append .kept .1 .0, c .before .before .before .append2 .kept .1 .0)
+read-list-same-length-2 : (t : ℕ) → read-list-lts.Need-same-length-2 (read-list-callees t) (read-list-at t) read-list.Post read-list-Inv-loop read-list-μ-loop
+read-list-same-length-2 t c =
+    let at-append2 = c .before .before .before in
+    let at-append = at-append2 .before .before .before .before .before .before .before .before .before in
+    let at-read-item = at-append .before .before .before .before .before .before .before .before .before in
+    let at-loop = at-read-item .before .before .before .before in
+    omega (arith, listing-lengths (at-loop .loop .inv) .1, at-read-item .read-item .kept .1 .1 .1 .0, at-append .append .kept .1 .0, at-append2 .append2 .kept .1 .0)
 
-read-list-returns : (t : ℕ) → read-list-lts.Need-returns (
-  read-item-below t,
-  read-item.Post,
-  append-reads.Asked,
-  append-reads.Learnt,
-  what-follows-reads.Asked,
-  what-follows-reads.Learnt,
-) (read-list-at t) read-list.Post read-list-Inv-loop read-list-μ-loop
-read-list-returns t c = close-at (deeper (c .before .before .before .before .before .before .before .before .before .before .before .before .before .before .before .before .before .before .before .before .before .before .before .before .before .before .before .before .args .depth) (c .before .before .before .before .before .before .before .before .before .before .before .before .before .before .before .before .before .before .before .before .before .before .before .before .before .before .before .before .pre .1 .1 .0)) (item-at (deeper (c .before .before .before .before .before .before .before .before .before .before .before .before .before .before .before .before .before .before .before .before .before .before .before .before .before .before .before .before .args .depth) (c .before .before .before .before .before .before .before .before .before .before .before .before .before .before .before .before .before .before .before .before .before .before .before .before .before .before .before .before .pre .1 .1 .0)) (c .before .before .before .before .before .before .before .before .before .before .before .before .before .before .before .before .before .before .before .before .before .before .before .before .before .loop .inv) (laid-of (part-read (c .before .before .before .before .before .before .before .before .before .before .before .before .before .before .before .before .before .before .before .before .before .before .before .before .before .before .before .before .args .text .now) (c .before .before .before .before .before .before .before .before .before .before .before .before .before .before .before .before .before .before .before .before .before .before .before .before .before .loop .k) (c .before .before .before .before .before .before .before .before .before .before .before .before .before .before .before .before .before .before .before .before .before .read-item .ensures)) (c .before .before .before .before .before .before .before .before .before .before .before .before .before .before .before .before .n .given .1)) (c .before .before .before .before .before .before .before .before .before .before .before .before .append .ensures .0) (c .before .before .before .before .before .before .before .before .before .before .before .before .append .ensures .1)) (sym (c .before .before .before .before .before .before .enum-told2 .given .1) ∙ c .before .before .before .before .before .before .before .before .what-follows .ensures) (c .before .before .before .append2 .ensures .0) (c .before .before .before .append2 .ensures .1)
+read-list-returns : (t : ℕ) → read-list-lts.Need-returns (read-list-callees t) (read-list-at t) read-list.Post read-list-Inv-loop read-list-μ-loop
+read-list-returns t c =
+    let at-append2 = c .before .before .before in
+    let at-enum-told2 = at-append2 .before .before .before in
+    let at-what-follows = at-enum-told2 .before .before in
+    let at-append = at-what-follows .before .before .before .before in
+    let at-n = at-append .before .before .before .before in
+    let at-read-item = at-n .before .before .before .before .before in
+    let at-loop = at-read-item .before .before .before .before in
+    let at-start = at-loop .before .before .before in
+    let laid = laid-of (part-read (at-start .args .text .now) (at-loop .loop .k) (at-read-item .read-item .ensures)) (at-n .n .given .1) in
+    close-at (deeper (at-start .args .depth) (at-start .pre .1 .1 .0)) (item-at (deeper (at-start .args .depth) (at-start .pre .1 .1 .0)) (at-loop .loop .inv) laid (at-append .append .ensures .0) (at-append .append .ensures .1)) (sym (at-enum-told2 .enum-told2 .given .1) ∙ at-what-follows .what-follows .ensures) (at-append2 .append2 .ensures .0) (at-append2 .append2 .ensures .1)
 
-read-list-enum-told-3 : (t : ℕ) → read-list-lts.Need-enum-told-3 (
-  read-item-below t,
-  read-item.Post,
-  append-reads.Asked,
-  append-reads.Learnt,
-  what-follows-reads.Asked,
-  what-follows-reads.Learnt,
-) (read-list-at t) read-list.Post read-list-Inv-loop read-list-μ-loop
+read-list-enum-told-3 : (t : ℕ) → read-list-lts.Need-enum-told-3 (read-list-callees t) (read-list-at t) read-list.Post read-list-Inv-loop read-list-μ-loop
 read-list-enum-told-3 t c = search needs
 
-read-list-same-length-3 : (t : ℕ) → read-list-lts.Need-same-length-3 (
-  read-item-below t,
-  read-item.Post,
-  append-reads.Asked,
-  append-reads.Learnt,
-  what-follows-reads.Asked,
-  what-follows-reads.Learnt,
-) (read-list-at t) read-list.Post read-list-Inv-loop read-list-μ-loop
-read-list-same-length-3 t c = omega (arith, listing-lengths (c .before .before .before .before .before .before .before .before .before .before .before .before .before .before .before .before .before .before .before .loop .inv) .0, c .before .before .before .before .before .before .before .before .before .before .before .before .before .before .before .read-item .kept .1 .1 .0, c .before .before .before .before .before .before .append .kept .0)
+read-list-same-length-3 : (t : ℕ) → read-list-lts.Need-same-length-3 (read-list-callees t) (read-list-at t) read-list.Post read-list-Inv-loop read-list-μ-loop
+read-list-same-length-3 t c =
+    let at-append = c .before .before .before .before .before .before in
+    let at-read-item = at-append .before .before .before .before .before .before .before .before .before in
+    let at-loop = at-read-item .before .before .before .before in
+    omega (arith, listing-lengths (at-loop .loop .inv) .0, at-read-item .read-item .kept .1 .1 .0, at-append .append .kept .0)
 
-read-list-same-length-4 : (t : ℕ) → read-list-lts.Need-same-length-4 (
-  read-item-below t,
-  read-item.Post,
-  append-reads.Asked,
-  append-reads.Learnt,
-  what-follows-reads.Asked,
-  what-follows-reads.Learnt,
-) (read-list-at t) read-list.Post read-list-Inv-loop read-list-μ-loop
-read-list-same-length-4 t c = omega (arith, listing-lengths (c .before .before .before .before .before .before .before .before .before .before .before .before .before .before .before .before .before .before .before .loop .inv) .1, c .before .before .before .before .before .before .before .before .before .before .before .before .before .before .before .read-item .kept .1 .1 .1 .0, c .before .before .before .before .before .before .append .kept .1 .0)
+read-list-same-length-4 : (t : ℕ) → read-list-lts.Need-same-length-4 (read-list-callees t) (read-list-at t) read-list.Post read-list-Inv-loop read-list-μ-loop
+read-list-same-length-4 t c =
+    let at-append = c .before .before .before .before .before .before in
+    let at-read-item = at-append .before .before .before .before .before .before .before .before .before in
+    let at-loop = at-read-item .before .before .before .before in
+    omega (arith, listing-lengths (at-loop .loop .inv) .1, at-read-item .read-item .kept .1 .1 .1 .0, at-append .append .kept .1 .0)
 
-read-list-returns-2 : (t : ℕ) → read-list-lts.Need-returns-2 (
-  read-item-below t,
-  read-item.Post,
-  append-reads.Asked,
-  append-reads.Learnt,
-  what-follows-reads.Asked,
-  what-follows-reads.Learnt,
-) (read-list-at t) read-list.Post read-list-Inv-loop read-list-μ-loop
-read-list-returns-2 t c = read-at (deeper (c .before .before .before .before .before .before .before .before .before .before .before .before .before .before .before .before .before .before .before .before .before .before .args .depth) (c .before .before .before .before .before .before .before .before .before .before .before .before .before .before .before .before .before .before .before .before .before .before .pre .1 .1 .0)) (item-else (item-at (deeper (c .before .before .before .before .before .before .before .before .before .before .before .before .before .before .before .before .before .before .before .before .before .before .args .depth) (c .before .before .before .before .before .before .before .before .before .before .before .before .before .before .before .before .before .before .before .before .before .before .pre .1 .1 .0)) (c .before .before .before .before .before .before .before .before .before .before .before .before .before .before .before .before .before .before .before .loop .inv) (laid-of (part-read (c .before .before .before .before .before .before .before .before .before .before .before .before .before .before .before .before .before .before .before .before .before .before .args .text .now) (c .before .before .before .before .before .before .before .before .before .before .before .before .before .before .before .before .before .before .before .loop .k) (c .before .before .before .before .before .before .before .before .before .before .before .before .before .before .before .read-item .ensures)) (c .before .before .before .before .before .before .before .before .before .before .n .given .1)) (c .before .before .before .before .before .before .append .ensures .0) (c .before .before .before .before .before .before .append .ensures .1)) (sym (c .enum-told3 .given .1) ∙ c .before .before .what-follows .ensures))
+read-list-returns-2 : (t : ℕ) → read-list-lts.Need-returns-2 (read-list-callees t) (read-list-at t) read-list.Post read-list-Inv-loop read-list-μ-loop
+read-list-returns-2 t c =
+    let at-append = c .before .before .before .before .before .before in
+    let at-n = at-append .before .before .before .before in
+    let at-read-item = at-n .before .before .before .before .before in
+    let at-loop = at-read-item .before .before .before .before in
+    let at-start = at-loop .before .before .before in
+    let laid = laid-of (part-read (at-start .args .text .now) (at-loop .loop .k) (at-read-item .read-item .ensures)) (at-n .n .given .1) in
+    read-at (deeper (at-start .args .depth) (at-start .pre .1 .1 .0)) (item-else (item-at (deeper (at-start .args .depth) (at-start .pre .1 .1 .0)) (at-loop .loop .inv) laid (at-append .append .ensures .0) (at-append .append .ensures .1)) (sym (c .enum-told3 .given .1) ∙ c .before .before .what-follows .ensures))
 
-read-list-enum-told-4 : (t : ℕ) → read-list-lts.Need-enum-told-4 (
-  read-item-below t,
-  read-item.Post,
-  append-reads.Asked,
-  append-reads.Learnt,
-  what-follows-reads.Asked,
-  what-follows-reads.Learnt,
-) (read-list-at t) read-list.Post read-list-Inv-loop read-list-μ-loop
+read-list-enum-told-4 : (t : ℕ) → read-list-lts.Need-enum-told-4 (read-list-callees t) (read-list-at t) read-list.Post read-list-Inv-loop read-list-μ-loop
 read-list-enum-told-4 t c = search needs
 
-read-list-same-length-5 : (t : ℕ) → read-list-lts.Need-same-length-5 (
-  read-item-below t,
-  read-item.Post,
-  append-reads.Asked,
-  append-reads.Learnt,
-  what-follows-reads.Asked,
-  what-follows-reads.Learnt,
-) (read-list-at t) read-list.Post read-list-Inv-loop read-list-μ-loop
+read-list-same-length-5 : (t : ℕ) → read-list-lts.Need-same-length-5 (read-list-callees t) (read-list-at t) read-list.Post read-list-Inv-loop read-list-μ-loop
 read-list-same-length-5 t c = omega (arith, listing-lengths (c .before .before .before .before .before .before .before .before .before .loop .inv) .0, c .before .before .before .before .before .read-item .kept .1 .1 .0)
 
-read-list-same-length-6 : (t : ℕ) → read-list-lts.Need-same-length-6 (
-  read-item-below t,
-  read-item.Post,
-  append-reads.Asked,
-  append-reads.Learnt,
-  what-follows-reads.Asked,
-  what-follows-reads.Learnt,
-) (read-list-at t) read-list.Post read-list-Inv-loop read-list-μ-loop
+read-list-same-length-6 : (t : ℕ) → read-list-lts.Need-same-length-6 (read-list-callees t) (read-list-at t) read-list.Post read-list-Inv-loop read-list-μ-loop
 read-list-same-length-6 t c = omega (arith, listing-lengths (c .before .before .before .before .before .before .before .before .before .loop .inv) .1, c .before .before .before .before .before .read-item .kept .1 .1 .1 .0)
 
-read-list-returns-3 : (t : ℕ) → read-list-lts.Need-returns-3 (
-  read-item-below t,
-  read-item.Post,
-  append-reads.Asked,
-  append-reads.Learnt,
-  what-follows-reads.Asked,
-  what-follows-reads.Learnt,
-) (read-list-at t) read-list.Post read-list-Inv-loop read-list-μ-loop
-read-list-returns-3 t c = read-at (deeper (c .before .before .before .before .before .before .before .before .before .before .before .before .args .depth) (c .before .before .before .before .before .before .before .before .before .before .before .before .pre .1 .1 .0)) (listing-no (c .before .before .before .before .before .before .before .before .before .loop .inv) (none-of (part-read (c .before .before .before .before .before .before .before .before .before .before .before .before .args .text .now) (c .before .before .before .before .before .before .before .before .before .loop .k) (c .before .before .before .before .before .read-item .ensures)) (c .enum-told4 .given .1)))
+read-list-returns-3 : (t : ℕ) → read-list-lts.Need-returns-3 (read-list-callees t) (read-list-at t) read-list.Post read-list-Inv-loop read-list-μ-loop
+read-list-returns-3 t c =
+    let at-read-item = c .before .before .before .before .before in
+    let at-loop = at-read-item .before .before .before .before in
+    let at-start = at-loop .before .before .before in
+    read-at (deeper (at-start .args .depth) (at-start .pre .1 .1 .0)) (listing-no (at-loop .loop .inv) (none-of (part-read (at-start .args .text .now) (at-loop .loop .k) (at-read-item .read-item .ensures)) (c .enum-told4 .given .1)))
 
 pub +read-item+read-list-spec : {M : Type 1} → statement M
-+read-item+read-list-spec = close μ-read-item μ-read-list (λ t. read-item-lts.spec (
-  read-leaf-reads.Asked,
-  read-leaf-reads.Learnt,
-  opening-of-reads.Asked,
-  opening-of-reads.Learnt,
-  append-reads.Asked,
-  append-reads.Learnt,
-  read-list-below t,
-  read-list.Post,
-)
++read-item+read-list-spec = close μ-read-item μ-read-list (λ t. read-item-lts.spec (read-item-callees t)
     (read-item-at t)
     read-item.Post
     (read-item-read-leaf-requires t)
@@ -573,23 +365,20 @@ pub +read-item+read-list-spec : {M : Type 1} → statement M
     (read-item-enum-told t)
     (read-item-append-requires t)
     (read-item-enum-told-2 t)
-    (read-item-read-list-requires t)
-    (read-item-enum-told-3 t)
+    (read-item-read-ints-requires t)
     (read-item-same-length-3 t)
     (read-item-same-length-4 t)
     (read-item-returns-2 t)
+    (read-item-read-list-requires t)
+    (read-item-enum-told-3 t)
     (read-item-same-length-5 t)
     (read-item-same-length-6 t)
     (read-item-returns-3 t)
-    (read-item-returns-4 t))
-    λ t. read-list-lts.spec (
-      read-item-below t,
-      read-item.Post,
-      append-reads.Asked,
-      append-reads.Learnt,
-      what-follows-reads.Asked,
-      what-follows-reads.Learnt,
-    )
+    (read-item-same-length-7 t)
+    (read-item-same-length-8 t)
+    (read-item-returns-4 t)
+    (read-item-returns-5 t))
+    λ t. read-list-lts.spec (read-list-callees t)
     (read-list-at t)
     read-list.Post
     read-list-Inv-loop

@@ -1,10 +1,14 @@
--- A store past the end is none.
-use mathlib.Core.Path.{refl, sym}
-use lib.Seq.{set-out}
-use lib.ListN.{getD}
+-- ^ own imports
+-- The cursor moves on, wherever it stands.
 use borrow.Author.Needs.{needs}
+use mathlib.Core.Path.{refl, ap, _∙_}
+use lib.ListN.{getD, set}
+use mir.Facts.{toZ-ofZ}
 use Rattle.valuetext.proofs.reading.append.Statement.{statement}
 use Rattle.valuetext.proofs.reading.append.Tie as tie
+use Rattle.valuetext.proofs.reading.append.Reads as reads
+use Rattle.valuetext.proofs.reading.append.Lts as lts
+use Rattle.valuetext.proofs.reading.store.Reads as store-reads
 
 mul-at : tie.Need-mul-at
 mul-at c = search needs
@@ -21,26 +25,17 @@ mul-cursors c = search needs
 slice-write-cursors : tie.Need-slice-write-cursors
 slice-write-cursors c = search needs
 
+store-requires : tie.Need-store-requires
+store-requires c κs = tt
+
 same-length : tie.Need-same-length
 same-length c = search needs
-
-returns : tie.Need-returns
-returns c = (sym (set-out (c .before .before .args .elements .now) (getD (c .before .before .args .cursors .now) (c .before .before .args .level) 0) (c .before .before .args .z) (c .if1 .taken)), refl)
-
-mul-z : tie.Need-mul-z
-mul-z c = search needs
-
-slice-set-from-z : tie.Need-slice-set-from-z
-slice-set-from-z c = search needs
 
 same-length-2 : tie.Need-same-length-2
 same-length-2 c = search needs
 
-same-length-3 : tie.Need-same-length-3
-same-length-3 c = search needs
-
-returns-2 : tie.Need-returns-2
-returns-2 c = search needs
+returns : tie.Need-returns
+returns c = (c .before .store .ensures ∙ ap (set (c .before .before .before .before .before .args .elements .now) (getD (c .before .before .before .before .before .args .cursors .now) (c .before .before .before .before .before .args .level) 0)) (toZ-ofZ (c .before .before .before .before .before .fits .z)), refl)
 
 pub append-spec : {M : Type 1} → statement M
 append-spec =
@@ -51,10 +46,7 @@ append-spec =
     add-cursors
     mul-cursors
     slice-write-cursors
+    store-requires
     same-length
-    returns
-    mul-z
-    slice-set-from-z
     same-length-2
-    same-length-3
-    returns-2)
+    returns)
