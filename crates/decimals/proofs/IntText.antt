@@ -242,6 +242,10 @@ module _ {z : ℤ} (b : Above z) where
 
 -- ---- an int that is read
 
+pub int-of : (z : ℤ) (k : ℕ) (o : Option (ℤ × ℕ)) → Int z k ≡ intRead o → o ≡ some (z, k)
+int-of z k none e = let x : _≡_ {A = ℕ} 0 1 = cc in absurd (omega arith)
+int-of z k (some r) e = let p : z ≡ r .0 = cc in let q : k ≡ r .1 = cc in λ i. some (sym p i, sym q i)
+
 pub record IntRead (t : List ℕ) (z : ℤ) (k : ℕ) : Type 0 where
   pub some-bytes : 1 ≤ k
   pub inside : k ≤ length t

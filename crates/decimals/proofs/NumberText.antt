@@ -106,19 +106,17 @@ number-least n (b ∷ t) = go (isDigit b) (number-least (n * 10 + (b - 48)) t)
 pub record Reading (t : List ℕ) (n i : ℕ) : Type 0 where
   pub count : digits 0 t ≡ digits i (drop i t)
   pub number : numberFrom 0 t ≡ numberFrom n (drop i t)
-  pub small : n ≤ 2147483648
   pub inside : i ≤ length t
 
 pub reading-start : (t : List ℕ) → Reading t 0 0
-reading-start t = record { count = refl; number = refl; small = omega arith; inside = omega arith }
+reading-start t = record { count = refl; number = refl; inside = omega arith }
 
 module _ {t : List ℕ} {n i : ℕ} (a : Reading t n i) where
-  pub reading-on : {d : ℕ} → IsDigit t i d → n * 10 + d ≤ 2147483648 → Reading t (n * 10 + d) (i + 1)
-  reading-on {d} h s =
+  pub reading-on : {d : ℕ} → IsDigit t i d → Reading t (n * 10 + d) (i + 1)
+  reading-on {d} h =
       record {
         count = a .count ∙ digits-on i i t (h .test);
         number = a .number ∙ number-on n i t (h .test) ∙ ap (λ (e : ℕ). numberFrom (n * 10 + e) (drop (i + 1) t)) (sym (h .value));
-        small = s;
         inside = omega (arith, h .inside);
       }
 
@@ -140,15 +138,15 @@ module _ {t : List ℕ} {n i : ℕ} (a : Reading t n i) where
     numbered : numberFrom 0 t ≡ n
     numbered = a .number ∙ number-end n i t h
 
-    in-range : leb (numberFrom 0 t) 2147483648 ≡ true
-    in-range = le-leb (numberFrom 0 t) 2147483648 (omega (arith, numbered, a .small))
+    in-range : n ≤ 2147483648 → leb (numberFrom 0 t) 2147483648 ≡ true
+    in-range small = le-leb (numberFrom 0 t) 2147483648 (omega (arith, numbered))
 
     pub reading-none : i ≡ 0 → No ≡ digitsAt t
     reading-none e = rw (le-ltb 0 (digits 0 t) (omega (arith, counted)))
 
-    pub reading-one : i ≡ 1 → Number n i ≡ digitsAt t
-    reading-one e =
-        rw (lt-ltb 0 (digits 0 t) (omega (arith, counted)), eq-eqb (digits 0 t) 1 (omega (arith, counted)), in-range)
+    pub reading-one : n ≤ 2147483648 → i ≡ 1 → Number n i ≡ digitsAt t
+    reading-one small e =
+        rw (lt-ltb 0 (digits 0 t) (omega (arith, counted)), eq-eqb (digits 0 t) 1 (omega (arith, counted)), in-range small)
         (ap₂ Number (sym numbered) (sym counted))
 
     module _ (some : (i ≡ 0) → ⊥) (more : (i ≡ 1) → ⊥) where
@@ -160,12 +158,12 @@ module _ {t : List ℕ} {n i : ℕ} (a : Reading t n i) where
             eq-eqb (getD t 0 0) 48 z,
           )
 
-      pub reading-several : (getD t 0 0 ≡ 48 → ⊥) → Number n i ≡ digitsAt t
-      reading-several z =
+      pub reading-several : n ≤ 2147483648 → (getD t 0 0 ≡ 48 → ⊥) → Number n i ≡ digitsAt t
+      reading-several small z =
           rw (
             lt-ltb 0 (digits 0 t) (omega (arith, counted)),
             ne-eqb (digits 0 t) 1 (omega (arith, counted)),
             ne-eqb (getD t 0 0) 48 z,
-            in-range,
+            in-range small,
           )
           (ap₂ Number (sym numbered) (sym counted))

@@ -3,6 +3,7 @@ use Prim.Native.Nat.{ℕ, _-_}
 use mathlib.Core.Bool.{Bool, true, false}
 use mathlib.Core.List.{List}
 use mathlib.Core.Option.{Option, some, none}
+use mathlib.Core.Path.{_≡_}
 use lib.Dec.{leb}
 use lib.IntN.{ℤ}
 use lib.ListN.{getD}
@@ -35,3 +36,8 @@ intRead (some r) = Int (r .0) (r .1)
 
 abbrev pub intAt : List ℕ → ReadInt
 intAt t = intRead (readInt t)
+
+-- an int that is answered is the one at the front of the text; no int leaves it open
+abbrev pub Sure : List ℕ → ReadInt → Type 0
+Sure t (Int z k) = Int z k ≡ intAt t
+Sure t NoInt = Unit

@@ -1,11 +1,11 @@
 // Whole numbers as text: reading one from the front of a text, and writing one at a position of a text.
-ghost use Prim.Native.Nat.{_+_, _<_, _≤_, _^_};
+ghost use Prim.Native.Nat.{min, _+_, _<_, _≤_, _^_};
 ghost use mathlib.Core.List.{[], _∷_};
 ghost use mathlib.Core.Path.{_≡_};
 ghost use lib.ListN.{length, getD};
 ghost use lib.IntN.{ℤ};
 ghost use Rattle.snesl.specs.Text.{showNumber, showInt};
-ghost use Rattle.decimals.specs.Numbers.{digitAt, digitsAt, intAt};
+ghost use Rattle.decimals.specs.Numbers.{digitAt, digitsAt, intAt, Sure};
 ghost use Rattle.decimals.specs.Writing.{Writes};
 
 // What stands at a place: a digit's value, or the end of a number.
@@ -34,6 +34,12 @@ pub fn byte_at(text: &[u8], i: usize) -> u8
         return text[i];
     }
     0
+}
+
+fn least(a: usize, b: usize) -> usize
+    ensures { λ r. ⌜ r ≡ min a b ⌝ }
+{
+    if a < b { a } else { b }
 }
 
 fn digit_at(text: &[u8], i: usize) -> Digit
@@ -82,7 +88,7 @@ fn read_digits(text: &[u8]) -> Digits
 }
 
 // An int: optional minus, digits, no leading zero, no minus zero, in range.
-fn read_any_int(text: &[u8]) -> ReadInt
+pub fn read_int(text: &[u8]) -> ReadInt
     ensures { λ r. ⌜ r ≡ intAt (now (text .entry)) ⌝ }
 {
     if text.len() == 0 {
@@ -114,33 +120,42 @@ fn read_any_int(text: &[u8]) -> ReadInt
     }
 }
 
-// The same, where nearly every int has one to nine digits and no minus: those are in range whatever they are, so their loop tests none.
-pub fn read_int(text: &[u8]) -> ReadInt
-    ensures { λ r. ⌜ r ≡ intAt (now (text .entry)) ⌝ }
+// One to nine digits, the first no zero, and a byte behind them: they are in range whatever they are, so none is tested for it. Any other int may be found
+// by `read_int`.
+fn few_digits(text: &[u8]) -> ReadInt
+    ensures { λ r. ⌜ Sure (now (text .entry)) r ⌝ }
 {
     if byte_at(text, 0) < 49 {
-        return read_any_int(text);
+        return ReadInt::No;
     }
+    let end = least(text.len(), 10);
     let mut n: u64 = 0;
     let mut i: usize = 0;
-    loop {
+    while i < end {
         match digit_at(text, i) {
             Digit::Of(d) => {
-                if i == 9 {
-                    return read_any_int(text);
-                }
                 n = n * 10 + d;
                 i += 1;
             }
             Digit::End => {
-                break;
+                if i == 0 {
+                    return ReadInt::No;
+                }
+                return ReadInt::Int(n as i32, i);
             }
         }
     }
-    if i == 0 {
-        return read_any_int(text);
+    ReadInt::No
+}
+
+// What `read_int` answers, sooner for a short int that stands in a list.
+pub fn quick_int(text: &[u8]) -> ReadInt
+    ensures { λ r. ⌜ r ≡ intAt (now (text .entry)) ⌝ }
+{
+    match few_digits(text) {
+        ReadInt::Int(z, k) => ReadInt::Int(z, k),
+        ReadInt::No => read_int(text),
     }
-    ReadInt::Int(n as i32, i)
 }
 
 // One byte at a position, if it lies within the buffer; answers the next position.

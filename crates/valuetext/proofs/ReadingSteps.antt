@@ -28,7 +28,7 @@ use Rattle.valuetext.specs.declared.reading.After.the-variants.{Comma, C
 use Rattle.decimals.specs.declared.numbers.ReadInt.the-variants.{Int, No as NoInt}
 use Rattle.laws.proofs.Options.{some-pair}
 use Rattle.decimals.proofs.Stores.{sets-append, sets-none}
-use Rattle.decimals.proofs.IntText.{IntRead, int-read}
+use Rattle.decimals.proofs.IntText.{IntRead, int-of, int-read}
 use Rattle.valuetext.proofs.Laying.{length-advance, advance-set, advance-append, under-back, under-front, apart-set, apart-front, apart-back, lay-set, lay-none, lay-sets, lay-append}
 
 -- a byte other than 0 lies within the text
@@ -67,10 +67,6 @@ length-lay (suc d) b cs vs =
     length-sets (lay d b cs (concat vs)) (getD cs (suc d) 0) (map bit (segments vs)) ∙ length-lay d b cs (concat vs)
 
 -- ---- an int
-
-int-of : (z : ℤ) (k : ℕ) (o : Option (ℤ × ℕ)) → Int z k ≡ intRead o → o ≡ some (z, k)
-int-of z k none e = let x : _≡_ {A = ℕ} 0 1 = cc in absurd (omega arith)
-int-of z k (some r) e = let p : z ≡ r .0 = cc in let q : k ≡ r .1 = cc in λ i. some (sym p i, sym q i)
 
 no-int-of : (o : Option (ℤ × ℕ)) → NoInt ≡ intRead o → o ≡ none
 no-int-of none e = refl

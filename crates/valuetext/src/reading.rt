@@ -2,6 +2,7 @@
 // Each level of the value has a cursor, at which its stream grows: 0 is the data, and the depth is the outermost flags.
 use decimals::numbers::ReadInt;
 use decimals::numbers::byte_at;
+use decimals::numbers::quick_int;
 use decimals::numbers::read_int;
 ghost use Prim.Native.Nat.{_+_, _<_, _^_};
 ghost use mathlib.Core.Path.{_≡_};
@@ -96,7 +97,7 @@ fn read_ints(text: &[u8], elements: &mut [i32], cursors: &mut [usize]) -> Taken
     let mut flags = cursors[1];
     let mut k: usize = 1;
     loop {
-        match read_int(&text[k..]) {
+        match quick_int(&text[k..]) {
             ReadInt::Int(z, n) => {
                 store(elements, data, z);
                 store(elements, flags, 0);

@@ -1,5 +1,5 @@
 -- Digit by digit, with the number so far; past 2,147,483,648 it stops.
-use Prim.Native.Nat.{_-_}
+use Prim.Native.Nat.{_-_, _≤_}
 use native.Mathlib.Omega.{arith}
 use lib.ListN.{length}
 use mathlib.Core.Path.{sym, _∙_}
@@ -9,13 +9,13 @@ use Rattle.decimals.proofs.numbers.read_digits.Statement.{statement}
 use Rattle.decimals.proofs.numbers.read_digits.Tie as tie
 
 abbrev Inv-loop : tie.InvT-loop
-Inv-loop text n₀ i₀ n i = Reading text n i
+Inv-loop text n₀ i₀ n i = Reading text n i × (n ≤ 2147483648)
 
 abbrev μ-loop : tie.MeasureT-loop
 μ-loop text n₀ i₀ n i = length text - i
 
 loop-holds : tie.Need-loop-holds Inv-loop μ-loop
-loop-holds c = reading-start (c .before .args .text .now)
+loop-holds c = (reading-start (c .before .args .text .now), omega arith)
 
 digit-at-requires : tie.Need-digit-at-requires Inv-loop μ-loop
 digit-at-requires c κs = tt
@@ -24,13 +24,13 @@ enum-known-d : tie.Need-enum-known-d Inv-loop μ-loop
 enum-known-d c = search needs
 
 mul-n : tie.Need-mul-n Inv-loop μ-loop
-mul-n c = omega (arith, c .before .before .before .before .loop .inv .small)
+mul-n c = omega (arith, c .before .before .before .before .loop .inv .1)
 
 add-n : tie.Need-add-n Inv-loop μ-loop
-add-n c = omega (arith, c .before .before .before .before .loop .inv .small, (is-digit (c .before .before .before .before .before .before .args .text .now) (c .before .before .before .before .loop .i) (c .before .d .given .0 .0) (sym (c .before .d .given .1) ∙ c .before .before .before .digit-at .ensures)) .small)
+add-n c = omega (arith, c .before .before .before .before .loop .inv .1, (is-digit (c .before .before .before .before .before .before .args .text .now) (c .before .before .before .before .loop .i) (c .before .d .given .0 .0) (sym (c .before .d .given .1) ∙ c .before .before .before .digit-at .ensures)) .small)
 
 returns : tie.Need-returns Inv-loop μ-loop
-returns c = reading-over (c .before .before .before .before .before .loop .inv) (is-digit (c .before .before .before .before .before .before .before .args .text .now) (c .before .before .before .before .before .loop .i) (c .before .before .d .given .0 .0) (sym (c .before .before .d .given .1) ∙ c .before .before .before .before .digit-at .ensures)) (c .if1 .taken)
+returns c = reading-over (c .before .before .before .before .before .loop .inv .0) (is-digit (c .before .before .before .before .before .before .before .args .text .now) (c .before .before .before .before .before .loop .i) (c .before .before .d .given .0 .0) (sym (c .before .before .d .given .1) ∙ c .before .before .before .before .digit-at .ensures)) (c .if1 .taken)
 
 add-i : tie.Need-add-i Inv-loop μ-loop
 add-i c = omega (arith, (is-digit (c .before .before .before .before .before .before .before .args .text .now) (c .before .before .before .before .before .loop .i) (c .before .before .d .given .0 .0) (sym (c .before .before .d .given .1) ∙ c .before .before .before .before .digit-at .ensures)) .inside)
@@ -39,19 +39,19 @@ loop-less : tie.Need-loop-less Inv-loop μ-loop
 loop-less c = omega (arith, (is-digit (c .before .before .before .before .before .before .before .args .text .now) (c .before .before .before .before .before .loop .i) (c .before .before .d .given .0 .0) (sym (c .before .before .d .given .1) ∙ c .before .before .before .before .digit-at .ensures)) .inside)
 
 loop-again : tie.Need-loop-again Inv-loop μ-loop
-loop-again c = reading-on (c .before .before .before .before .before .loop .inv) (is-digit (c .before .before .before .before .before .before .before .args .text .now) (c .before .before .before .before .before .loop .i) (c .before .before .d .given .0 .0) (sym (c .before .before .d .given .1) ∙ c .before .before .before .before .digit-at .ensures)) (c .if1 .left)
+loop-again c = (reading-on (c .before .before .before .before .before .loop .inv .0) (is-digit (c .before .before .before .before .before .before .before .args .text .now) (c .before .before .before .before .before .loop .i) (c .before .before .d .given .0 .0) (sym (c .before .before .d .given .1) ∙ c .before .before .before .before .digit-at .ensures)), c .if1 .left)
 
 enum-told : tie.Need-enum-told Inv-loop μ-loop
 enum-told c = search needs
 
 returns-2 : tie.Need-returns-2 Inv-loop μ-loop
-returns-2 c = reading-none (c .before .before .before .before .loop .inv) (is-end (c .before .before .before .before .before .before .args .text .now) (c .before .before .before .before .loop .i) (sym (c .before .enum-told .given .1) ∙ c .before .before .before .digit-at .ensures)) (c .if2 .taken)
+returns-2 c = reading-none (c .before .before .before .before .loop .inv .0) (is-end (c .before .before .before .before .before .before .args .text .now) (c .before .before .before .before .loop .i) (sym (c .before .enum-told .given .1) ∙ c .before .before .before .digit-at .ensures)) (c .if2 .taken)
 
 returns-3 : tie.Need-returns-3 Inv-loop μ-loop
-returns-3 c = reading-one (c .before .before .before .before .before .loop .inv) (is-end (c .before .before .before .before .before .before .before .args .text .now) (c .before .before .before .before .before .loop .i) (sym (c .before .before .enum-told .given .1) ∙ c .before .before .before .before .digit-at .ensures)) (c .if3 .taken)
+returns-3 c = reading-one (c .before .before .before .before .before .loop .inv .0) (is-end (c .before .before .before .before .before .before .before .args .text .now) (c .before .before .before .before .before .loop .i) (sym (c .before .before .enum-told .given .1) ∙ c .before .before .before .before .digit-at .ensures)) (c .before .before .before .before .before .loop .inv .1) (c .if3 .taken)
 
 shared-slice-read-if4 : tie.Need-shared-slice-read-if4 Inv-loop μ-loop
-shared-slice-read-if4 c = omega (arith, c .before .before .before .before .before .before .loop .inv .inside, c .before .before .if2 .left)
+shared-slice-read-if4 c = omega (arith, c .before .before .before .before .before .before .loop .inv .0 .inside, c .before .before .if2 .left)
 
 returns-4 : tie.Need-returns-4 Inv-loop μ-loop
 returns-4 c =
@@ -60,7 +60,7 @@ returns-4 c =
     let at-digit-at = at-enum-told .before .before in
     let at-loop = at-digit-at .before in
     let at-start = at-loop .before .before in
-    reading-leading (at-loop .loop .inv) (is-end (at-start .args .text .now) (at-loop .loop .i) (sym (at-enum-told .enum-told .given .1) ∙ at-digit-at .digit-at .ensures)) (at-if2 .if2 .left) (c .before .before .if3 .left) (c .if4 .taken)
+    reading-leading (at-loop .loop .inv .0) (is-end (at-start .args .text .now) (at-loop .loop .i) (sym (at-enum-told .enum-told .given .1) ∙ at-digit-at .digit-at .ensures)) (at-if2 .if2 .left) (c .before .before .if3 .left) (c .if4 .taken)
 
 returns-5 : tie.Need-returns-5 Inv-loop μ-loop
 returns-5 c =
@@ -69,7 +69,7 @@ returns-5 c =
     let at-digit-at = at-enum-told .before .before in
     let at-loop = at-digit-at .before in
     let at-start = at-loop .before .before in
-    reading-several (at-loop .loop .inv) (is-end (at-start .args .text .now) (at-loop .loop .i) (sym (at-enum-told .enum-told .given .1) ∙ at-digit-at .digit-at .ensures)) (at-if2 .if2 .left) (c .before .before .if3 .left) (c .if4 .left)
+    reading-several (at-loop .loop .inv .0) (is-end (at-start .args .text .now) (at-loop .loop .i) (sym (at-enum-told .enum-told .given .1) ∙ at-digit-at .digit-at .ensures)) (at-if2 .if2 .left) (c .before .before .if3 .left) (at-loop .loop .inv .1) (c .if4 .left)
 
 pub read-digits-spec : {M : Type 1} → statement M
 read-digits-spec =

@@ -1,100 +1,128 @@
--- A first byte below '1' is a minus, a zero or no int's; from there on digit by digit, up to nine.
-use Prim.Native.Nat.{_-_}
-use mathlib.Core.Path.{sym, _∙_}
+-- With a minus and without: the digits behind it, and whether they are in range.
+use mathlib.Core.Path.{sym, _∙_, ap}
 use native.Mathlib.Omega.{arith}
+use lib.ListN.{drop, length-drop}
+use Rattle.decimals.specs.Numbers.{digitsAt}
+use Rattle.decimals.proofs.Parts.{rest-of}
+use Rattle.decimals.proofs.IntText.{numbered, empty-text, plain-none, plain-large, plain-int, minus-none, minus-zero, minus-int, minus-of}
 use borrow.Author.Needs.{needs}
-use lib.ListN.{length}
-use Rattle.decimals.proofs.NumberText.{is-digit, is-end}
-use Rattle.decimals.proofs.ShortInts.{Short, short-start, short-small, short-on, short-end}
 use Rattle.decimals.proofs.numbers.read_int.Statement.{statement}
 use Rattle.decimals.proofs.numbers.read_int.Tie as tie
-use Rattle.decimals.proofs.numbers.read_int.Reads as reads
-use Rattle.decimals.proofs.numbers.read_int.Lts as lts
-use Rattle.decimals.proofs.numbers.byte_at.Reads as byte-at-reads
-use Rattle.decimals.proofs.numbers.digit_at.Reads as digit-at-reads
-use Rattle.decimals.proofs.numbers.read_any_int.Reads as read-any-int-reads
 
-abbrev Inv-loop : tie.InvT-loop
-Inv-loop text n₀ i₀ n i = Short text n i
+returns : tie.Need-returns
+returns c = empty-text (c .before .before .args .text .now) (c .if1 .taken)
 
-abbrev μ-loop : tie.MeasureT-loop
-μ-loop text n₀ i₀ n i = length text - i
+shared-slice-read-if2 : tie.Need-shared-slice-read-if2
+shared-slice-read-if2 c = search needs
 
-byte-at-requires : tie.Need-byte-at-requires Inv-loop μ-loop
-byte-at-requires c κs = tt
+sub-read-digits : tie.Need-sub-read-digits
+sub-read-digits c = search needs
 
-read-any-int-requires : tie.Need-read-any-int-requires Inv-loop μ-loop
-read-any-int-requires c κs = tt
+part-read-digits-start : tie.Need-part-read-digits-start
+part-read-digits-start c = search needs
 
-returns : tie.Need-returns Inv-loop μ-loop
-returns c = c .read-any-int .ensures
+part-read-digits-end : tie.Need-part-read-digits-end
+part-read-digits-end c = search needs
 
-loop-holds : tie.Need-loop-holds Inv-loop μ-loop
-loop-holds c = short-start (c .before .before .before .args .text .now) (omega (arith, c .if1 .left, c .before .byte-at .ensures))
+read-digits-requires : tie.Need-read-digits-requires
+read-digits-requires c κs = search needs
 
-digit-at-requires : tie.Need-digit-at-requires Inv-loop μ-loop
-digit-at-requires c κs = tt
+enum-known-n : tie.Need-enum-known-n
+enum-known-n c = search needs
 
-enum-known-d : tie.Need-enum-known-d Inv-loop μ-loop
-enum-known-d c = search needs
+returns-2 : tie.Need-returns-2
+returns-2 c =
+    let at-read-digits = c .before .before .before .before in
+    let at-if2 = at-read-digits .before .before in
+    let at-start = at-if2 .before .before .before .before in
+    minus-zero (at-start .args .text .now) (at-if2 .if2 .taken) (numbered (drop 1 (at-start .args .text .now)) (c .before .before .n .given .0 .0) (c .before .before .n .given .0 .1 .0) (sym (c .before .before .n .given .1) ∙ at-read-digits .read-digits .ensures ∙ ap digitsAt (rest-of (at-start .args .text .now) 1))) (c .if3 .taken)
 
-read-any-int-requires-2 : tie.Need-read-any-int-requires-2 Inv-loop μ-loop
-read-any-int-requires-2 c κs = tt
+sub-m : tie.Need-sub-m
+sub-m c = search needs
 
-returns-2 : tie.Need-returns-2 Inv-loop μ-loop
-returns-2 c = c .read-any-int2 .ensures
+cast-m : tie.Need-cast-m
+cast-m c =
+    let at-read-digits = c .before .before .before .before in
+    let at-start = at-read-digits .before .before .before .before .before .before in
+    minus-of (c .before .before .n .given .0 .0) (c .if3 .left) ((numbered (drop 1 (at-start .args .text .now)) (c .before .before .n .given .0 .0) (c .before .before .n .given .0 .1 .0) (sym (c .before .before .n .given .1) ∙ at-read-digits .read-digits .ensures ∙ ap digitsAt (rest-of (at-start .args .text .now) 1))) .small) .cast
 
-mul-n : tie.Need-mul-n Inv-loop μ-loop
-mul-n c = omega (arith, short-small (c .before .before .before .before .before .loop .inv))
+sub-z : tie.Need-sub-z
+sub-z c =
+    let at-read-digits = c .before .before .before .before in
+    let at-start = at-read-digits .before .before .before .before .before .before in
+    minus-of (c .before .before .n .given .0 .0) (c .if3 .left) ((numbered (drop 1 (at-start .args .text .now)) (c .before .before .n .given .0 .0) (c .before .before .n .given .0 .1 .0) (sym (c .before .before .n .given .1) ∙ at-read-digits .read-digits .ensures ∙ ap digitsAt (rest-of (at-start .args .text .now) 1))) .small) .fits
 
-add-n : tie.Need-add-n Inv-loop μ-loop
-add-n c = omega (arith, short-small (c .before .before .before .before .before .loop .inv), (is-digit (c .before .before .before .before .before .before .before .before .before .args .text .now) (c .before .before .before .before .before .loop .i) (c .before .before .d .given .0 .0) (sym (c .before .before .d .given .1) ∙ c .before .before .before .before .digit-at .ensures)) .small)
+add-t22 : tie.Need-add-t22
+add-t22 c =
+    let at-read-digits = c .before .before .before .before in
+    let at-start = at-read-digits .before .before .before .before .before .before in
+    omega (arith, (numbered (drop 1 (at-start .args .text .now)) (c .before .before .n .given .0 .0) (c .before .before .n .given .0 .1 .0) (sym (c .before .before .n .given .1) ∙ at-read-digits .read-digits .ensures ∙ ap digitsAt (rest-of (at-start .args .text .now) 1))) .inside, length-drop 1 (at-start .args .text .now), at-start .good .0 .0)
 
-add-i : tie.Need-add-i Inv-loop μ-loop
-add-i c = omega (arith, c .before .before .before .before .before .loop .inv .few)
-
-loop-less : tie.Need-loop-less Inv-loop μ-loop
-loop-less c = omega (arith, (is-digit (c .before .before .before .before .before .before .before .before .before .args .text .now) (c .before .before .before .before .before .loop .i) (c .before .before .d .given .0 .0) (sym (c .before .before .d .given .1) ∙ c .before .before .before .before .digit-at .ensures)) .inside)
-
-loop-again : tie.Need-loop-again Inv-loop μ-loop
-loop-again c = short-on (c .before .before .before .before .before .loop .inv) (is-digit (c .before .before .before .before .before .before .before .before .before .args .text .now) (c .before .before .before .before .before .loop .i) (c .before .before .d .given .0 .0) (sym (c .before .before .d .given .1) ∙ c .before .before .before .before .digit-at .ensures)) (c .if2 .left)
-
-enum-told : tie.Need-enum-told Inv-loop μ-loop
+enum-told : tie.Need-enum-told
 enum-told c = search needs
 
-read-any-int-requires-3 : tie.Need-read-any-int-requires-3 Inv-loop μ-loop
-read-any-int-requires-3 c κs = tt
+read-digits-requires-2 : tie.Need-read-digits-requires-2
+read-digits-requires-2 c κs = search needs
 
-returns-3 : tie.Need-returns-3 Inv-loop μ-loop
-returns-3 c = c .read-any-int3 .ensures
+enum-known-n-2 : tie.Need-enum-known-n-2
+enum-known-n-2 c = search needs
 
-cast-t10 : tie.Need-cast-t10 Inv-loop μ-loop
-cast-t10 c = record { sfits = omega (arith, short-small (c .before .before .before .before .loop .inv)) }
+returns-3 : tie.Need-returns-3
+returns-3 c =
+    let at-read-digits2 = c .before .before .before .before in
+    let at-if2 = at-read-digits2 .before in
+    let at-start = at-if2 .before .before .before .before in
+    plain-large (at-start .args .text .now) (at-if2 .if2 .left) (numbered (at-start .args .text .now) (c .before .before .n2 .given .0 .0) (c .before .before .n2 .given .0 .1 .0) (sym (c .before .before .n2 .given .1) ∙ at-read-digits2 .read-digits2 .ensures)) (c .if4 .taken)
 
-returns-4 : tie.Need-returns-4 Inv-loop μ-loop
-returns-4 c = short-end (c .before .before .before .before .loop .inv) (is-end (c .before .before .before .before .before .before .before .before .args .text .now) (c .before .before .before .before .loop .i) (sym (c .before .enum-told .given .1) ∙ c .before .before .before .digit-at .ensures)) (c .if3 .left)
+cast-z : tie.Need-cast-z
+cast-z c = search needs
+
+enum-told-2 : tie.Need-enum-told-2
+enum-told-2 c = search needs
+
+returns-4 : tie.Need-returns-4
+returns-4 c =
+    let at-read-digits = c .before .before .before .before in
+    let at-if2 = at-read-digits .before .before in
+    let at-start = at-if2 .before .before .before .before in
+    minus-int (at-start .args .text .now) (at-if2 .if2 .taken) (numbered (drop 1 (at-start .args .text .now)) (c .before .before .n .given .0 .0) (c .before .before .n .given .0 .1 .0) (sym (c .before .before .n .given .1) ∙ at-read-digits .read-digits .ensures ∙ ap digitsAt (rest-of (at-start .args .text .now) 1))) (c .if3 .left)
+
+returns-5 : tie.Need-returns-5
+returns-5 c = minus-none (c .before .before .before .before .before .before .before .before .args .text .now) (c .before .before .before .before .if2 .taken) (sym (c .enum-told .given .1) ∙ c .before .before .read-digits .ensures ∙ ap digitsAt (rest-of (c .before .before .before .before .before .before .before .before .args .text .now) 1))
+
+returns-6 : tie.Need-returns-6
+returns-6 c =
+    let at-read-digits2 = c .before .before .before .before in
+    let at-if2 = at-read-digits2 .before in
+    let at-start = at-if2 .before .before .before .before in
+    plain-int (at-start .args .text .now) (at-if2 .if2 .left) (numbered (at-start .args .text .now) (c .before .before .n2 .given .0 .0) (c .before .before .n2 .given .0 .1 .0) (sym (c .before .before .n2 .given .1) ∙ at-read-digits2 .read-digits2 .ensures)) (c .if4 .left)
+
+returns-7 : tie.Need-returns-7
+returns-7 c = plain-none (c .before .before .before .before .before .before .before .args .text .now) (c .before .before .before .if2 .left) (sym (c .enum-told2 .given .1) ∙ c .before .before .read-digits2 .ensures)
 
 pub read-int-spec : {M : Type 1} → statement M
 read-int-spec =
     tie.close
     (tie.spec
-    Inv-loop
-    μ-loop
-    byte-at-requires
-    read-any-int-requires
     returns
-    loop-holds
-    digit-at-requires
-    enum-known-d
-    read-any-int-requires-2
+    shared-slice-read-if2
+    sub-read-digits
+    part-read-digits-start
+    part-read-digits-end
+    read-digits-requires
+    enum-known-n
     returns-2
-    mul-n
-    add-n
-    add-i
-    loop-less
-    loop-again
+    sub-m
+    cast-m
+    sub-z
+    add-t22
     enum-told
-    read-any-int-requires-3
+    read-digits-requires-2
+    enum-known-n-2
     returns-3
-    cast-t10
-    returns-4)
+    cast-z
+    enum-told-2
+    returns-4
+    returns-5
+    returns-6
+    returns-7)

@@ -6,9 +6,6 @@ use lib.ListN.{getD, set}
 use mir.Facts.{toZ-ofZ}
 use Rattle.valuetext.proofs.reading.append.Statement.{statement}
 use Rattle.valuetext.proofs.reading.append.Tie as tie
-use Rattle.valuetext.proofs.reading.append.Reads as reads
-use Rattle.valuetext.proofs.reading.append.Lts as lts
-use Rattle.valuetext.proofs.reading.store.Reads as store-reads
 
 mul-at : tie.Need-mul-at
 mul-at c = search needs

@@ -12,11 +12,6 @@ use Rattle.valuetext.proofs.ReadingSteps.{listing-lengths, item-else, c
 use Rattle.valuetext.proofs.ReadingInts.{Ints, ints-start, ints-no, data-fits, flags-fit, ints-item, ints-comma, end-fits, ints-close, moved}
 use Rattle.valuetext.proofs.reading.read_ints.Statement.{statement}
 use Rattle.valuetext.proofs.reading.read_ints.Tie as tie
-use Rattle.valuetext.proofs.reading.read_ints.Reads as reads
-use Rattle.valuetext.proofs.reading.read_ints.Lts as lts
-use Rattle.decimals.proofs.numbers.read_int.Reads as read-int-reads
-use Rattle.valuetext.proofs.reading.store.Reads as store-reads
-use Rattle.valuetext.proofs.reading.what_follows.Reads as what-follows-reads
 
 abbrev Inv-loop : tie.InvT-loop
 Inv-loop text elements₀ cursors₀ data₀ flags₀ k₀ elements cursors «data» flags k = Ints text elements₀ elements cursors₀ cursors «data» flags k
@@ -33,17 +28,17 @@ slice-read-flags c = omega (arith, c .before .before .before .before .pre .0 .le
 loop-holds : tie.Need-loop-holds Inv-loop μ-loop
 loop-holds c = ints-start (c .before .before .before .before .pre .0) (c .before .before .before .before .pre .1)
 
-sub-read-int : tie.Need-sub-read-int Inv-loop μ-loop
-sub-read-int c = omega (arith, c .loop .inv .listing .inside)
+sub-quick-int : tie.Need-sub-quick-int Inv-loop μ-loop
+sub-quick-int c = omega (arith, c .loop .inv .listing .inside)
 
-part-read-int-start : tie.Need-part-read-int-start Inv-loop μ-loop
-part-read-int-start c = omega (arith, c .loop .inv .listing .inside)
+part-quick-int-start : tie.Need-part-quick-int-start Inv-loop μ-loop
+part-quick-int-start c = omega (arith, c .loop .inv .listing .inside)
 
-part-read-int-end : tie.Need-part-read-int-end Inv-loop μ-loop
-part-read-int-end c = omega arith
+part-quick-int-end : tie.Need-part-quick-int-end Inv-loop μ-loop
+part-quick-int-end c = omega arith
 
-read-int-requires : tie.Need-read-int-requires Inv-loop μ-loop
-read-int-requires c κs = tt
+quick-int-requires : tie.Need-quick-int-requires Inv-loop μ-loop
+quick-int-requires c κs = tt
 
 enum-known-z : tie.Need-enum-known-z Inv-loop μ-loop
 enum-known-z c = search needs
@@ -57,29 +52,29 @@ store-requires-2 c κs = tt
 add-data : tie.Need-add-data Inv-loop μ-loop
 add-data c =
     let at-z = c .before .before .before .before .before .before .before in
-    let at-read-int = at-z .before .before in
-    let at-loop = at-read-int .before .before in
+    let at-quick-int = at-z .before .before in
+    let at-loop = at-quick-int .before .before in
     let at-start = at-loop .before .before .before .before .before in
-    record { fits = data-fits (at-loop .loop .inv) (sym (at-z .z .given .1) ∙ at-read-int .read-int .ensures ∙ ap intAt (rest-of (at-start .args .text .now) (at-loop .loop .k))) }
+    record { fits = data-fits (at-loop .loop .inv) (sym (at-z .z .given .1) ∙ at-quick-int .quick-int .ensures ∙ ap intAt (rest-of (at-start .args .text .now) (at-loop .loop .k))) }
 
 add-flags : tie.Need-add-flags Inv-loop μ-loop
 add-flags c =
     let at-store = c .before .before .before .before in
     let at-z = at-store .before .before .before in
-    let at-read-int = at-z .before .before in
-    let at-loop = at-read-int .before .before in
+    let at-quick-int = at-z .before .before in
+    let at-loop = at-quick-int .before .before in
     let at-start = at-loop .before .before .before .before .before in
-    record { fits = flags-fit (at-loop .loop .inv) (sym (at-z .z .given .1) ∙ at-read-int .read-int .ensures ∙ ap intAt (rest-of (at-start .args .text .now) (at-loop .loop .k))) (at-store .store .ensures) }
+    record { fits = flags-fit (at-loop .loop .inv) (sym (at-z .z .given .1) ∙ at-quick-int .quick-int .ensures ∙ ap intAt (rest-of (at-start .args .text .now) (at-loop .loop .k))) (at-store .store .ensures) }
 
 add-what-follows : tie.Need-add-what-follows Inv-loop μ-loop
 add-what-follows c =
     let at-store2 = c .before in
     let at-store = at-store2 .before .before .before in
     let at-z = at-store .before .before .before in
-    let at-read-int = at-z .before .before in
-    let at-loop = at-read-int .before .before in
+    let at-quick-int = at-z .before .before in
+    let at-loop = at-quick-int .before .before in
     let at-start = at-loop .before .before .before .before .before in
-    let read = sym (at-z .z .given .1) ∙ at-read-int .read-int .ensures ∙ ap intAt (rest-of (at-start .args .text .now) (at-loop .loop .k)) in
+    let read = sym (at-z .z .given .1) ∙ at-quick-int .quick-int .ensures ∙ ap intAt (rest-of (at-start .args .text .now) (at-loop .loop .k)) in
     omega (arith, ints-item (at-loop .loop .inv) read (at-store .store .ensures) (at-store2 .store2 .ensures) .inside)
 
 what-follows-requires : tie.Need-what-follows-requires Inv-loop μ-loop
@@ -94,10 +89,10 @@ add-k c =
     let at-store2 = at-what-follows .before .before in
     let at-store = at-store2 .before .before .before in
     let at-z = at-store .before .before .before in
-    let at-read-int = at-z .before .before in
-    let at-loop = at-read-int .before .before in
+    let at-quick-int = at-z .before .before in
+    let at-loop = at-quick-int .before .before in
     let at-start = at-loop .before .before .before .before .before in
-    let read = sym (at-z .z .given .1) ∙ at-read-int .read-int .ensures ∙ ap intAt (rest-of (at-start .args .text .now) (at-loop .loop .k)) in
+    let read = sym (at-z .z .given .1) ∙ at-quick-int .quick-int .ensures ∙ ap intAt (rest-of (at-start .args .text .now) (at-loop .loop .k)) in
     omega (arith, comma-inside (ints-item (at-loop .loop .inv) read (at-store .store .ensures) (at-store2 .store2 .ensures)) (sym (c .enum-told .given .1) ∙ at-what-follows .what-follows .ensures))
 
 add-k-2 : tie.Need-add-k-2 Inv-loop μ-loop
@@ -106,10 +101,10 @@ add-k-2 c =
     let at-store2 = at-what-follows .before .before in
     let at-store = at-store2 .before .before .before in
     let at-z = at-store .before .before .before in
-    let at-read-int = at-z .before .before in
-    let at-loop = at-read-int .before .before in
+    let at-quick-int = at-z .before .before in
+    let at-loop = at-quick-int .before .before in
     let at-start = at-loop .before .before .before .before .before in
-    let read = sym (at-z .z .given .1) ∙ at-read-int .read-int .ensures ∙ ap intAt (rest-of (at-start .args .text .now) (at-loop .loop .k)) in
+    let read = sym (at-z .z .given .1) ∙ at-quick-int .quick-int .ensures ∙ ap intAt (rest-of (at-start .args .text .now) (at-loop .loop .k)) in
     omega (arith, comma-inside (ints-item (at-loop .loop .inv) read (at-store .store .ensures) (at-store2 .store2 .ensures)) (sym (c .enum-told .given .1) ∙ at-what-follows .what-follows .ensures))
 
 loop-less : tie.Need-loop-less Inv-loop μ-loop
@@ -118,10 +113,10 @@ loop-less c =
     let at-store2 = at-what-follows .before .before in
     let at-store = at-store2 .before .before .before in
     let at-z = at-store .before .before .before in
-    let at-read-int = at-z .before .before in
-    let at-loop = at-read-int .before .before in
+    let at-quick-int = at-z .before .before in
+    let at-loop = at-quick-int .before .before in
     let at-start = at-loop .before .before .before .before .before in
-    let read = sym (at-z .z .given .1) ∙ at-read-int .read-int .ensures ∙ ap intAt (rest-of (at-start .args .text .now) (at-loop .loop .k)) in
+    let read = sym (at-z .z .given .1) ∙ at-quick-int .quick-int .ensures ∙ ap intAt (rest-of (at-start .args .text .now) (at-loop .loop .k)) in
     omega (arith, comma-inside (ints-item (at-loop .loop .inv) read (at-store .store .ensures) (at-store2 .store2 .ensures)) (sym (c .enum-told .given .1) ∙ at-what-follows .what-follows .ensures))
 
 loop-again : tie.Need-loop-again Inv-loop μ-loop
@@ -130,10 +125,10 @@ loop-again c =
     let at-store2 = at-what-follows .before .before in
     let at-store = at-store2 .before .before .before in
     let at-z = at-store .before .before .before in
-    let at-read-int = at-z .before .before in
-    let at-loop = at-read-int .before .before in
+    let at-quick-int = at-z .before .before in
+    let at-loop = at-quick-int .before .before in
     let at-start = at-loop .before .before .before .before .before in
-    let read = sym (at-z .z .given .1) ∙ at-read-int .read-int .ensures ∙ ap intAt (rest-of (at-start .args .text .now) (at-loop .loop .k)) in
+    let read = sym (at-z .z .given .1) ∙ at-quick-int .quick-int .ensures ∙ ap intAt (rest-of (at-start .args .text .now) (at-loop .loop .k)) in
     let item = ints-item (at-loop .loop .inv) read (at-store .store .ensures) (at-store2 .store2 .ensures) in
     ints-comma (at-loop .loop .data + 1) (at-loop .loop .flags + 1) item (at-loop .loop .inv .kept) (sym (c .enum-told .given .1) ∙ at-what-follows .what-follows .ensures)
 
@@ -156,10 +151,10 @@ add-cursors c =
     let at-store2 = at-what-follows .before .before in
     let at-store = at-store2 .before .before .before in
     let at-z = at-store .before .before .before in
-    let at-read-int = at-z .before .before in
-    let at-loop = at-read-int .before .before in
+    let at-quick-int = at-z .before .before in
+    let at-loop = at-quick-int .before .before in
     let at-start = at-loop .before .before .before .before .before in
-    let read = sym (at-z .z .given .1) ∙ at-read-int .read-int .ensures ∙ ap intAt (rest-of (at-start .args .text .now) (at-loop .loop .k)) in
+    let read = sym (at-z .z .given .1) ∙ at-quick-int .quick-int .ensures ∙ ap intAt (rest-of (at-start .args .text .now) (at-loop .loop .k)) in
     let item = ints-item (at-loop .loop .inv) read (at-store .store .ensures) (at-store2 .store2 .ensures) in
     record { fits = end-fits (at-loop .loop .data + 1) (at-loop .loop .flags + 1) item (sym (at-enum-told2 .enum-told2 .given .1) ∙ at-what-follows .what-follows .ensures) }
 
@@ -176,10 +171,10 @@ add-t29 c =
     let at-store2 = at-what-follows .before .before in
     let at-store = at-store2 .before .before .before in
     let at-z = at-store .before .before .before in
-    let at-read-int = at-z .before .before in
-    let at-loop = at-read-int .before .before in
+    let at-quick-int = at-z .before .before in
+    let at-loop = at-quick-int .before .before in
     let at-start = at-loop .before .before .before .before .before in
-    let read = sym (at-z .z .given .1) ∙ at-read-int .read-int .ensures ∙ ap intAt (rest-of (at-start .args .text .now) (at-loop .loop .k)) in
+    let read = sym (at-z .z .given .1) ∙ at-quick-int .quick-int .ensures ∙ ap intAt (rest-of (at-start .args .text .now) (at-loop .loop .k)) in
     omega (arith, close-inside (ints-item (at-loop .loop .inv) read (at-store .store .ensures) (at-store2 .store2 .ensures)) (sym (at-enum-told2 .enum-told2 .given .1) ∙ at-what-follows .what-follows .ensures))
 
 add-t31 : tie.Need-add-t31 Inv-loop μ-loop
@@ -189,10 +184,10 @@ add-t31 c =
     let at-store2 = at-what-follows .before .before in
     let at-store = at-store2 .before .before .before in
     let at-z = at-store .before .before .before in
-    let at-read-int = at-z .before .before in
-    let at-loop = at-read-int .before .before in
+    let at-quick-int = at-z .before .before in
+    let at-loop = at-quick-int .before .before in
     let at-start = at-loop .before .before .before .before .before in
-    let read = sym (at-z .z .given .1) ∙ at-read-int .read-int .ensures ∙ ap intAt (rest-of (at-start .args .text .now) (at-loop .loop .k)) in
+    let read = sym (at-z .z .given .1) ∙ at-quick-int .quick-int .ensures ∙ ap intAt (rest-of (at-start .args .text .now) (at-loop .loop .k)) in
     omega (arith, close-inside (ints-item (at-loop .loop .inv) read (at-store .store .ensures) (at-store2 .store2 .ensures)) (sym (at-enum-told2 .enum-told2 .given .1) ∙ at-what-follows .what-follows .ensures))
 
 same-length : tie.Need-same-length Inv-loop μ-loop
@@ -217,10 +212,10 @@ returns c =
     let at-store2 = at-what-follows .before .before in
     let at-store = at-store2 .before .before .before in
     let at-z = at-store .before .before .before in
-    let at-read-int = at-z .before .before in
-    let at-loop = at-read-int .before .before in
+    let at-quick-int = at-z .before .before in
+    let at-loop = at-quick-int .before .before in
     let at-start = at-loop .before .before .before .before .before in
-    let read = sym (at-z .z .given .1) ∙ at-read-int .read-int .ensures ∙ ap intAt (rest-of (at-start .args .text .now) (at-loop .loop .k)) in
+    let read = sym (at-z .z .given .1) ∙ at-quick-int .quick-int .ensures ∙ ap intAt (rest-of (at-start .args .text .now) (at-loop .loop .k)) in
     let item = ints-item (at-loop .loop .inv) read (at-store .store .ensures) (at-store2 .store2 .ensures) in
     let moves = ap (λ (cs : List ℕ). moved cs (at-loop .loop .data + 1) (at-loop .loop .flags + 1 + 1)) (at-loop .loop .inv .kept) in
     ints-close (at-loop .loop .data + 1) (at-loop .loop .flags + 1) item (sym (at-enum-told2 .enum-told2 .given .1) ∙ at-what-follows .what-follows .ensures) (at-store3 .store3 .ensures) moves
@@ -244,10 +239,10 @@ returns-2 c =
     let at-store2 = at-what-follows .before .before in
     let at-store = at-store2 .before .before .before in
     let at-z = at-store .before .before .before in
-    let at-read-int = at-z .before .before in
-    let at-loop = at-read-int .before .before in
+    let at-quick-int = at-z .before .before in
+    let at-loop = at-quick-int .before .before in
     let at-start = at-loop .before .before .before .before .before in
-    let read = sym (at-z .z .given .1) ∙ at-read-int .read-int .ensures ∙ ap intAt (rest-of (at-start .args .text .now) (at-loop .loop .k)) in
+    let read = sym (at-z .z .given .1) ∙ at-quick-int .quick-int .ensures ∙ ap intAt (rest-of (at-start .args .text .now) (at-loop .loop .k)) in
     let item = ints-item (at-loop .loop .inv) read (at-store .store .ensures) (at-store2 .store2 .ensures) in
     item-else item (sym (c .enum-told3 .given .1) ∙ at-what-follows .what-follows .ensures)
 
@@ -262,10 +257,10 @@ same-length-6 c = omega (arith, ap length (c .before .before .before .before .lo
 
 returns-3 : tie.Need-returns-3 Inv-loop μ-loop
 returns-3 c =
-    let at-read-int = c .before .before in
-    let at-loop = at-read-int .before .before in
+    let at-quick-int = c .before .before in
+    let at-loop = at-quick-int .before .before in
     let at-start = at-loop .before .before .before .before .before in
-    ints-no (at-loop .loop .inv) (sym (c .enum-told4 .given .1) ∙ at-read-int .read-int .ensures ∙ ap intAt (rest-of (at-start .args .text .now) (at-loop .loop .k)))
+    ints-no (at-loop .loop .inv) (sym (c .enum-told4 .given .1) ∙ at-quick-int .quick-int .ensures ∙ ap intAt (rest-of (at-start .args .text .now) (at-loop .loop .k)))
 
 pub read-ints-spec : {M : Type 1} → statement M
 read-ints-spec =
@@ -276,10 +271,10 @@ read-ints-spec =
     slice-read-data
     slice-read-flags
     loop-holds
-    sub-read-int
-    part-read-int-start
-    part-read-int-end
-    read-int-requires
+    sub-quick-int
+    part-quick-int-start
+    part-quick-int-end
+    quick-int-requires
     enum-known-z
     store-requires
     store-requires-2

@@ -4,8 +4,6 @@ use mathlib.Core.Path.{sym}
 use lib.Seq.{set-out}
 use Rattle.valuetext.proofs.reading.store.Statement.{statement}
 use Rattle.valuetext.proofs.reading.store.Tie as tie
-use Rattle.valuetext.proofs.reading.store.Reads as reads
-use Rattle.valuetext.proofs.reading.store.Lts as lts
 
 mul-z : tie.Need-mul-z
 mul-z c = search needs
