@@ -16,14 +16,27 @@ use Rattle.decimals.specs.declared.numbers.Digits.the-variants.{Number, 
 
 -- ---- one byte
 
-pub digit-below : (b : ℕ) → b < 48 → isDigit b ≡ false
-digit-below b h = rw (lt-leb 48 b h)
-
-pub digit-above : (b : ℕ) → 57 < b → isDigit b ≡ false
-digit-above b h = let p : 48 ≤ b = omega arith in rw (le-leb 48 b p, le-ltb b 58 h)
-
 pub digit-within : (b : ℕ) → 48 ≤ b → b ≤ 57 → isDigit b ≡ true
 digit-within b h k = let p : b < 58 = omega arith in rw (le-leb 48 b h, lt-ltb b 58 p)
+
+-- code takes '0' off a byte, whatever it is: where that wraps, no digit stood there
+pub digit-of : (t : List ℕ) (i d : ℕ) → (d + 48) % 2 ^ 64 ≡ getD t i 0 → d ≤ 9 → Of d ≡ digitAt t i
+digit-of t i d e h =
+    let v : getD t i 0 ≡ d + 48 = omega arith in
+    let w : d ≡ getD t i 0 - 48 = omega arith in
+    let x : isDigit (getD t i 0) ≡ true = digit-within (getD t i 0) (omega arith) (omega arith) in
+    rw x (ap Of w)
+
+pub no-digit-of : (t : List ℕ) (i d : ℕ) → (d + 48) % 2 ^ 64 ≡ getD t i 0 → d < 2 ^ 64 → 9 < d → End ≡ digitAt t i
+no-digit-of t i d e s h = go (leb 48 (getD t i 0)) refl (ltb (getD t i 0) 58) refl
+  where
+    go : (p : Bool) → leb 48 (getD t i 0) ≡ p → (q : Bool) → ltb (getD t i 0) 58 ≡ q → End ≡ pick (p && q) (Of (getD t i 0 - 48)) End
+    go true u true v =
+        let l : 48 ≤ getD t i 0 = leb-true 48 (getD t i 0) u in
+        let m : getD t i 0 < 58 = ltb-true (getD t i 0) 58 v in
+        absurd (omega arith)
+    go true u false v = refl
+    go false u q v = refl
 
 -- a digit lies within the text, and below '9' + 1
 pub record IsDigit (t : List ℕ) (i d : ℕ) : Type 0 where

@@ -1,5 +1,5 @@
 -- The loop that reads up to ten digits, no zero in front: the first i make n, and nine make less than 10 ^ 9, which is in range.
-use Prim.Native.Nat.{ℕ, zero, suc, _+_, _*_, _≤_, _<_, _^_}
+use Prim.Native.Nat.{ℕ, _+_, _-_, _*_, _≤_, _<_, _^_}
 use mathlib.Core.Bool.{Bool, true, false}
 use mathlib.Core.List.{List}
 use mathlib.Core.Path.{_≡_, refl, ap, _∙_, subst}
@@ -18,16 +18,13 @@ use Rattle.decimals.specs.Numbers.{digitsAt, intAt, Sure}
 use Rattle.decimals.specs.declared.numbers.Digits.the-variants.{Number}
 use Rattle.decimals.specs.declared.numbers.ReadInt.{ReadInt}
 use Rattle.decimals.specs.declared.numbers.ReadInt.the-variants.{Int}
-use Rattle.decimals.proofs.NumberText.{IsDigit, Reading, reading-start, reading-on, reading-one, reading-several}
+use Rattle.decimals.proofs.NumberText.{digit-within, IsDigit, is-digit, Reading, reading-start, reading-on, reading-one, reading-several}
 use Rattle.decimals.proofs.IntText.{numbered, plain-int, int-of, int-read}
 
 pub record Short (t : List ℕ) (n i : ℕ) : Type 0 where
   pub reading : Reading t n i
   pub first : 49 ≤ getD t 0 0
   pub below : n < 10 ^ i
-
-pub short-start : (t : List ℕ) → 49 ≤ getD t 0 0 → Short t 0 0
-short-start t h = record { reading = reading-start t; first = h; below = omega arith }
 
 module _ {t : List ℕ} {n i : ℕ} (a : Short t n i) where
   pub short-small : i ≤ 9 → n < 1000000000
@@ -38,14 +35,22 @@ module _ {t : List ℕ} {n i : ℕ} (a : Short t n i) where
       let p : 10 ^ (i + 1) ≡ 10 ^ i * 10 = rw add-one (pow-suc 10 i) in
       record { reading = reading-on (a .reading) h; first = a .first; below = omega (arith, a .below, h .small) }
 
-  pub short-end : i ≤ 9 → isDigit (getD t i 0) ≡ false → (i ≡ 0 → ⊥) → Int (toZ w32 n) i ≡ intAt t
-  short-end few h some =
+  pub short-end : 1 ≤ i → i ≤ 9 → isDigit (getD t i 0) ≡ false → Int (toZ w32 n) i ≡ intAt t
+  short-end some few h =
       plain-int t (λ e. omega (arith, a .first)) (numbered t n i (go (eqb i 1) refl)) (omega (arith, short-small few))
     where
       go : (c : Bool) → eqb i 1 ≡ c → Number n i ≡ digitsAt t
       go true e = reading-one (a .reading) h (omega (arith, short-small few)) (eqb-true i 1 e)
       go false e =
-          reading-several (a .reading) h some (eqb-false i 1 e) (omega (arith, short-small few)) (λ z. omega (arith, a .first))
+          reading-several (a .reading) h (λ z. omega arith) (eqb-false i 1 e) (omega (arith, short-small few)) (λ z. omega (arith, a .first))
+
+pub short-first : (t : List ℕ) → 49 ≤ getD t 0 0 → getD t 0 0 ≤ 57 → Short t (getD t 0 0 - 48) 1
+short-first t h l =
+    let e : 0 * 10 + (getD t 0 0 - 48) ≡ getD t 0 0 - 48 = omega arith in
+    subst (λ (n : ℕ). Short t n 1) e
+    (short-on
+    (record { reading = reading-start t; first = h; below = omega arith })
+    (is-digit t 0 (getD t 0 0 - 48) (rw (digit-within (getD t 0 0) (omega arith) l))))
 
 pub sure-int : (t : List ℕ) {r : ReadInt} {z : ℤ} {k : ℕ} → Sure t r → r ≡ Int z k → Int (toZ w32 (ofZ w32 z)) k ≡ intAt t
 sure-int t {r} {z} {k} s e =

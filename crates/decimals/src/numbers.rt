@@ -45,14 +45,11 @@ fn least(a: usize, b: usize) -> usize
 fn digit_at(text: &[u8], i: usize) -> Digit
     ensures { λ r. ⌜ r ≡ digitAt (now (text .entry)) i ⌝ }
 {
-    let b = byte_at(text, i);
-    if b < 48 {
+    let d = std::num::wrapping_sub_u64(byte_at(text, i) as u64, 48);
+    if d > 9 {
         return Digit::End;
     }
-    if b > 57 {
-        return Digit::End;
-    }
-    Digit::Of((b - 48) as u64)
+    Digit::Of(d)
 }
 
 // Some digits without a leading zero, or none.
@@ -125,12 +122,16 @@ pub fn read_int(text: &[u8]) -> ReadInt
 fn few_digits(text: &[u8]) -> ReadInt
     ensures { λ r. ⌜ Sure (now (text .entry)) r ⌝ }
 {
-    if byte_at(text, 0) < 49 {
+    let first = byte_at(text, 0);
+    if first < 49 {
+        return ReadInt::No;
+    }
+    if first > 57 {
         return ReadInt::No;
     }
     let end = least(text.len(), 10);
-    let mut n: u64 = 0;
-    let mut i: usize = 0;
+    let mut n = (first - 48) as u64;
+    let mut i: usize = 1;
     while i < end {
         match digit_at(text, i) {
             Digit::Of(d) => {
@@ -138,9 +139,6 @@ fn few_digits(text: &[u8]) -> ReadInt
                 i += 1;
             }
             Digit::End => {
-                if i == 0 {
-                    return ReadInt::No;
-                }
                 return ReadInt::Int(n as i32, i);
             }
         }
