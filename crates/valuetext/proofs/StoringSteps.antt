@@ -23,7 +23,7 @@ use Rattle.valuetext.specs.Laying.{lay}
 use Rattle.levels.specs.Counts.{totalOf}
 use Rattle.valuetext.specs.Reading.{Ready, measuring, filling, Laid, ReadAs, read-no, read-bytes}
 use Rattle.valuetext.specs.declared.reading.Taken.{Taken}
-use Rattle.valuetext.specs.Storing.{valueStore, valueStoreIf, textElements, measuredIf, measured, countsFor, countsAfter, Fillable, Conversion, refused, accepted, storeIf, toStreams}
+use Rattle.valuetext.specs.Storing.{valueStore, valueStoreIf, textElements, measuredIf, measured, countsIf, countsAfter, Fillable, Conversion, refused, accepted, storeIf, toStreams}
 use Rattle.valuetext.specs.declared.storing.Measured.{Measured}
 use Rattle.valuetext.specs.declared.storing.Stored.{Stored}
 use Rattle.valuetext.specs.declared.storing.Stored.the-variants.{Elements as StoredElements, Refused}
@@ -94,29 +94,26 @@ module _ (d : ℕ) (t : List ℕ) (counts : List ℕ) where
     total : sumOf (take (d + 1) cs′) ≡ room (valueStore d (l .value))
     total = ap sumOf lens ∙ lens-total d (l .value ∷ [])
 
-    pub measured-over : Over ≡ totalOf (take (d + 1) cs′) mostElements → (OverAll ≡ measured d t) × (counts ≡ countsAfter d t counts)
-    measured-over o = rw found (go (leb (room (valueStore d (l .value))) mostElements) (o ∙ rw total))
-      where
-        go : (b : Bool) → Over ≡ pick b (Of (room (valueStore d (l .value)))) Over
-            → (OverAll ≡ pick b (Elements (room (valueStore d (l .value)))) OverAll)
-            × (counts ≡ countsFor (pick b (Elements (room (valueStore d (l .value)))) OverAll) (map len (valueStore d (l .value))) d counts)
-        go true o′ = let z : _≡_ {A = ℕ} 0 1 = cc in absurd (omega arith)
-        go false o′ = (refl, refl)
+    module _ {counts′ : List ℕ} (c : counts′ ≡ take (d + 1) cs′ ++ drop (d + 1) counts) where
+      kept : counts′ ≡ countsAfter d t counts
+      kept =
+          c
+          ∙ ap₂ (λ (x : List ℕ) (k : ℕ). x ++ drop k counts) lens (add-one d)
+          ∙ ap (λ (o : Option (Val d)). countsIf d o counts) (sym found)
 
-    pub measured-of : {s : ℕ} {counts′ : List ℕ} → Of s ≡ totalOf (take (d + 1) cs′) mostElements
-        → counts′ ≡ take (d + 1) cs′ ++ drop (d + 1) counts
-        → (Elements s ≡ measured d t) × (counts′ ≡ countsAfter d t counts)
-    measured-of {s} {counts′} o c =
-        let c′ : counts′ ≡ map len (valueStore d (l .value)) ++ drop (suc d) counts =
-        c ∙ ap₂ (λ (x : List ℕ) (k : ℕ). x ++ drop k counts) lens (add-one d) in
-        rw found (go (leb (room (valueStore d (l .value))) mostElements) (o ∙ rw total) c′)
-      where
-        go : (b : Bool) → Of s ≡ pick b (Of (room (valueStore d (l .value)))) Over
-            → counts′ ≡ map len (valueStore d (l .value)) ++ drop (suc d) counts
-            → (Elements s ≡ pick b (Elements (room (valueStore d (l .value)))) OverAll)
-            × (counts′ ≡ countsFor (pick b (Elements (room (valueStore d (l .value)))) OverAll) (map len (valueStore d (l .value))) d counts)
-        go true o′ c′ = let p : s ≡ room (valueStore d (l .value)) = cc in (ap Elements p, c′)
-        go false o′ c′ = let z : _≡_ {A = ℕ} 0 1 = cc in absurd (omega arith)
+      pub measured-over : Over ≡ totalOf (take (d + 1) cs′) mostElements → (OverAll ≡ measured d t) × (counts′ ≡ countsAfter d t counts)
+      measured-over o = (rw found (go (leb (room (valueStore d (l .value))) mostElements) (o ∙ rw total)), kept)
+        where
+          go : (b : Bool) → Over ≡ pick b (Of (room (valueStore d (l .value)))) Over → OverAll ≡ pick b (Elements (room (valueStore d (l .value)))) OverAll
+          go true o′ = let z : _≡_ {A = ℕ} 0 1 = cc in absurd (omega arith)
+          go false o′ = refl
+
+      pub measured-of : {s : ℕ} → Of s ≡ totalOf (take (d + 1) cs′) mostElements → (Elements s ≡ measured d t) × (counts′ ≡ countsAfter d t counts)
+      measured-of {s} o = (rw found (go (leb (room (valueStore d (l .value))) mostElements) (o ∙ rw total)), kept)
+        where
+          go : (b : Bool) → Of s ≡ pick b (Of (room (valueStore d (l .value)))) Over → Elements s ≡ pick b (Elements (room (valueStore d (l .value)))) OverAll
+          go true o′ = let p : s ≡ room (valueStore d (l .value)) = cc in ap Elements p
+          go false o′ = let z : _≡_ {A = ℕ} 0 1 = cc in absurd (omega arith)
 
 -- ---- filling
 
@@ -252,8 +249,7 @@ module _ (t : List ℕ) (d : ℕ) (es : List ℤ) (ls : List ℕ) where
           (refl, (refl, refl))
 
       counts-of : (c₀ : List ℕ) → countsAfter d t c₀ ≡ map len (valueStore d (known .value)) ++ drop (suc d) c₀
-      counts-of c₀ =
-          ap₂ (λ (m : Measured) (o : Option (Val d)). countsFor m (map len (valueStoreIf d o)) d c₀) (sym e) (known .reads)
+      counts-of c₀ = ap (λ (o : Option (Val d)). countsIf d o c₀) (known .reads)
 
       front : {counts : List ℕ} (c₀ : List ℕ) → counts ≡ countsAfter d t c₀ → take (suc d) counts ≡ map len (valueStore d (known .value))
       front c₀ q =

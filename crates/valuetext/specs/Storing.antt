@@ -45,14 +45,13 @@ measuredIf d (some v) = pick (leb (room (valueStore d v)) mostElements) (Element
 abbrev pub measured : (d : ℕ) → List ℕ → Measured
 measured d t = measuredIf d (valueOf d t)
 
--- the counts are put in front where the text has few enough elements
-abbrev pub countsFor : Measured → List ℕ → ℕ → List ℕ → List ℕ
-countsFor (Elements n) lens d counts = lens ++ drop (suc d) counts
-countsFor Over lens d counts = counts
-countsFor No lens d counts = counts
+-- a value's counts are put in front
+abbrev pub countsIf : (d : ℕ) → Option (Val d) → List ℕ → List ℕ
+countsIf d none counts = counts
+countsIf d (some v) counts = map len (valueStore d v) ++ drop (suc d) counts
 
 abbrev pub countsAfter : (d : ℕ) → List ℕ → List ℕ → List ℕ
-countsAfter d t counts = countsFor (measured d t) (map len (textStore d t)) d counts
+countsAfter d t counts = countsIf d (valueOf d t) counts
 
 -- a text that was measured, with room for its streams
 pub record Fillable (d : ℕ) (t : List ℕ) (counts : List ℕ) (start lent : ℕ) : Type 0 where

@@ -45,11 +45,9 @@ pub fn measure_text(text: &[u8], depth: u8, counts: &mut [usize]) -> Measured
                 return Measured::No;
             }
             let levels = depth as usize + 1;
+            copy(&cursors, levels, counts);
             match add_up(&cursors[..levels], Buffer::ELEMENTS) {
-                Total::Of(sum) => {
-                    copy(&cursors, levels, counts);
-                    Measured::Elements(sum)
-                }
+                Total::Of(sum) => Measured::Elements(sum),
                 Total::Over => Measured::Over,
             }
         }

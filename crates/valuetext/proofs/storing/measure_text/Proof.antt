@@ -1,4 +1,4 @@
--- The reader lent no elements counts; the counts are kept where they don't pass the limit.
+-- The reader lent no elements counts; the counts of a value are kept, and added up.
 use mathlib.Core.Path.{sym, _∙_}
 use Prim.Native.Nat.{_+_}
 use native.Mathlib.Omega.{arith}
@@ -25,28 +25,37 @@ enum-known-n : tie.Need-enum-known-n
 enum-known-n c = search needs
 
 returns : tie.Need-returns
-returns c = measured-none (c .before .before .before .before .before .before .before .before .before .before .before .args .depth) (c .before .before .before .before .before .before .before .before .before .before .before .args .text .now) (c .before .before .before .before .before .before .before .before .before .before .before .args .counts .now) (value-short (c .before .before .before .before .before .before .before .before .before .before .before .args .depth) (c .before .before .before .before .before .before .before .before .before .before .before .args .text .now) ((laid-of (c .before .before .before .before .before .before .read-item .ensures) (c .before .before .n .given .1)) .value) (c .before .before .n .given .0 .0) ((laid-of (c .before .before .before .before .before .before .read-item .ensures) (c .before .before .n .given .1)) .reads) (c .if1 .taken))
+returns c =
+    let at-n = c .before .before in
+    let at-read-item = at-n .before .before .before .before in
+    let at-start = at-read-item .before .before .before .before .before in
+    let laid = laid-of (at-read-item .read-item .ensures) (at-n .n .given .1) in
+    measured-none (at-start .args .depth) (at-start .args .text .now) (at-start .args .counts .now)
+    (value-short (at-start .args .depth) (at-start .args .text .now) (laid .value) (at-n .n .given .0 .0) (laid .reads) (c .if1 .taken))
 
 add-levels : tie.Need-add-levels
 add-levels c = search needs
-
-array-share-prefix-cursors : tie.Need-array-share-prefix-cursors
-array-share-prefix-cursors c = search needs
-
-slice-aggregate-add-up : tie.Need-slice-aggregate-add-up
-slice-aggregate-add-up c = sym (length-take-le (c .before .before .before .before .before .before .before .before .before .before .before .before .args .depth + 1) (c .before .before .before .before .before .before .before .read-item .last .1 .1 .1 .0) (omega (arith, c .before .before .before .before .before .before .before .before .before .before .before .before .pre .0, c .before .before .before .before .before .before .before .read-item .kept .1 .1 .1 .0)))
-
-add-up-requires : tie.Need-add-up-requires
-add-up-requires c κs = search needs
-
-enum-known-sum : tie.Need-enum-known-sum
-enum-known-sum c = search needs
 
 slice-aggregate-copy : tie.Need-slice-aggregate-copy
 slice-aggregate-copy c = search needs
 
 copy-requires : tie.Need-copy-requires
 copy-requires c κs = search needs
+
+array-share-prefix-cursors : tie.Need-array-share-prefix-cursors
+array-share-prefix-cursors c = search needs
+
+slice-aggregate-add-up : tie.Need-slice-aggregate-add-up
+slice-aggregate-add-up c =
+    let at-read-item = c .before .before .before .before .before .before .before .before .before .before .before .before in
+    let at-start = at-read-item .before .before .before .before .before in
+    sym (length-take-le (at-start .args .depth + 1) (at-read-item .read-item .last .1 .1 .1 .0) (omega (arith, at-start .pre .0, at-read-item .read-item .kept .1 .1 .1 .0)))
+
+add-up-requires : tie.Need-add-up-requires
+add-up-requires c κs = search needs
+
+enum-known-sum : tie.Need-enum-known-sum
+enum-known-sum c = search needs
 
 enum-told : tie.Need-enum-told
 enum-told c = search needs
@@ -58,13 +67,37 @@ same-length : tie.Need-same-length
 same-length c = search needs
 
 returns-2 : tie.Need-returns-2
-returns-2 c = measured-of (c .before .before .before .before .before .before .before .before .before .before .before .before .before .before .before .before .before .before .before .before .before .args .depth) (c .before .before .before .before .before .before .before .before .before .before .before .before .before .before .before .before .before .before .before .before .before .args .text .now) (c .before .before .before .before .before .before .before .before .before .before .before .before .before .before .before .before .before .before .before .before .before .args .counts .now) (laid-of (c .before .before .before .before .before .before .before .before .before .before .before .before .before .before .before .before .read-item .ensures) (c .before .before .before .before .before .before .before .before .before .before .before .before .n .given .1)) (c .before .before .before .before .before .before .before .before .before .before .before .before .before .before .before .before .before .before .before .before .before .pre .0) (c .before .before .before .before .before .before .before .before .before .before .if1 .left) (sym (c .before .before .before .before .before .before .sum .given .1) ∙ c .before .before .before .before .before .before .before .before .add-up .ensures) (c .before .before .copy .ensures)
+returns-2 c =
+    let at-sum = c .before in
+    let at-add-up = at-sum .before .before in
+    let at-copy = at-add-up .before .before .before .before in
+    let at-if1 = at-copy .before .before .before in
+    let at-n = at-if1 .before .before in
+    let at-read-item = at-n .before .before .before .before in
+    let at-start = at-read-item .before .before .before .before .before in
+    measured-of (at-start .args .depth) (at-start .args .text .now) (at-start .args .counts .now) (laid-of (at-read-item .read-item .ensures) (at-n .n .given .1)) (at-start .pre .0) (at-if1 .if1 .left) (at-copy .copy .ensures)
+    (sym (at-sum .sum .given .1) ∙ at-add-up .add-up .ensures)
+
+same-length-2 : tie.Need-same-length-2
+same-length-2 c = search needs
 
 returns-3 : tie.Need-returns-3
-returns-3 c = measured-over (c .before .before .before .before .before .before .before .before .before .before .before .before .before .before .before .args .depth) (c .before .before .before .before .before .before .before .before .before .before .before .before .before .before .before .args .text .now) (c .before .before .before .before .before .before .before .before .before .before .before .before .before .before .before .args .counts .now) (laid-of (c .before .before .before .before .before .before .before .before .before .before .read-item .ensures) (c .before .before .before .before .before .before .n .given .1)) (c .before .before .before .before .before .before .before .before .before .before .before .before .before .before .before .pre .0) (c .before .before .before .before .if1 .left) (sym (c .enum-told .given .1) ∙ c .before .before .add-up .ensures)
+returns-3 c =
+    let at-add-up = c .before .before in
+    let at-copy = at-add-up .before .before .before .before in
+    let at-if1 = at-copy .before .before .before in
+    let at-n = at-if1 .before .before in
+    let at-read-item = at-n .before .before .before .before in
+    let at-start = at-read-item .before .before .before .before .before in
+    measured-over (at-start .args .depth) (at-start .args .text .now) (at-start .args .counts .now) (laid-of (at-read-item .read-item .ensures) (at-n .n .given .1)) (at-start .pre .0) (at-if1 .if1 .left) (at-copy .copy .ensures)
+    (sym (c .enum-told .given .1) ∙ at-add-up .add-up .ensures)
 
 returns-4 : tie.Need-returns-4
-returns-4 c = measured-none (c .before .before .before .before .before .before .before .before .before .args .depth) (c .before .before .before .before .before .before .before .before .before .args .text .now) (c .before .before .before .before .before .before .before .before .before .args .counts .now) (value-none (c .before .before .before .before .before .before .before .before .before .args .depth) (c .before .before .before .before .before .before .before .before .before .args .text .now) (none-of (c .before .before .before .before .read-item .ensures) (c .enum-told2 .given .1)))
+returns-4 c =
+    let at-read-item = c .before .before .before .before in
+    let at-start = at-read-item .before .before .before .before .before in
+    measured-none (at-start .args .depth) (at-start .args .text .now) (at-start .args .counts .now)
+    (value-none (at-start .args .depth) (at-start .args .text .now) (none-of (at-read-item .read-item .ensures) (c .enum-told2 .given .1)))
 
 pub measure-text-spec : {M : Type 1} → statement M
 measure-text-spec =
@@ -77,15 +110,16 @@ measure-text-spec =
     enum-known-n
     returns
     add-levels
+    slice-aggregate-copy
+    copy-requires
     array-share-prefix-cursors
     slice-aggregate-add-up
     add-up-requires
     enum-known-sum
-    slice-aggregate-copy
-    copy-requires
     enum-told
     enum-told-2
     same-length
     returns-2
+    same-length-2
     returns-3
     returns-4)
