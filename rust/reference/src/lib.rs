@@ -7,7 +7,7 @@
 //! 8 and 9 with their ids. Where a run goes through, each side checks the other.
 //!
 //! The functions here answer over sizes lent; those of `lent` answer over the lent buffers
-//! themselves and show what each holds afterwards.
+//! themselves and show what each holds afterwards; `vectors` answers the lines of the vectors.
 
 #![forbid(unsafe_code)]
 
@@ -24,6 +24,7 @@ pub mod run;
 pub mod translate;
 pub mod types;
 pub mod value;
+pub mod vectors;
 
 pub use formula::find;
 pub use listing::list;
