@@ -16,7 +16,7 @@ use std::collections::BTreeMap;
 use std::process::ExitCode;
 
 #[cfg(feature = "linked")]
-const OTHER: &str = "the library";
+const OTHER: &str = "the linked library";
 #[cfg(not(feature = "linked"))]
 const OTHER: &str = "itself on jobs written again (no library is linked)";
 
