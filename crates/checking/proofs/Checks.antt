@@ -13,20 +13,21 @@ use Rattle.snesl.specs.declared.refusal.Refusal.the-variants.{TooLong, NoRecord
 use Rattle.snesl.specs.Limits.{mostBytes, mostInputs, mostNesting, mostListed}
 use Rattle.snesl.specs.Records as records
 use Rattle.snesl.specs.Records.{Raw, Input, Front, front, frontOf, inputsAt, inputsThen, expressionAfter, scan, scanned, formulaEnd, readFormula, textsAt, textsThen, jobEnd, readJob}
-use Rattle.checking.specs.declared.check.Checked.{Checked}
-use Rattle.checking.specs.declared.check.Checked.the-variants.{Depth, Refused}
-use Rattle.checking.specs.declared.check.Entered.{Entered}
-use Rattle.checking.specs.declared.check.Entered.the-variants as enters
-use Rattle.checking.specs.declared.check.Walked.{Walked}
-use Rattle.checking.specs.declared.check.Walked.the-variants as walked
+use Rattle.checking.specs.declared.check.Checked.the-variants as checked
+use Rattle.checking.specs.declared.check.Judged.{Judged}
+use Rattle.checking.specs.declared.check.Judged.the-variants.{Typed, Refused}
+use Rattle.checking.specs.declared.check.Opened.{Opened}
+use Rattle.checking.specs.declared.check.Opened.the-variants as opened
+use Rattle.checking.specs.declared.check.Judging.{Judging}
+use Rattle.checking.specs.declared.check.Judging.the-variants as judging
 use Rattle.formula.specs.declared.read.FormulaRead.the-variants as formula
 use Rattle.formula.specs.declared.read.JobRead.the-variants as job
 use Rattle.formula.specs.Reading.{formulaOf, jobOf}
 use Rattle.scopes.specs.Scopes.{scope}
-use Rattle.checking.specs.Checks.{checkFront, Entry, again, entered, enterIn, enteredBy, Declares, Top, Enters, judge, walkedOf, mostPushed, Ready, Walks}
+use Rattle.checking.specs.Checks.{checkFront, judgeFront, Entry, again, entered, enterIn, enteredBy, Declares, Top, Enters, judge, judgingOf, mostPushed, Judgeable, Judges}
 use Rattle.checking.proofs.Entering.{few, whole}
 use Rattle.checking.proofs.Walks.{was-refused, was-found}
-use Rattle.checking.proofs.Judging.{entryThen, formula-is}
+use Rattle.checking.proofs.Judging.{entryThen, formula-is, depthOf, depth-of-front}
 
 -- the parts of a formula that was read
 record Parts (t : List ℕ) (f : Formula) : Type 0 where
@@ -38,7 +39,7 @@ record Parts (t : List ℕ) (f : Formula) : Type 0 where
   count : f .inputs ≡ length inputs
   scans : scan (suc mostNesting) t (f .expression) 0 ≡ scanned expression (f .end) after
 
-pub enters-at : (e : Entry) (inputs : ℕ) (env : List ℕ) {r s : Entered} → r ≡ s → Enters e inputs env r → Enters e inputs env s
+pub enters-at : (e : Entry) (inputs : ℕ) (env : List ℕ) {r s : Opened} → r ≡ s → Enters e inputs env r → Enters e inputs env s
 enters-at e inputs env q h = subst (Enters e inputs env) q h
 
 module _ (t : List ℕ) (f : Formula) (p : formula.Found f ≡ formulaOf (frontOf t)) where
@@ -86,17 +87,17 @@ module _ (t : List ℕ) (f : Formula) (p : formula.Found f ≡ formulaOf (frontO
   few-inputs = omega (arith, parts .count, few t (f .expression) mostInputs 0 (parts .inputs) (parts .declares))
 
   -- the whole check is the entry of the inputs and then the expression's
-  checked : entryThen (enteredBy (inputsAt mostInputs t 0)) (λ w. judge w (parts .expression)) ≡ checkFront (frontOf t)
-  checked =
+  judged-whole : entryThen (enteredBy (inputsAt mostInputs t 0)) (λ w. judge w (parts .expression)) ≡ judgeFront (frontOf t)
+  judged-whole =
       ap (λ z. entryThen (enteredBy z) (λ w. judge w (parts .expression))) (parts .declares)
-      ∙ (formula-is (parts .inputs) (parts .expression) ∙ ap checkFront (sym (parts .read)))
+      ∙ (formula-is (parts .inputs) (parts .expression) ∙ ap judgeFront (sym (parts .read)))
 
   pub entry-refused :
-      (env : List ℕ) (r : Refusal) → Enters (enteredBy (inputsAt mostInputs t 0)) (f .inputs) env (enters.Refused r) → Refused r ≡ checkFront (frontOf t)
-  entry-refused env r h = ap Refused (h .2) ∙ (ap (λ z. entryThen z (λ w. judge w (parts .expression))) (sym (h .1)) ∙ checked)
+      (env : List ℕ) (r : Refusal) → Enters (enteredBy (inputsAt mostInputs t 0)) (f .inputs) env (opened.Refused r) → Refused r ≡ judgeFront (frontOf t)
+  entry-refused env r h = ap Refused (h .2) ∙ (ap (λ z. entryThen z (λ w. judge w (parts .expression))) (sym (h .1)) ∙ judged-whole)
 
   module _ {env : List ℕ} {sp : ℕ} (h : Top (enteredBy (inputsAt mostInputs t 0)) (f .inputs) env sp) (l : length env ≡ 2 * (mostInputs + mostNesting * (1 + mostListed))) where
-    pub walk-asked : Ready t (f .expression) (suc mostNesting) env sp (2 * (mostInputs + mostNesting * (1 + mostListed)))
+    pub walk-asked : Judgeable t (f .expression) (suc mostNesting) env sp (2 * (mostInputs + mostNesting * (1 + mostListed)))
     walk-asked =
         record {
           count = 0;
@@ -104,26 +105,27 @@ module _ (t : List ℕ) (f : Formula) (p : formula.Found f ≡ formulaOf (frontO
           next = f .end;
           after = parts .after;
           read = parts .scans;
+          shallow = omega arith;
           room = omega (arith, h .at, few-inputs);
           order = omega (arith, h .at);
           high = omega arith;
         }
 
     module _
-        {new : List ℕ} {r : Walked}
-        (v : Walks t (f .expression) (suc mostNesting) env sp (2 * (mostInputs + mostNesting * (1 + mostListed))) new r) where
-      answered : r ≡ walkedOf (f .end) (judge (drop sp env) (parts .expression))
+        {new : List ℕ} {r : Judging}
+        (v : Judges t (f .expression) (suc mostNesting) env sp (2 * (mostInputs + mostNesting * (1 + mostListed))) new r) where
+      answered : r ≡ judgingOf (f .end) (judge (drop sp env) (parts .expression))
       unfolding walk-asked
-      answered = v .answer walk-asked ∙ ap (λ z. walkedOf (f .end) (judge z (parts .expression))) (whole sp env _ l)
+      answered = v .answer walk-asked ∙ ap (λ z. judgingOf (f .end) (judge z (parts .expression))) (whole sp env _ l)
 
-      is-checked : (c : Checked) → judge (drop sp env) (parts .expression) ≡ c → c ≡ checkFront (frontOf t)
-      is-checked c e = sym e ∙ (ap (λ z. entryThen z (λ w. judge w (parts .expression))) (sym (h .pairs)) ∙ checked)
+      is-checked : (c : Judged) → judge (drop sp env) (parts .expression) ≡ c → c ≡ judgeFront (frontOf t)
+      is-checked c e = sym e ∙ (ap (λ z. entryThen z (λ w. judge w (parts .expression))) (sym (h .pairs)) ∙ judged-whole)
 
-      pub walk-refused : (q : Refusal) → r ≡ walked.Refused q → Refused q ≡ checkFront (frontOf t)
+      pub walk-refused : (q : Refusal) → r ≡ judging.Refused q → Refused q ≡ judgeFront (frontOf t)
       walk-refused q e = is-checked (Refused q) (was-refused (f .end) (judge (drop sp env) (parts .expression)) (sym e ∙ answered))
 
-      pub walk-found : (m d : ℕ) → r ≡ walked.Found m d → Depth d ≡ checkFront (frontOf t)
-      walk-found m d e = is-checked (Depth d) (was-found (f .end) (judge (drop sp env) (parts .expression)) (sym e ∙ answered) .1)
+      pub walk-found : (m d n : ℕ) → r ≡ judging.Found m d n → Typed d n ≡ judgeFront (frontOf t)
+      walk-found m d n e = is-checked (Typed d n) (was-found (f .end) (judge (drop sp env) (parts .expression)) (sym e ∙ answered) .1)
 
 -- a formula that is read as a whole is the front of its bytes
 module _ (t : List ℕ) where
@@ -141,10 +143,13 @@ module _ (t : List ℕ) where
           last true q = (q, refl)
           last false q = let z : _≡_ {A = ℕ} 0 1 = cc in absurd (omega arith)
 
-  pub refused-read : (r : Refusal) → formula.Refused r ≡ formulaOf (readFormula t) → Refused r ≡ checkFront (readFormula t)
+  pub front-checked : (f : Formula) → formula.Found f ≡ formulaOf (readFormula t) → {r : Judged} → r ≡ judgeFront (frontOf t) → depthOf r ≡ checkFront (readFormula t)
+  front-checked f e q = ap depthOf q ∙ (depth-of-front (frontOf t) ∙ front-read f e .1)
+
+  pub refused-read : (r : Refusal) → formula.Refused r ≡ formulaOf (readFormula t) → checked.Refused r ≡ checkFront (readFormula t)
   refused-read r e = go (readFormula t) e
     where
-      go : (x : Front) → formula.Refused r ≡ formulaOf x → Refused r ≡ checkFront x
+      go : (x : Front) → formula.Refused r ≡ formulaOf x → checked.Refused r ≡ checkFront x
       go (records.refused f) q = cc
       go (front is k x next) q = let z : _≡_ {A = ℕ} 0 1 = cc in absurd (omega arith)
 

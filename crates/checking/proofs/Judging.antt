@@ -1,4 +1,4 @@
--- Checking over scopes of pairs is snesl's check: `judge` answers the depth of the typed expression, or the same refusal.
+-- Checking over scopes of pairs is snesl's check: `judge` answers the depth of the typed expression and the words of its walk, or the same refusal.
 use Prim.Native.Nat.{ℕ, zero, suc, _+_, _-_}
 use mathlib.Core.Bool.{Bool, true, false, _&&_, _||_, not}
 use mathlib.Core.List.{List, [], _∷_}
@@ -7,6 +7,7 @@ use mathlib.Core.Path.{_≡_, refl, sym, ap, ap₂, subst, _∙_}
 use native.Mathlib.Numerals.{add-one}
 use native.Mathlib.Omega.{arith}
 use lib.Dec.{eqb, ltb, eqb·suc-zero, eqb·suc-suc}
+use lib.ListN.{length}
 use borrow.Author.Tests.{lt-ltb}
 use Rattle.snesl.specs.declared.code.Variable.{Variable}
 use Rattle.snesl.specs.declared.refusal.Refusal.the-variants.{Unbound, WrongType}
@@ -21,9 +22,12 @@ use Rattle.scopes.specs.declared.scope.Kind.{Kind}
 use Rattle.scopes.specs.declared.scope.Kind.the-variants as kind
 use Rattle.checking.specs.declared.check.Checked.{Checked}
 use Rattle.checking.specs.declared.check.Checked.the-variants.{Depth, Refused}
+use Rattle.checking.specs.declared.check.Judged.{Judged}
+use Rattle.checking.specs.declared.check.Judged.the-variants as judged
 use Rattle.scopes.specs.Scopes.{depthIn}
 use Rattle.scopes.specs.UsingLists.{isBoundIn, isIntIn, firstUsable, usableIn, intsIn, listedWords, Body, stop, inside, sequenceIn, eachIn}
-use Rattle.checking.specs.Checks.{checkedOf, varIn, wantIn, plusIn, thenDepth, bodyThen, closed, judge, Entry, again, entered, enterFirst, enterIn}
+use Rattle.environment.specs.Needs.{bodySize, words}
+use Rattle.checking.specs.Checks.{checkedOf, checkFront, judgedOf, judgeFront, varIn, wantIn, plusIn, sized, thenTyped, bodyThen, bound, closed, newest, judge, Entry, again, entered, enterFirst, enterIn}
 
 -- the pairs of a scope
 unfoldable pub spelled : {Γ : List ℕ} → All Name Γ → List ℕ
@@ -52,38 +56,43 @@ depth-is x (_▹_ {d = d} {Γ = Δ} y scope) = go (eqb (x .0) (y .0)) (depth-is 
 
 -- ---- records without expressions inside
 
+-- an int, or a refused type
+abbrev int-if : (place : ℕ) → Bool → Judged
+int-if p b = sized (elim b [ true ↦ Depth 0 | false ↦ Refused (WrongType p) ])
+
 module _ {Γ : List ℕ} (p : ℕ) where
-  var-is : (f : Found Γ) → varIn p (kindOf f) ≡ checkedOf {Γ = Γ} (elim f [ missing ↦ refused (Unbound p) | found d v ↦ typed d (terms.var v) ])
+  var-is : (f : Found Γ) → sized (varIn p (kindOf f)) ≡ judgedOf {Γ = Γ} (elim f [ missing ↦ refused (Unbound p) | found d v ↦ typed d (terms.var v) ])
+  unfolding words
   var-is missing = refl
   var-is (found d v) = refl
 
-  iota-is : (f : Found Γ) → wantIn p 0 1 (kindOf f) ≡ checkedOf (demand (isBound f) (Unbound p) (typedIf p (asInt f) (λ v. typed 1 (terms.iota v))))
+  iota-is : (f : Found Γ) → sized (wantIn p 0 1 (kindOf f)) ≡ judgedOf (demand (isBound f) (Unbound p) (typedIf p (asInt f) (λ v. typed 1 (terms.iota v))))
+  unfolding words
   iota-is missing = refl
   iota-is (found zero v) = refl
-  iota-is (found (suc d) v) = ap (λ (b : Bool). elim b as (λ z. Checked) [ true ↦ Depth 1 | false ↦ Refused (WrongType p) ]) (eqb·suc-zero d)
+  iota-is (found (suc d) v) = ap (λ (b : Bool). sized (elim b as (λ z. Checked) [ true ↦ Depth 1 | false ↦ Refused (WrongType p) ])) (eqb·suc-zero d)
 
   sum-is :
       (f : Found Γ)
-      → wantIn p 1 0 (kindOf f) ≡ checkedOf (demand (isBound f) (Unbound p) (typedIf p (asInts (asSequence f)) (λ v. typed 0 (terms.sum v))))
+      → sized (wantIn p 1 0 (kindOf f)) ≡ judgedOf (demand (isBound f) (Unbound p) (typedIf p (asInts (asSequence f)) (λ v. typed 0 (terms.sum v))))
+  unfolding words
   sum-is missing = refl
   sum-is (found zero v) = refl
   sum-is (found (suc zero) v) = refl
-  sum-is (found (suc (suc d)) v) =
-      ap (λ (b : Bool). elim b as (λ z. Checked) [ true ↦ Depth 0 | false ↦ Refused (WrongType p) ]) (eqb·suc-suc (suc d) 0 ∙ eqb·suc-zero d)
+  sum-is (found (suc (suc d)) v) = ap (int-if p) (eqb·suc-suc (suc d) 0 ∙ eqb·suc-zero d)
 
   plus-is :
       (f g : Found Γ)
-      → plusIn p (kindOf f) (kindOf g)
-      ≡ checkedOf
+      → sized (plusIn p (kindOf f) (kindOf g))
+      ≡ judgedOf
       (demand (isBound f && isBound g) (Unbound p)
       (typedIf p (asInt f) (λ v. typedIf p (asInt g) (λ w. typed 0 (terms.plus v w)))))
+  unfolding words
   plus-is missing g = refl
   plus-is (found d v) missing = refl
   plus-is (found zero v) (found zero w) = refl
-  plus-is (found zero v) (found (suc c) w) =
-      ap (λ (b : Bool). elim b as (λ z. Checked) [ true ↦ Depth 0 | false ↦ Refused (WrongType p) ]) (eqb·suc-zero c)
-  plus-is (found (suc d) v) (found c w) =
-      ap (λ (b : Bool). elim (b && eqb c 0) as (λ z. Checked) [ true ↦ Depth 0 | false ↦ Refused (WrongType p) ]) (eqb·suc-zero d)
+  plus-is (found zero v) (found (suc c) w) = ap (int-if p) (eqb·suc-zero c)
+  plus-is (found (suc d) v) (found c w) = ap (λ b. int-if p (b && eqb c 0)) (eqb·suc-zero d)
 
 -- ---- a using list
 
@@ -104,10 +113,10 @@ module _ {Γ : List ℕ} (scope : All Name Γ) where
       ∙ (ap (λ b. isBoundIn (depthIn (u .0) (spelled scope)) && b) (and-assoc (not (same x u)) (not (names u us)) (usableIn (spelled scope) x us))
       ∙ ap₂ (λ a b. a && (not (same x u) && (not (names u us) && b))) (ap isBoundIn (depth-is u scope) ∙ bound-is (find u scope)) (usable-is x us))
 
-  -- the listed variables are all ints, and then their scope is theirs
+  -- the listed variables are all ints, and then their scope is theirs, and they are as many
   abbrev Ints : List Variable → Option (List (Variable × (Γ ∋ 0))) → Type 0
   Ints us none = intsIn (spelled scope) us ≡ false
-  Ints us (some l) = (intsIn (spelled scope) us ≡ true) × (spelled (listedNames l) ≡ listedWords us)
+  Ints us (some l) = (intsIn (spelled scope) us ≡ true) × (spelled (listedNames l) ≡ listedWords us) × (length us ≡ length (pointers l))
 
   first-is :
       (u : Variable) (us : List Variable) (f : Found Γ) (o : Option (List (Variable × (Γ ∋ 0)))) → depthIn (u .0) (spelled scope) ≡ kindOf f
@@ -116,53 +125,60 @@ module _ {Γ : List ℕ} (scope : All Name Γ) where
   first-is u us missing o e h = ap (λ k. isIntIn k && intsIn (spelled scope) us) e
   first-is u us (found zero v) none e h = ap (λ k. isIntIn k && intsIn (spelled scope) us) e ∙ h
   first-is u us (found zero v) (some l) e h =
-      (ap (λ k. isIntIn k && intsIn (spelled scope) us) e ∙ h .0, ap (λ z. u .0 ∷ 0 ∷ z) (h .1))
+      (ap (λ k. isIntIn k && intsIn (spelled scope) us) e ∙ h .0, ap (λ z. u .0 ∷ 0 ∷ z) (h .1), ap suc (h .2))
   first-is u us (found (suc d) v) o e h =
       ap (λ k. isIntIn k && intsIn (spelled scope) us) e ∙ ap (λ b. b && intsIn (spelled scope) us) (eqb·suc-zero d)
 
   ints-are : (us : List Variable) → Ints us (listedInts scope us)
   unfolding intsIn listedInts listedWords listedNames spelled
-  ints-are [] = (refl, refl)
+  ints-are [] = (refl, refl, refl)
   ints-are (u ∷ us) = first-is u us (find u scope) (listedInts scope us) (depth-is u scope) (ints-are us)
 
 -- ---- expressions inside
 
 bind-is :
-    {Γ Δ : List ℕ} (T : Typed Γ) (f : ℕ → Checked) (F : (d : ℕ) → Term Γ d → Typed Δ) → ((d : ℕ) (t : Term Γ d) → f d ≡ checkedOf (F d t))
-    → thenDepth (checkedOf T) f ≡ checkedOf (typedThen T F)
+    {Γ Δ : List ℕ} (T : Typed Γ) (f : ℕ → ℕ → Judged) (F : (d : ℕ) → Term Γ d → Typed Δ) → ((d : ℕ) (t : Term Γ d) → f d (words t) ≡ judgedOf (F d t))
+    → thenTyped (judgedOf T) f ≡ judgedOf (typedThen T F)
 bind-is (refused r) f F h = refl
 bind-is (typed d t) f F h = h d t
 
 closed-is :
-    (p : ℕ) {Δ : List ℕ} (d : ℕ) (e : Term Δ (suc d)) → closed p d ≡ checkedOf (demand (ltb d mostDepth) (WrongType p) (typed (suc d) e))
-closed-is p d e = go (ltb d mostDepth)
+    (p : ℕ) {Γ : List ℕ} {c : ℕ} (v : Γ ∋ suc c) (us : List (Γ ∋ 0)) (d : ℕ) (e : Term (c ∷ listedTypes us) d)
+    → closed p c (length us) d (words e) ≡ judgedOf (demand (ltb d mostDepth) (WrongType p) (typed (suc d) (terms.each v us e)))
+unfolding words
+closed-is p {c = c} v us d e = go (ltb d mostDepth)
   where
-    go : (b : Bool) → elim b [ true ↦ Depth (d + 1) | false ↦ Refused (WrongType p) ] ≡ checkedOf (demand b (WrongType p) (typed (suc d) e))
-    go true = ap Depth (add-one d)
+    go :
+        (b : Bool)
+        → elim b [ true ↦ judged.Typed (d + 1) (bodySize c (length us) + words e) | false ↦ judged.Refused (WrongType p) ]
+        ≡ judgedOf (demand b (WrongType p) (typed (suc d) (terms.each v us e)))
+    go true = ap (λ n. judged.Typed n (bodySize c (length us) + words e)) (add-one d)
     go false = refl
 
 module _
     {Γ : List ℕ} (scope : All Name Γ) (p : ℕ) (x y : Variable) (us : List Variable) (e : Raw)
-    (inner : (Δ : List ℕ) (names : All Name Δ) → judge (spelled names) e ≡ checkedOf (checking.check names e)) where
+    (inner : (Δ : List ℕ) (names : All Name Δ) → judge (spelled names) e ≡ judgedOf (checking.check names e)) where
   abbrev within : {c : ℕ} → Γ ∋ suc c → List (Variable × (Γ ∋ 0)) → Typed Γ
   within {c} v l =
       typedThen (checking.check (_▹_ {d = c} x (listedNames l)) e)
       (λ d t. demand (ltb d mostDepth) (WrongType p) (typed (suc d) (terms.each v (pointers l) t)))
 
-  abbrev body : List ℕ → Checked
-  body w = thenDepth (judge w e) (closed p)
+  abbrev body : List ℕ → Judged
+  body w = thenTyped (judge w e) (closed p (newest w) (length us))
 
-  body-is : (c : ℕ) (v : Γ ∋ suc c) (l : List (Variable × (Γ ∋ 0))) → body (x .0 ∷ c ∷ spelled (listedNames l)) ≡ checkedOf (within v l)
+  body-is :
+      (c : ℕ) (v : Γ ∋ suc c) (l : List (Variable × (Γ ∋ 0))) → length us ≡ length (pointers l)
+      → body (x .0 ∷ c ∷ spelled (listedNames l)) ≡ judgedOf (within v l)
   unfolding spelled
-  body-is c v l =
-      ap (λ z. thenDepth z (closed p)) (inner (c ∷ listedTypes (pointers l)) (x ▹ listedNames l))
-      ∙ bind-is (checking.check (x ▹ listedNames l) e) (closed p)
+  body-is c v l n =
+      ap₂ (λ z j. thenTyped z (closed p c j)) (inner (c ∷ listedTypes (pointers l)) (x ▹ listedNames l)) n
+      ∙ bind-is (checking.check (x ▹ listedNames l) e) (closed p c (length (pointers l)))
       (λ d t. demand (ltb d mostDepth) (WrongType p) (typed (suc d) (terms.each v (pointers l) t)))
-      (λ d t. closed-is p d (terms.each v (pointers l) t))
+      (λ d t. closed-is p v (pointers l) d t)
 
   each-is :
       bodyThen (eachIn (spelled scope) p x y us) body
-      ≡ checkedOf
+      ≡ judgedOf
       (demand (isBound (find y scope) && usable scope x us) (Unbound p)
       (typedSequence p (asSequence (find y scope)) (λ c v. typedIf p (listedInts scope us) (within v))))
   unfolding eachIn
@@ -173,7 +189,7 @@ module _
     where
       last :
           (c : ℕ) (v : Γ ∋ suc c) (o : Option (List (Variable × (Γ ∋ 0)))) → Ints scope us o
-          → bodyThen (sequenceIn (spelled scope) p x us (kind.Depth (suc c))) body ≡ checkedOf (typedIf p o (within v))
+          → bodyThen (sequenceIn (spelled scope) p x us (kind.Depth (suc c))) body ≡ judgedOf (typedIf p o (within v))
       last c v none h =
           ap₂ (λ (a b : Bool). bodyThen (elim (a && b) as (λ z. Body) [ true ↦ inside (x .0 ∷ (suc c - 1) ∷ listedWords us) | false ↦ stop (WrongType p) ]) body)
           (lt-ltb 0 (suc c) (omega arith)) h
@@ -181,35 +197,32 @@ module _
           let down : suc c - 1 ≡ c = omega arith in
           ap₂ (λ (a b : Bool). bodyThen (elim (a && b) as (λ z. Body) [ true ↦ inside (x .0 ∷ (suc c - 1) ∷ listedWords us) | false ↦ stop (WrongType p) ]) body)
           (lt-ltb 0 (suc c) (omega arith)) (h .0)
-          ∙ (ap₂ (λ d w. body (x .0 ∷ d ∷ w)) down (sym (h .1)) ∙ body-is c v l)
+          ∙ (ap₂ (λ d w. body (x .0 ∷ d ∷ w)) down (sym (h .1)) ∙ body-is c v l (h .2))
 
       go :
           (f : Found Γ) (b : Bool)
           → bodyThen (elim (isBoundIn (kindOf f) && b) as (λ z. Body) [ true ↦ sequenceIn (spelled scope) p x us (kindOf f) | false ↦ stop (Unbound p) ]) body
-          ≡ checkedOf
+          ≡ judgedOf
           (demand (isBound f && b) (Unbound p) (typedSequence p (asSequence f) (λ c v. typedIf p (listedInts scope us) (within v))))
       go missing b = refl
       go (found d v) false = refl
       go (found zero v) true = refl
       go (found (suc c) v) true = last c v (listedInts scope us) (ints-are scope us)
 
-pub judge-is : {Γ : List ℕ} (scope : All Name Γ) (e : Raw) → judge (spelled scope) e ≡ checkedOf (checking.check scope e)
-unfolding judge checking.check spelled
-judge-is scope (records.var p x) = ap (varIn p) (depth-is x scope) ∙ var-is p (find x scope)
+pub judge-is : {Γ : List ℕ} (scope : All Name Γ) (e : Raw) → judge (spelled scope) e ≡ judgedOf (checking.check scope e)
+unfolding judge checking.check spelled words
+judge-is scope (records.var p x) = ap (λ k. sized (varIn p k)) (depth-is x scope) ∙ var-is p (find x scope)
 judge-is {Γ} scope (records.bind p x e₁ e₂) =
-    ap (λ z. thenDepth z (λ d. judge (x .0 ∷ d ∷ spelled scope) e₂)) (judge-is scope e₁)
-    ∙ bind-is (checking.check scope e₁) (λ d. judge (x .0 ∷ d ∷ spelled scope) e₂)
+    ap (λ z. thenTyped z (λ c n. thenTyped (judge (x .0 ∷ c ∷ spelled scope) e₂) (bound c n))) (judge-is scope e₁)
+    ∙ bind-is (checking.check scope e₁) (λ c n. thenTyped (judge (x .0 ∷ c ∷ spelled scope) e₂) (bound c n))
     (λ c t₁. typedThen (checking.check (x ▹ scope) e₂) (λ d t₂. typed d (terms.bind t₁ t₂)))
-    (λ c t₁. judge-is (_▹_ {d = c} x scope) e₂ ∙ typed-on c t₁ (checking.check (_▹_ {d = c} x scope) e₂))
-  where
-    typed-on :
-        (c : ℕ) (t₁ : Term Γ c) (T : Typed (c ∷ Γ)) → checkedOf T ≡ checkedOf (typedThen T (λ d t₂. typed d (terms.bind t₁ t₂)))
-    typed-on c t₁ (refused r) = refl
-    typed-on c t₁ (typed d t₂) = refl
+    (λ c t₁.
+    ap (λ z. thenTyped z (bound c (words t₁))) (judge-is (_▹_ {d = c} x scope) e₂)
+    ∙ bind-is (checking.check (_▹_ {d = c} x scope) e₂) (bound c (words t₁)) (λ d t₂. typed d (terms.bind t₁ t₂)) (λ d t₂. refl))
 judge-is scope (records.const p z) = refl
-judge-is scope (records.iota p x) = ap (wantIn p 0 1) (depth-is x scope) ∙ iota-is p (find x scope)
-judge-is scope (records.plus p x y) = ap₂ (plusIn p) (depth-is x scope) (depth-is y scope) ∙ plus-is p (find x scope) (find y scope)
-judge-is scope (records.sum p x) = ap (wantIn p 1 0) (depth-is x scope) ∙ sum-is p (find x scope)
+judge-is scope (records.iota p x) = ap (λ k. sized (wantIn p 0 1 k)) (depth-is x scope) ∙ iota-is p (find x scope)
+judge-is scope (records.plus p x y) = ap₂ (λ k l. sized (plusIn p k l)) (depth-is x scope) (depth-is y scope) ∙ plus-is p (find x scope) (find y scope)
+judge-is scope (records.sum p x) = ap (λ k. sized (wantIn p 1 0 k)) (depth-is x scope) ∙ sum-is p (find x scope)
 judge-is scope (records.each p x y us e) = each-is scope p x y us e (λ Δ names. judge-is names e)
 
 -- ---- the inputs
@@ -259,14 +272,27 @@ enter-is seen {Γ} scope (i ∷ is) a =
     go false (found d v) e h r = let z : _≡_ {A = ℕ} 0 1 = cc in absurd (omega arith)
 
 -- the whole check of a formula over pairs: a repeated input is told before the expression is walked
-abbrev pub entryThen : Entry → (List ℕ → Checked) → Checked
-entryThen (again p) f = Refused (Unbound p)
+abbrev pub entryThen : Entry → (List ℕ → Judged) → Judged
+entryThen (again p) f = judged.Refused (Unbound p)
 entryThen (entered w) f = f w
 
-pub formula-is : (is : List Input) (e : Raw) → entryThen (enterIn [] is) (λ w. judge w e) ≡ checkedOf (checking.checkFormula is e)
+pub formula-is : (is : List Input) (e : Raw) → entryThen (enterIn [] is) (λ w. judge w e) ≡ judgedOf (checking.checkFormula is e)
 unfolding spelled
 formula-is is e = go (repeated [] is) (enter-is [] ∅ is none-seen)
   where
-    go : (o : Option ℕ) → Entering ∅ is o → entryThen (enterIn [] is) (λ w. judge w e) ≡ checkedOf (checkInputs o (checking.check (turned ∅ (inputNames is)) e))
+    go : (o : Option ℕ) → Entering ∅ is o → entryThen (enterIn [] is) (λ w. judge w e) ≡ judgedOf (checkInputs o (checking.check (turned ∅ (inputNames is)) e))
     go none h = ap (λ z. entryThen z (λ w. judge w e)) h ∙ judge-is (turned ∅ (inputNames is)) e
     go (some p) h = ap (λ z. entryThen z (λ w. judge w e)) h
+
+-- what a caller that asks for the type alone reads of the answer
+abbrev pub depthOf : Judged → Checked
+depthOf (judged.Refused r) = Refused r
+depthOf (judged.Typed d n) = Depth d
+
+pub depth-of-front : (f : records.Front) → depthOf (judgeFront f) ≡ checkFront f
+depth-of-front (records.refused r) = refl
+depth-of-front (records.front is k e next) = go (checking.checkFormula is e)
+  where
+    go : {Γ : List ℕ} (T : Typed Γ) → depthOf (judgedOf T) ≡ checkedOf T
+    go (refused r) = refl
+    go (typed d t) = refl

@@ -5,30 +5,31 @@ use mathlib.Core.List.{List, [], _∷_, _++_}
 use mathlib.Core.Path.{_≡_, refl, sym, ap, ap₂, subst, _∙_}
 use native.Mathlib.Omega.{arith}
 use lib.Dec.{ltb}
-use lib.ListN.{length, take, drop}
-use lib.Seq.{drop-drop, take-at, drop-at}
-use borrow.Author.Tests.{lt-ltb, le-ltb}
+use lib.ListN.{length, getD, take, drop, List·getD-append}
+use lib.Seq.{drop-drop, take-at, drop-at, getD-drop}
 use Rattle.snesl.specs.declared.code.Variable.{Variable}
 use Rattle.snesl.specs.declared.refusal.Refusal.{Refusal}
 use Rattle.snesl.specs.declared.refusal.Refusal.the-variants.{Unbound, WrongType}
 use Rattle.snesl.specs.Limits.{mostListed, mostDepth}
 use Rattle.snesl.specs.Records.{Raw, scanned, scan, headAt, variablesAt}
-use Rattle.checking.specs.declared.check.Checked.{Checked}
-use Rattle.checking.specs.declared.check.Checked.the-variants.{Depth, Refused}
+use Rattle.checking.specs.declared.check.Judged.{Judged}
+use Rattle.checking.specs.declared.check.Judged.the-variants.{Typed, Refused}
 use Rattle.checking.specs.declared.check.Turn.{Turn}
 use Rattle.checking.specs.declared.check.Turn.the-variants as turn
-use Rattle.checking.specs.declared.check.Walked.{Walked}
-use Rattle.checking.specs.declared.check.Walked.the-variants as walked
+use Rattle.checking.specs.declared.check.Judging.{Judging}
+use Rattle.checking.specs.declared.check.Judging.the-variants as judging
 use Rattle.scopes.specs.declared.listed.Prepared.{Prepared}
 use Rattle.scopes.specs.declared.scope.Kind.{Kind}
 use Rattle.scopes.specs.declared.scope.Kind.the-variants as kind
 use Rattle.records.specs.Heads.{headOf}
 use Rattle.scopes.specs.Scopes.{scope, depthIn, Pushed}
 use Rattle.scopes.specs.UsingLists.{Body, stop, inside, isBoundIn, usableIn, intsIn, listedWords, sequenceIn, eachIn, Inside, Stopped, Prepares}
-use Rattle.checking.specs.Checks.{thenDepth, bodyThen, closed, judge, turnIn, walkedOf, mostPushed, Ready, Walks}
+use Rattle.environment.specs.Words.{treeSize}
+use Rattle.checking.specs.Checks.{thenTyped, bodyThen, bound, closed, newest, judge, turnIn, judgingOf, boundIn, closedIn, wordsOf, mostTaken, mostWords, mostPushed, Judgeable, Judges}
 use Rattle.records.proofs.Variables.{length-variables}
 use Rattle.scopes.proofs.Listing.{length-words}
-use Rattle.checking.proofs.Walking.{Lets, Eaches, Turned, turned-is}
+use Rattle.checking.proofs.Closing.{bound-of, closed-of, bound-few, closed-few}
+use Rattle.checking.proofs.Walking.{own-level, Lets, Eaches, Turned, turned-is}
 
 -- ---- the stack
 
@@ -63,6 +64,9 @@ module _ {b : Body} {old new : List ℕ} {sp r : ℕ} (p : Inside b sp old new r
       ∙ (sym (drop-drop (length (p .pairs)) r new)
       ∙ (ap (drop (length (p .pairs))) (p .words) ∙ drop-at (p .pairs) (drop sp old) (length (p .pairs)) refl))
 
+  inside-newest : 2 ≤ length (p .pairs) → getD new (r + 1) 0 ≡ newest (p .pairs)
+  inside-newest h = sym (getD-drop r new 1 0) ∙ (ap newest (p .words) ∙ List·getD-append (p .pairs) (drop sp old) 0 1 h)
+
 -- a body's scope is x and the listed variables
 inside-length : (w : List ℕ) (k : ℕ) (x y : Variable) (us : List Variable) (v : List ℕ) → eachIn w k x y us ≡ inside v → length v ≡ 2 * (1 + length us)
 unfolding eachIn
@@ -82,49 +86,55 @@ inside-length w k x y us v e = go (isBoundIn (depthIn (y .0) w) && usableIn w x 
 
 -- ---- answers
 
-pub was-refused : (m : ℕ) (c : Checked) {f : Refusal} → walked.Refused f ≡ walkedOf m c → c ≡ Refused f
+pub was-refused : (m : ℕ) (c : Judged) {f : Refusal} → judging.Refused f ≡ judgingOf m c → c ≡ Refused f
 was-refused m (Refused r) e = cc
-was-refused m (Depth d) e = cc
+was-refused m (Typed d n) e = cc
 
-pub was-found : (m : ℕ) (c : Checked) {n d : ℕ} → walked.Found n d ≡ walkedOf m c → (m ≡ n) × (c ≡ Depth d)
+pub was-found : (m : ℕ) (c : Judged) {k d n : ℕ} → judging.Found k d n ≡ judgingOf m c → (m ≡ k) × (c ≡ Typed d n)
 was-found m (Refused r) e = (cc, cc)
-was-found m (Depth d) e = (cc, cc)
+was-found m (Typed d n) e = (cc, cc)
 
-pub walks-at :
-    {t : List ℕ} {k levels : ℕ} {old : List ℕ} {sp floor : ℕ} {new : List ℕ} {r s : Walked}
-    → r ≡ s → Walks t k levels old sp floor new r → Walks t k levels old sp floor new s
-walks-at {t} {k} {levels} {old} {sp} {floor} {new} e w = subst (Walks t k levels old sp floor new) e w
+pub judges-at :
+    {t : List ℕ} {k levels : ℕ} {old : List ℕ} {sp floor : ℕ} {new : List ℕ} {r s : Judging}
+    → r ≡ s → Judges t k levels old sp floor new r → Judges t k levels old sp floor new s
+judges-at {t} {k} {levels} {old} {sp} {floor} {new} e w = subst (Judges t k levels old sp floor new) e w
 
 pub prepares-at : (b : Body) (sp : ℕ) (old new : List ℕ) {r s : Prepared} → r ≡ s → Prepares b sp old new r → Prepares b sp old new s
 prepares-at b sp old new e p = subst (Prepares b sp old new) e p
 
-module _ (t : List ℕ) (k levels : ℕ) (env : List ℕ) (sp floor : ℕ) where
+module _ {t : List ℕ} {k levels : ℕ} {env : List ℕ} {sp floor : ℕ} (here : Judgeable t k levels env sp floor) where
   of-turn :
-      {r : Turn} → r ≡ turnIn (scope sp floor env) k (headOf (headAt t k)) → (g : Ready t k levels env sp floor)
+      {r : Turn} → r ≡ turnIn (scope sp floor env) k (headOf (headAt t k)) → (g : Judgeable t k levels env sp floor)
       → Turned t k (scope sp floor env) (g .count) (g .expression) (g .next) (g .after) levels r
   of-turn p g = turned-is t k (scope sp floor env) (g .count) (g .expression) (g .next) (g .after) levels (g .read) p
 
   pub leaf-refused :
-      (f : Refusal) → turn.Refused f ≡ turnIn (scope sp floor env) k (headOf (headAt t k)) → Walks t k levels env sp floor env (walked.Refused f)
-  leaf-refused f p = record { above = refl; answer = λ g. ap (walkedOf (g .next)) (sym (of-turn p g)) }
+      (f : Refusal) → turn.Refused f ≡ turnIn (scope sp floor env) k (headOf (headAt t k)) → Judges t k levels env sp floor env (judging.Refused f)
+  leaf-refused f p = record { above = refl; few = omega arith; answer = λ g. ap (judgingOf (g .next)) (sym (of-turn p g)) }
 
   pub leaf-found :
-      (m d : ℕ) → turn.Found m d ≡ turnIn (scope sp floor env) k (headOf (headAt t k)) → Walks t k levels env sp floor env (walked.Found m d)
-  leaf-found m d p =
+      (m d : ℕ) → turn.Found m d ≡ turnIn (scope sp floor env) k (headOf (headAt t k)) → d < 256
+      → Judges t k levels env sp floor env (judging.Found m d (treeSize d))
+  leaf-found m d p h =
       record {
         above = refl;
-        answer = λ g. ap (λ z. walked.Found z d) (of-turn p g .1) ∙ ap (walkedOf (g .next)) (sym (of-turn p g .0));
+        few = omega (arith, h, own-level levels t k (here .count) (here .read));
+        answer = λ g. ap (λ z. judging.Found z d (treeSize d)) (of-turn p g .1) ∙ ap (judgingOf (g .next)) (sym (of-turn p g .0));
       }
+
+  -- what an answer of an expression inside takes
+  pub inner-few : {i : ℕ} {old new : List ℕ} {s f : ℕ} {r : Judging} → Judges t i (levels - 1) old s f new r → wordsOf r ≤ mostWords
+  inner-few v = omega (arith, v .few, here .shallow)
 
   -- LT: the first expression, and the second in a scope with x
   module _ {x : Variable} (p : turn.Let x ≡ turnIn (scope sp floor env) k (headOf (headAt t k))) where
-    lets : (g : Ready t k levels env sp floor) → Lets t k levels (g .count) (g .expression) (g .next) (g .after) x
+    lets : (g : Judgeable t k levels env sp floor) → Lets t k levels (g .count) (g .expression) (g .next) (g .after) x
     lets g = of-turn p g
 
-    pub let-fits : Ready t k levels env sp floor → (k + 3 ≤ length t) × (2 ≤ levels) × (mostPushed ≤ sp)
-    let-fits g = (lets g .fits, lets g .deep, omega (arith, lets g .deep, g .room))
+    pub let-fits : (k + 3 ≤ length t) × (2 ≤ levels) × (mostPushed ≤ sp)
+    let-fits = (lets here .fits, lets here .deep, omega (arith, lets here .deep, here .room))
 
-    pub let-first : Ready t k levels env sp floor → Ready t (k + 3) (levels - 1) env sp floor
+    pub let-first : Judgeable t k levels env sp floor → Judgeable t (k + 3) (levels - 1) env sp floor
     let-first g =
         record {
           count = g .count + 1;
@@ -132,35 +142,40 @@ module _ (t : List ℕ) (k levels : ℕ) (env : List ℕ) (sp floor : ℕ) where
           next = lets g .middle;
           after = lets g .between;
           read = lets g .read-first;
+          shallow = omega (arith, g .shallow);
           room = omega (arith, g .room);
           order = g .order;
           high = g .high;
         }
 
-    judged : (g : Ready t k levels env sp floor) → judge (scope sp floor env) (g .expression) ≡ thenDepth (judge (scope sp floor env) (lets g .first)) (λ d. judge (x .0 ∷ d ∷ scope sp floor env) (lets g .second))
+    abbrev rest : Raw → ℕ → ℕ → Judged
+    rest e c n = thenTyped (judge (x .0 ∷ c ∷ scope sp floor env) e) (bound c n)
+
+    judged : (g : Judgeable t k levels env sp floor) → judge (scope sp floor env) (g .expression) ≡ thenTyped (judge (scope sp floor env) (lets g .first)) (rest (lets g .second))
     unfolding judge
     judged g = ap (judge (scope sp floor env)) (lets g .is)
 
     pub let-refused :
-        {mid : List ℕ} (f : Refusal) → Walks t (k + 3) (levels - 1) env sp floor mid (walked.Refused f)
-        → Walks t k levels env sp floor mid (walked.Refused f)
+        {mid : List ℕ} (f : Refusal) → Judges t (k + 3) (levels - 1) env sp floor mid (judging.Refused f)
+        → Judges t k levels env sp floor mid (judging.Refused f)
     unfolding lets let-first
     let-refused f s =
         record {
           above = s .above;
+          few = omega arith;
           answer = λ g.
               (let c = was-refused (lets g .middle) (judge (scope sp floor env) (lets g .first)) (s .answer (let-first g)) in
-              sym (ap (walkedOf (g .next)) (judged g ∙ ap (λ z. thenDepth z (λ d. judge (x .0 ∷ d ∷ scope sp floor env) (lets g .second))) c)));
+              sym (ap (judgingOf (g .next)) (judged g ∙ ap (λ z. thenTyped z (rest (lets g .second))) c)));
         }
 
     module _
-        {mid new : List ℕ} {m d inner : ℕ} (s : Walks t (k + 3) (levels - 1) env sp floor mid (walked.Found m d))
+        {mid new : List ℕ} {m d n inner : ℕ} (s : Judges t (k + 3) (levels - 1) env sp floor mid (judging.Found m d n))
         (u : Pushed mid sp (x .0) d new inner) (l : length new ≡ length env) where
-      first-found : (g : Ready t k levels env sp floor) → (lets g .middle ≡ m) × (judge (scope sp floor env) (lets g .first) ≡ Depth d)
+      first-found : (g : Judgeable t k levels env sp floor) → (lets g .middle ≡ m) × (judge (scope sp floor env) (lets g .first) ≡ Typed d n)
       unfolding lets let-first
       first-found g = was-found (lets g .middle) (judge (scope sp floor env) (lets g .first)) (s .answer (let-first g))
 
-      pub let-second : Ready t k levels env sp floor → Ready t m (levels - 1) new inner floor
+      pub let-second : Judgeable t k levels env sp floor → Judgeable t m (levels - 1) new inner floor
       let-second g =
           record {
             count = lets g .between;
@@ -168,110 +183,96 @@ module _ (t : List ℕ) (k levels : ℕ) (env : List ℕ) (sp floor : ℕ) where
             next = g .next;
             after = g .after;
             read = subst (λ z. scan (levels - 1) t z (lets g .between) ≡ scanned (lets g .second) (g .next) (g .after)) (first-found g .0) (lets g .read-second);
+            shallow = omega (arith, g .shallow);
             room = omega (arith, g .room, u .at);
             order = omega (arith, g .order, u .at);
             high = omega (arith, g .high);
           }
 
-      pub let-walks :
-          {last : List ℕ} {r : Walked} → sp ≤ floor → Walks t m (levels - 1) new inner floor last r → Walks t k levels env sp floor last r
+      pub let-judges :
+          {last : List ℕ} {r : Judging} → d < 256 → Judges t m (levels - 1) new inner floor last r
+          → Judges t k levels env sp floor last (boundIn d n r)
       unfolding let-second
-      let-walks {last} h v =
+      let-judges {last} {r} h v =
           record {
             above = from-later inner sp last new (omega (arith, u .at)) (v .above) ∙ (pushed-above u ∙ s .above);
+            few = omega (arith, bound-few d n r h (s .few) (v .few), lets here .deep);
             answer = λ g.
                 (let same : scope inner floor new ≡ x .0 ∷ d ∷ scope sp floor env =
-                pushed-scope u floor h ∙ ap (λ z. x .0 ∷ d ∷ z) (scope-same sp floor mid env (s .above)) in
-                v .answer (let-second g)
-                ∙ (ap (λ z. walkedOf (g .next) (judge z (lets g .second))) same
-                ∙ sym
-                (ap (walkedOf (g .next))
-                (judged g ∙ ap (λ z. thenDepth z (λ d. judge (x .0 ∷ d ∷ scope sp floor env) (lets g .second))) (first-found g .1)))));
+                pushed-scope u floor (g .order) ∙ ap (λ z. x .0 ∷ d ∷ z) (scope-same sp floor mid env (s .above)) in
+                ap (boundIn d n) (v .answer (let-second g) ∙ ap (λ z. judgingOf (g .next) (judge z (lets g .second))) same)
+                ∙ (bound-of (g .next) d n (judge (x .0 ∷ d ∷ scope sp floor env) (lets g .second))
+                ∙ sym (ap (judgingOf (g .next)) (judged g ∙ ap (λ z. thenTyped z (rest (lets g .second))) (first-found g .1)))));
           }
 
   -- EA: the body in a scope of its own
   module _ {x y : Variable} {j : ℕ} (p : turn.Each x y j ≡ turnIn (scope sp floor env) k (headOf (headAt t k))) where
-    eaches : (g : Ready t k levels env sp floor) → Eaches t k levels (g .count) (g .expression) (g .next) (g .after) x y j
+    eaches : (g : Judgeable t k levels env sp floor) → Eaches t k levels (g .count) (g .expression) (g .next) (g .after) x y j
     eaches g = of-turn p g
 
-    pub each-fits : Ready t k levels env sp floor → (k + (5 + j) ≤ length t) × (2 ≤ levels) × (2 * (1 + j) ≤ sp)
-    each-fits g = (eaches g .fits, eaches g .deep, omega (arith, eaches g .deep, eaches g .few, g .room))
+    pub each-fits : (k + (5 + j) ≤ length t) × (2 ≤ levels) × (2 * (1 + j) ≤ sp) × (j ≤ mostListed)
+    each-fits = (eaches here .fits, eaches here .deep, omega (arith, eaches here .deep, eaches here .few, here .room), eaches here .few)
+
+    abbrev inBody : Raw → List ℕ → Judged
+    inBody e v = thenTyped (judge v e) (closed k (newest v) (length (variablesAt t (k + 5) j)))
 
     parted :
-        (g : Ready t k levels env sp floor)
+        (g : Judgeable t k levels env sp floor)
         → judge (scope sp floor env) (g .expression)
-        ≡ bodyThen (eachIn (scope sp floor env) k x y (variablesAt t (k + 5) j)) (λ v. thenDepth (judge v (eaches g .body)) (closed k))
+        ≡ bodyThen (eachIn (scope sp floor env) k x y (variablesAt t (k + 5) j)) (inBody (eaches g .body))
     unfolding judge
     parted g = ap (judge (scope sp floor env)) (eaches g .is)
 
     pub each-refused :
         {mid : List ℕ} (f : Refusal) → Stopped (eachIn (scope sp floor env) k x y (variablesAt t (k + 5) j)) env mid f
-        → Walks t k levels env sp floor mid (walked.Refused f)
+        → Judges t k levels env sp floor mid (judging.Refused f)
     each-refused f s =
         record {
           above = ap (drop sp) (s .kept);
-          answer = λ g.
-              sym (ap (walkedOf (g .next)) (parted g ∙ ap (λ z. bodyThen z (λ v. thenDepth (judge v (eaches g .body)) (closed k))) (s .is)));
+          few = omega arith;
+          answer = λ g. sym (ap (judgingOf (g .next)) (parted g ∙ ap (λ z. bodyThen z (inBody (eaches g .body))) (s .is)));
         }
 
     module _
         {mid : List ℕ} {inner : ℕ} (s : Inside (eachIn (scope sp floor env) k x y (variablesAt t (k + 5) j)) sp env mid inner)
         (l : length mid ≡ length env) where
-      pub each-body : Ready t k levels env sp floor → Ready t (k + (5 + j)) (levels - 1) mid inner sp
-      each-body g =
+      body-length : length (s .pairs) ≡ 2 * (1 + j)
+      body-length =
           let n = inside-length (scope sp floor env) k x y (variablesAt t (k + 5) j) (s .pairs) (s .is) in
+          omega (arith, n, length-variables t (k + 5) j)
+
+      pub element-fits : inner + 1 < length mid
+      element-fits = omega (arith, s .at, body-length, here .order, here .high)
+
+      pub each-body : Judgeable t k levels env sp floor → Judgeable t (k + (5 + j)) (levels - 1) mid inner sp
+      each-body g =
           record {
             count = g .count + 1;
             expression = eaches g .body;
             next = g .next;
             after = g .after;
             read = eaches g .read;
-            room = omega (arith, g .room, s .at, n, length-variables t (k + 5) j, eaches g .few);
+            shallow = omega (arith, g .shallow);
+            room = omega (arith, g .room, s .at, body-length, eaches g .few);
             order = omega (arith, s .at);
             high = omega (arith, g .order, g .high);
           }
 
-      module _ {last : List ℕ} {r : Walked} (v : Walks t (k + (5 + j)) (levels - 1) mid inner sp last r) where
-        kept : drop sp last ≡ drop sp env
-        kept = from-later inner sp last mid (omega (arith, s .at)) (v .above) ∙ inside-above s
-
-        body-answer : (g : Ready t k levels env sp floor) → r ≡ walkedOf (g .next) (judge (s .pairs) (eaches g .body))
+      module _ {last : List ℕ} {r : Judging} (v : Judges t (k + (5 + j)) (levels - 1) mid inner sp last r) where
+        body-answer : (g : Judgeable t k levels env sp floor) → r ≡ judgingOf (g .next) (judge (s .pairs) (eaches g .body))
         unfolding eaches each-body
-        body-answer g = v .answer (each-body g) ∙ ap (λ z. walkedOf (g .next) (judge z (eaches g .body))) (inside-scope s)
+        body-answer g = v .answer (each-body g) ∙ ap (λ z. judgingOf (g .next) (judge z (eaches g .body))) (inside-scope s)
 
-        closing :
-            (g : Ready t k levels env sp floor) (c : Checked) → judge (s .pairs) (eaches g .body) ≡ c
-            → walkedOf (g .next) (thenDepth c (closed k)) ≡ walkedOf (g .next) (judge (scope sp floor env) (g .expression))
-        closing g c e =
-            sym
-            (ap (walkedOf (g .next))
-            (parted g
-            ∙ (ap (λ z. bodyThen z (λ v. thenDepth (judge v (eaches g .body)) (closed k))) (s .is) ∙ ap (λ z. thenDepth z (closed k)) e)))
-
-      pub each-stopped :
-          {last : List ℕ} (f : Refusal) → Walks t (k + (5 + j)) (levels - 1) mid inner sp last (walked.Refused f)
-          → Walks t k levels env sp floor last (walked.Refused f)
-      each-stopped f v =
-          record {
-            above = kept v;
-            answer = λ g. closing v g (Refused f) (was-refused (g .next) (judge (s .pairs) (eaches g .body)) (body-answer v g));
-          }
-
-      module _ {last : List ℕ} {m d : ℕ} (v : Walks t (k + (5 + j)) (levels - 1) mid inner sp last (walked.Found m d)) where
-        found-body : (g : Ready t k levels env sp floor) → (g .next ≡ m) × (judge (s .pairs) (eaches g .body) ≡ Depth d)
-        found-body g = was-found (g .next) (judge (s .pairs) (eaches g .body)) (body-answer v g)
-
-        by-depth :
-            (g : Ready t k levels env sp floor) (b : Bool) → ltb d mostDepth ≡ b
-            → walkedOf m (elim b [ true ↦ Depth (d + 1) | false ↦ Refused (WrongType k) ])
-            ≡ walkedOf (g .next) (judge (scope sp floor env) (g .expression))
-        by-depth g b e =
-            ap₂ (λ n (c : Bool). walkedOf n (elim c as (λ z. Checked) [ true ↦ Depth (d + 1) | false ↦ Refused (WrongType k) ]))
-            (sym (found-body g .0)) (sym e)
-            ∙ closing v g (Depth d) (found-body g .1)
-
-        pub each-closed : d < mostDepth → Walks t k levels env sp floor last (walked.Found m (d + 1))
-        each-closed h = record { above = kept v; answer = λ g. by-depth g true (lt-ltb d mostDepth h) }
-
-        pub each-over : mostDepth ≤ d → Walks t k levels env sp floor last (walked.Refused (WrongType k))
-        each-over h = record { above = kept v; answer = λ g. by-depth g false (le-ltb d mostDepth h) }
+        pub each-judges :
+            {c : ℕ} → c ≡ getD mid (inner + 1) 0 → c < 256 → Judges t k levels env sp floor last (closedIn k c j r)
+        each-judges {c} e h =
+            record {
+              above = from-later inner sp last mid (omega (arith, s .at)) (v .above) ∙ inside-above s;
+              few = omega (arith, closed-few k c j r h (eaches here .few) (v .few), eaches here .deep);
+              answer = λ g.
+                  (let of = e ∙ inside-newest s (omega (arith, body-length)) in
+                  ap (closedIn k c j) (body-answer g)
+                  ∙ (closed-of (g .next) k c j (judge (s .pairs) (eaches g .body))
+                  ∙ (ap₂ (λ a i. judgingOf (g .next) (thenTyped (judge (s .pairs) (eaches g .body)) (closed k a i))) of (sym (length-variables t (k + 5) j))
+                  ∙ sym (ap (judgingOf (g .next)) (parted g ∙ ap (λ z. bodyThen z (inBody (eaches g .body))) (s .is))))));
+            }

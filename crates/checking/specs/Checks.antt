@@ -1,13 +1,13 @@
 -- Checking a whole expression over scopes as the code holds them, and the walk's part in it.
-use Prim.Native.Nat.{ℕ, zero, suc, _+_, _-_, _*_, _≤_}
+use Prim.Native.Nat.{ℕ, zero, suc, _+_, _-_, _*_, _≤_, max}
 use mathlib.Core.Bool.{Bool, true, false, _&&_}
 use mathlib.Core.List.{List, [], _∷_}
 use mathlib.Core.Path.{_≡_}
 use lib.Dec.{eqb, ltb}
-use lib.ListN.{length, drop}
+use lib.ListN.{length, getD, drop}
 use Rattle.snesl.specs.declared.refusal.Refusal.{Refusal}
 use Rattle.snesl.specs.declared.refusal.Refusal.the-variants.{NoRecord, OverLimit, Unbound, WrongType}
-use Rattle.snesl.specs.Limits.{mostDepth, mostListed, mostInputs}
+use Rattle.snesl.specs.Limits.{mostDepth, mostListed, mostNesting, mostInputs}
 use Rattle.snesl.specs.Records as records
 use Rattle.snesl.specs.Checking as checking
 use Rattle.scopes.specs.declared.scope.Kind.{Kind}
@@ -18,12 +18,16 @@ use Rattle.checking.specs.declared.check.Checked.{Checked}
 use Rattle.checking.specs.declared.check.Checked.the-variants.{Depth, Refused}
 use Rattle.checking.specs.declared.check.Turn.{Turn}
 use Rattle.checking.specs.declared.check.Turn.the-variants as turn
-use Rattle.checking.specs.declared.check.Walked.{Walked}
-use Rattle.checking.specs.declared.check.Walked.the-variants as walked
-use Rattle.checking.specs.declared.check.Entered.{Entered}
-use Rattle.checking.specs.declared.check.Entered.the-variants as enters
+use Rattle.checking.specs.declared.check.Judged.{Judged}
+use Rattle.checking.specs.declared.check.Judged.the-variants as judged
+use Rattle.checking.specs.declared.check.Judging.{Judging}
+use Rattle.checking.specs.declared.check.Judging.the-variants as judging
+use Rattle.checking.specs.declared.check.Opened.{Opened}
+use Rattle.checking.specs.declared.check.Opened.the-variants as opened
 use Rattle.scopes.specs.Scopes.{scope, depthIn}
 use Rattle.scopes.specs.UsingLists.{Body, stop, inside, eachIn}
+use Rattle.environment.specs.Words.{treeSize}
+use Rattle.environment.specs.Needs.{bindingSize, bodySize, words}
 
 -- what the public functions answer of snesl's check
 abbrev pub checkedOf : {Γ : List ℕ} → checking.Typed Γ → Checked
@@ -34,6 +38,15 @@ checkedOf (checking.typed d e) = Depth d
 abbrev pub checkFront : records.Front → Checked
 checkFront (records.refused r) = Refused r
 checkFront (records.front is k e next) = checkedOf (checking.checkFormula is e)
+
+-- the same with the words that the walk of the typed expression takes
+abbrev pub judgedOf : {Γ : List ℕ} → checking.Typed Γ → Judged
+judgedOf (checking.refused r) = judged.Refused r
+judgedOf (checking.typed d e) = judged.Typed d (words e)
+
+abbrev pub judgeFront : records.Front → Judged
+judgeFront (records.refused r) = judged.Refused r
+judgeFront (records.front is k e next) = judgedOf (checking.checkFormula is e)
 
 -- one record without the expressions inside it
 abbrev pub varIn : (place : ℕ) → Kind → Checked
@@ -49,26 +62,39 @@ plusIn p kind.Missing l = Refused (Unbound p)
 plusIn p (kind.Depth a) kind.Missing = Refused (Unbound p)
 plusIn p (kind.Depth a) (kind.Depth b) = elim (eqb a 0 && eqb b 0) [ true ↦ Depth 0 | false ↦ Refused (WrongType p) ]
 
-abbrev pub thenDepth : Checked → (ℕ → Checked) → Checked
-thenDepth (Refused r) f = Refused r
-thenDepth (Depth d) f = f d
+-- its walk takes the tree of its result
+abbrev pub sized : Checked → Judged
+sized (Refused r) = judged.Refused r
+sized (Depth d) = judged.Typed d (treeSize d)
 
-abbrev pub bodyThen : Body → (List ℕ → Checked) → Checked
-bodyThen (stop r) f = Refused r
+abbrev pub thenTyped : Judged → (ℕ → ℕ → Judged) → Judged
+thenTyped (judged.Refused r) f = judged.Refused r
+thenTyped (judged.Typed d n) f = f d n
+
+abbrev pub bodyThen : Body → (List ℕ → Judged) → Judged
+bodyThen (stop r) f = judged.Refused r
 bodyThen (inside w) f = f w
 
--- a comprehension's depth when its body is done
-abbrev pub closed : (place d : ℕ) → Checked
-closed p d = elim (ltb d mostDepth) [ true ↦ Depth (d + 1) | false ↦ Refused (WrongType p) ]
+-- a let of a first expression of depth c, when its second one is done
+abbrev pub bound : (c first : ℕ) → (d second : ℕ) → Judged
+bound c n d m = judged.Typed d (max n (bindingSize c + m))
 
-unfoldable pub judge : List ℕ → records.Raw → Checked
-judge w (records.var p x) = varIn p (depthIn (x .0) w)
-judge w (records.bind p x e₁ e₂) = thenDepth (judge w e₁) (λ d. judge (x .0 ∷ d ∷ w) e₂)
-judge w (records.const p z) = Depth 0
-judge w (records.iota p x) = wantIn p 0 1 (depthIn (x .0) w)
-judge w (records.plus p x y) = plusIn p (depthIn (x .0) w) (depthIn (y .0) w)
-judge w (records.sum p x) = wantIn p 1 0 (depthIn (x .0) w)
-judge w (records.each p x y us e) = bodyThen (eachIn w p x y us) (λ v. thenDepth (judge v e) (closed p))
+-- a comprehension over elements of depth c, when its body is done
+abbrev pub closed : (place c listed : ℕ) → (d words : ℕ) → Judged
+closed p c j d n = elim (ltb d mostDepth) [ true ↦ judged.Typed (d + 1) (bodySize c j + n) | false ↦ judged.Refused (WrongType p) ]
+
+-- the depth of a scope's newest variable
+abbrev pub newest : List ℕ → ℕ
+newest w = getD w 1 0
+
+unfoldable pub judge : List ℕ → records.Raw → Judged
+judge w (records.var p x) = sized (varIn p (depthIn (x .0) w))
+judge w (records.bind p x e₁ e₂) = thenTyped (judge w e₁) (λ c n. thenTyped (judge (x .0 ∷ c ∷ w) e₂) (bound c n))
+judge w (records.const p z) = sized (Depth 0)
+judge w (records.iota p x) = sized (wantIn p 0 1 (depthIn (x .0) w))
+judge w (records.plus p x y) = sized (plusIn p (depthIn (x .0) w) (depthIn (y .0) w))
+judge w (records.sum p x) = sized (wantIn p 1 0 (depthIn (x .0) w))
+judge w (records.each p x y us e) = bodyThen (eachIn w p x y us) (λ v. thenTyped (judge v e) (closed p (newest v) (length us)))
 
 abbrev pub leafIn : (next : ℕ) → Checked → Turn
 leafIn next (Refused r) = turn.Refused r
@@ -86,29 +112,51 @@ turnIn w k (head.Plus x y) = leafIn (k + 4) (plusIn k (depthIn (x .0) w) (depthI
 turnIn w k (head.Sum x) = leafIn (k + 3) (wantIn k 1 0 (depthIn (x .0) w))
 turnIn w k (head.Each x y j) = turn.Each x y j
 
-abbrev pub walkedOf : (next : ℕ) → Checked → Walked
-walkedOf next (Refused r) = walked.Refused r
-walkedOf next (Depth d) = walked.Found next d
+abbrev pub judgingOf : (next : ℕ) → Judged → Judging
+judgingOf next (judged.Refused r) = judging.Refused r
+judgingOf next (judged.Typed d n) = judging.Found next d n
+
+-- a let's answer from its second expression's, and a comprehension's from its body's
+abbrev pub boundIn : (c first : ℕ) → Judging → Judging
+boundIn c n (judging.Refused r) = judging.Refused r
+boundIn c n (judging.Found next d m) = judgingOf next (bound c n d m)
+
+abbrev pub closedIn : (place c listed : ℕ) → Judging → Judging
+closedIn p c j (judging.Refused r) = judging.Refused r
+closedIn p c j (judging.Found next d n) = judgingOf next (closed p c j d n)
+
+abbrev pub wordsOf : Judging → ℕ
+wordsOf (judging.Refused r) = 0
+wordsOf (judging.Found next d n) = n
+
+-- words that one nesting takes at most, where all that is known of a depth is that it is a byte: enough to see that no sum of them is too large
+abbrev pub mostTaken : ℕ
+mostTaken = bodySize 255 mostListed
+
+abbrev pub mostWords : ℕ
+mostWords = mostTaken * suc mostNesting
 
 -- bytes of the stack that one nesting takes at most: x and the listed variables, a pair each
 abbrev pub mostPushed : ℕ
 mostPushed = 2 * (1 + mostListed)
 
 -- An expression stands at k with `levels` nestings left, its own included, and below sp there is room for what they push.
-pub record Ready (t : List ℕ) (k levels : ℕ) (env : List ℕ) (sp floor : ℕ) : Type 0 where
+pub record Judgeable (t : List ℕ) (k levels : ℕ) (env : List ℕ) (sp floor : ℕ) : Type 0 where
   pub count : ℕ
   pub expression : records.Raw
   pub next : ℕ
   pub after : ℕ
   pub read : records.scan levels t k count ≡ records.scanned expression next after
+  pub shallow : levels ≤ suc mostNesting
   pub room : mostPushed * levels ≤ sp + mostPushed
   pub order : sp ≤ floor
   pub high : floor ≤ length env
 
 -- The answer is that expression's, whichever it is, and the stack from sp on is as it was.
-pub record Walks (t : List ℕ) (k levels : ℕ) (old : List ℕ) (sp floor : ℕ) (new : List ℕ) (r : Walked) : Type 0 where
+pub record Judges (t : List ℕ) (k levels : ℕ) (old : List ℕ) (sp floor : ℕ) (new : List ℕ) (r : Judging) : Type 0 where
   pub above : drop sp new ≡ drop sp old
-  pub answer : (g : Ready t k levels old sp floor) → r ≡ walkedOf (g .next) (judge (scope sp floor old) (g .expression))
+  pub few : wordsOf r ≤ mostTaken * levels
+  pub answer : (g : Judgeable t k levels old sp floor) → r ≡ judgingOf (g .next) (judge (scope sp floor old) (g .expression))
 
 -- the inputs of a formula entered into a scope, first one first: the place of one whose name is there already, or the scope with all of them
 pub data Entry : Type 0 where
@@ -139,6 +187,6 @@ pub record Top (e : Entry) (inputs : ℕ) (env : List ℕ) (sp : ℕ) : Type 0 w
   pub at : sp + 2 * inputs ≡ length env
   pub pairs : e ≡ entered (drop sp env)
 
-abbrev pub Enters : Entry → (inputs : ℕ) → List ℕ → Entered → Type 0
-Enters e inputs env (enters.Refused r) = (p : ℕ) × (e ≡ again p) × (r ≡ Unbound p)
-Enters e inputs env (enters.Scope sp) = Top e inputs env sp
+abbrev pub Enters : Entry → (inputs : ℕ) → List ℕ → Opened → Type 0
+Enters e inputs env (opened.Refused r) = (p : ℕ) × (e ≡ again p) × (r ≡ Unbound p)
+Enters e inputs env (opened.Scope sp) = Top e inputs env sp

@@ -14,16 +14,22 @@ use snesl::refusal::Refusal;
 ghost use mathlib.Core.Path.{_≡_};
 ghost use Prim.Native.Nat.{_*_, _≤_};
 ghost use lib.ListN.{length};
-ghost use Rattle.snesl.specs.Limits.{mostInputs};
+ghost use Rattle.snesl.specs.Limits.{mostInputs, mostListed};
 ghost use Rattle.snesl.specs.Records.{headAt, inputsAt, frontOf, readFormula};
 ghost use Rattle.records.specs.Heads.{headOf};
 ghost use Rattle.formula.specs.Reading.{formulaOf};
 ghost use Rattle.scopes.specs.Scopes.{scope};
-ghost use Rattle.checking.specs.Checks.{varIn, wantIn, plusIn, leafIn, turnIn, Ready, Walks, Declares, enteredBy, Enters, checkFront};
+ghost use Rattle.checking.specs.Checks.{varIn, wantIn, plusIn, leafIn, turnIn, boundIn, closedIn, wordsOf, mostWords, Judgeable, Judges, Declares, enteredBy, Enters, judgeFront, checkFront};
 
 // What checking answers.
 pub enum Checked {
     Depth(u8),
+    Refused(Refusal),
+}
+
+// What the check of a formula that was read answers: its type's depth, and how many words the walk of its expression takes.
+pub enum Judged {
+    Typed(u8, usize),
     Refused(Refusal),
 }
 
@@ -35,14 +41,14 @@ enum Turn {
     Each(Variable, Variable, usize),
 }
 
-// An expression's depth, with the position behind it.
-enum Walked {
+// The position behind an expression, its depth, and the words of its walk.
+enum Judging {
     Refused(Refusal),
-    Found(usize, u8),
+    Found(usize, u8, usize),
 }
 
 // The inputs as a scope: the place of one whose name was declared before, or where the scope starts.
-enum Entered {
+enum Opened {
     Refused(Refusal),
     Scope(usize),
 }
@@ -126,46 +132,71 @@ fn step(bytes: &[u8], k: usize, env: &[u8], sp: usize, floor: usize) -> Turn
     }
 }
 
+// A let when its second expression is done: the walk of the first is over before the binding stands.
+fn bound(second: Judging, depth: u8, first: usize) -> Judging
+    requires { ⌜ wordsOf second ≤ mostWords ⌝ }
+    ensures { λ r. ⌜ r ≡ boundIn depth first second ⌝ }
+{
+    match second {
+        Judging::Refused(refusal) => Judging::Refused(refusal),
+        Judging::Found(next, gives, words) => {
+            let behind = 3 * depth as usize + 5 + words;
+            if first < behind {
+                Judging::Found(next, gives, behind)
+            } else {
+                Judging::Found(next, gives, first)
+            }
+        }
+    }
+}
+
+// A comprehension at k when its body is done.
+fn close(body: Judging, k: usize, element: u8, listed: usize) -> Judging
+    requires { ⌜ wordsOf body ≤ mostWords ⌝ ∗ ⌜ listed ≤ mostListed ⌝ }
+    ensures { λ r. ⌜ r ≡ closedIn k element listed body ⌝ }
+{
+    match body {
+        Judging::Refused(refusal) => Judging::Refused(refusal),
+        Judging::Found(next, depth, words) => {
+            if depth < Formula::DEPTH {
+                let entered = 3 + (5 * listed + (3 * element as usize + 5));
+                Judging::Found(next, depth + 1, entered + words)
+            } else {
+                Judging::Refused(Refusal::WrongType(k))
+            }
+        }
+    }
+}
+
 // The expression at k, in the scope from sp to its floor; below sp the stack is free.
-fn walk(bytes: &[u8], k: usize, levels: usize, env: &mut [u8], sp: usize, floor: usize) -> Walked
-    requires { ⌜ Ready (now bytes) k levels (now env) sp floor ⌝ }
-    ensures { λ r. ⌜ Walks (now (bytes .entry)) k levels (now (env .entry)) sp floor (now (env .exit)) r ⌝ }
+fn walk(bytes: &[u8], k: usize, levels: usize, env: &mut [u8], sp: usize, floor: usize) -> Judging
+    requires { ⌜ Judgeable (now bytes) k levels (now env) sp floor ⌝ }
+    ensures { λ r. ⌜ Judges (now (bytes .entry)) k levels (now (env .entry)) sp floor (now (env .exit)) r ⌝ }
 {
     match step(bytes, k, env, sp, floor) {
-        Turn::Refused(refusal) => Walked::Refused(refusal),
-        Turn::Found(next, depth) => Walked::Found(next, depth),
+        Turn::Refused(refusal) => Judging::Refused(refusal),
+        Turn::Found(next, depth) => Judging::Found(next, depth, 3 * depth as usize + 3),
         Turn::Let(x) => match walk(bytes, k + 3, levels - 1, env, sp, floor) {
-            Walked::Refused(refusal) => Walked::Refused(refusal),
-            Walked::Found(next, depth) => {
+            Judging::Refused(refusal) => Judging::Refused(refusal),
+            Judging::Found(next, depth, words) => {
                 let inner = push(env, sp, x, depth);
-                walk(bytes, next, levels - 1, env, inner, floor)
+                let second = walk(bytes, next, levels - 1, env, inner, floor);
+                bound(second, depth, words)
             }
         },
         Turn::Each(x, y, listed) => match prepare(bytes, k, x, y, listed, env, sp, floor) {
-            Prepared::Refused(refusal) => Walked::Refused(refusal),
-            Prepared::Scope(inner) => match walk(
-                bytes,
-                k + (5 + listed),
-                levels - 1,
-                env,
-                inner,
-                sp,
-            ) {
-                Walked::Refused(refusal) => Walked::Refused(refusal),
-                Walked::Found(next, depth) => {
-                    if depth < Formula::DEPTH {
-                        Walked::Found(next, depth + 1)
-                    } else {
-                        Walked::Refused(Refusal::WrongType(k))
-                    }
-                }
-            },
+            Prepared::Refused(refusal) => Judging::Refused(refusal),
+            Prepared::Scope(inner) => {
+                let element = env[inner + 1];
+                let body = walk(bytes, k + (5 + listed), levels - 1, env, inner, sp);
+                close(body, k, element, listed)
+            }
         },
     }
 }
 
 // The inputs of a formula that was read, first one first, at the top of the stack.
-fn enter(bytes: &[u8], inputs: usize, env: &mut [u8]) -> Entered
+fn enter(bytes: &[u8], inputs: usize, env: &mut [u8]) -> Opened
     requires { ⌜ Declares (now bytes) inputs ⌝ ∗ ⌜ 2 * inputs ≤ length (now env) ⌝ }
     ensures { λ r. ⌜ Enters (enteredBy (inputsAt mostInputs (now (bytes .entry)) 0)) inputs (now (env .exit)) r ⌝ }
 {
@@ -182,22 +213,23 @@ fn enter(bytes: &[u8], inputs: usize, env: &mut [u8]) -> Entered
                 k += 4;
             }
             Kind::Depth(_) => {
-                return Entered::Refused(Refusal::Unbound(k));
+                return Opened::Refused(Refusal::Unbound(k));
             }
         }
     }
-    Entered::Scope(sp)
+    Opened::Scope(sp)
 }
 
-// Refusals 5 and 6 of the formula that the bytes start with, where it was read: a repeated input before anything in the expression.
-pub fn check_front(bytes: &[u8], formula: Formula) -> Checked
+// Refusals 5 and 6 of the formula that the bytes start with, where it was read: a repeated input before anything in the expression. A formula that has a
+// type also has its walk's words, so that whoever walks it lends itself no more.
+pub fn check_front(bytes: &[u8], formula: Formula) -> Judged
     requires { ⌜ FormulaRead.Found formula ≡ formulaOf (frontOf (now bytes)) ⌝ }
-    ensures { λ r. ⌜ r ≡ checkFront (frontOf (now (bytes .entry))) ⌝ }
+    ensures { λ r. ⌜ r ≡ judgeFront (frontOf (now (bytes .entry))) ⌝ }
 {
     let mut env = [0u8; STACK];
     match enter(bytes, formula.inputs, &mut env) {
-        Entered::Refused(refusal) => Checked::Refused(refusal),
-        Entered::Scope(sp) => match walk(
+        Opened::Refused(refusal) => Judged::Refused(refusal),
+        Opened::Scope(sp) => match walk(
             bytes,
             formula.expression,
             Formula::NESTING + 1,
@@ -205,8 +237,8 @@ pub fn check_front(bytes: &[u8], formula: Formula) -> Checked
             sp,
             STACK,
         ) {
-            Walked::Refused(refusal) => Checked::Refused(refusal),
-            Walked::Found(_, depth) => Checked::Depth(depth),
+            Judging::Refused(refusal) => Judged::Refused(refusal),
+            Judging::Found(_, depth, words) => Judged::Typed(depth, words),
         },
     }
 }
@@ -217,6 +249,9 @@ pub fn check(bytes: &[u8]) -> Checked
 {
     match read_formula(bytes) {
         FormulaRead::Refused(refusal) => Checked::Refused(refusal),
-        FormulaRead::Found(formula) => check_front(bytes, formula),
+        FormulaRead::Found(formula) => match check_front(bytes, formula) {
+            Judged::Refused(refusal) => Checked::Refused(refusal),
+            Judged::Typed(depth, _) => Checked::Depth(depth),
+        },
     }
 }

@@ -1,6 +1,6 @@
 -- A formula that was read is checked as the front of its bytes.
 use mathlib.Core.Path.{sym, _∙_}
-use Rattle.checking.proofs.Checks.{front-read, refused-read}
+use Rattle.checking.proofs.Checks.{front-read, front-checked, refused-read}
 use Rattle.checking.proofs.check.check.Statement.{statement}
 use Rattle.checking.proofs.check.check.Tie as tie
 
@@ -16,11 +16,20 @@ enum-known-formula c = c .match .keys2
 check-front-requires : tie.Need-check-front-requires
 check-front-requires c κs = front-read (c .before .before .before .before .before .args .bytes .now) _ (sym (c .before .formula .given .1) ∙ c .before .before .before .read-formula .ensures) .0
 
+enum-known-refusal-2 : tie.Need-enum-known-refusal-2
+enum-known-refusal-2 c = c .match2 .keys1
+
+enum-known-depth : tie.Need-enum-known-depth
+enum-known-depth c = c .match2 .keys2
+
 returns : tie.Need-returns
 returns c = refused-read _ _ (sym (c .before .refusal .given .1) ∙ c .before .before .before .read-formula .ensures)
 
 returns-2 : tie.Need-returns-2
-returns-2 c = c .check-front .ensures ∙ front-read (c .before .before .before .before .before .before .args .bytes .now) _ (sym (c .before .before .formula .given .1) ∙ c .before .before .before .before .read-formula .ensures) .1
+returns-2 c = front-checked (c .before .before .before .before .before .before .before .before .before .args .bytes .now) _ (sym (c .before .before .before .before .before .formula .given .1) ∙ c .before .before .before .before .before .before .before .read-formula .ensures) (sym (c .before .refusal2 .given .1) ∙ c .before .before .before .check-front .ensures)
+
+returns-3 : tie.Need-returns-3
+returns-3 c = front-checked (c .before .before .before .before .before .before .before .before .before .args .bytes .now) _ (sym (c .before .before .before .before .before .formula .given .1) ∙ c .before .before .before .before .before .before .before .read-formula .ensures) (sym (c .before .depth .given .1) ∙ c .before .before .before .check-front .ensures)
 
 pub check-spec : {M : Type 1} → statement M
 check-spec =
@@ -30,5 +39,8 @@ check-spec =
     enum-known-refusal
     enum-known-formula
     check-front-requires
+    enum-known-refusal-2
+    enum-known-depth
     returns
-    returns-2)
+    returns-2
+    returns-3)

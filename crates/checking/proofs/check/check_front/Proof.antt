@@ -25,7 +25,9 @@ slice-aggregate-walk : tie.Need-slice-aggregate-walk
 slice-aggregate-walk c = sym (c .before .before .before .before .before .enter .kept .1 .1 .0)
 
 walk-requires : tie.Need-walk-requires
-walk-requires c κs = walk-asked (c .before .before .before .before .before .before .before .before .args .bytes .now) (c .before .before .before .before .before .before .before .before .args .formula) (c .before .before .before .before .before .before .before .before .pre) (enters-at _ _ _ (c .before .before .sp .given .1) (c .before .before .before .before .before .enter .ensures)) (c .before .before .before .before .before .enter .kept .1 .1 .0)
+walk-requires c κs = walk-asked (c .before .before .before .before .before .before .before .before .args .bytes .now) (c .before .before .before .before .before .before .before .before .args .formula) (c .before .before .before .before .before .before .before .before .pre)
+    (enters-at _ _ _ (c .before .before .sp .given .1) (c .before .before .before .before .before .enter .ensures))
+    (c .before .before .before .before .before .enter .kept .1 .1 .0)
 
 enum-known-refusal-2 : tie.Need-enum-known-refusal-2
 enum-known-refusal-2 c = c .match2 .keys1
@@ -34,13 +36,30 @@ enum-known-depth : tie.Need-enum-known-depth
 enum-known-depth c = c .match2 .keys2
 
 returns : tie.Need-returns
-returns c = entry-refused (c .before .before .before .before .before .before .before .args .bytes .now) (c .before .before .before .before .before .before .before .args .formula) (c .before .before .before .before .before .before .before .pre) (c .before .before .before .before .enter .last .1 .1 .0) _ (enters-at _ _ _ (c .before .refusal .given .1) (c .before .before .before .before .enter .ensures))
+returns c = entry-refused (c .before .before .before .before .before .before .before .args .bytes .now) (c .before .before .before .before .before .before .before .args .formula) (c .before .before .before .before .before .before .before .pre)
+    (c .before .before .before .before .enter .last .1 .1 .0)
+    _
+    (enters-at _ _ _ (c .before .refusal .given .1) (c .before .before .before .before .enter .ensures))
 
 returns-2 : tie.Need-returns-2
-returns-2 c = walk-refused (c .before .before .before .before .before .before .before .before .before .before .before .before .before .args .bytes .now) (c .before .before .before .before .before .before .before .before .before .before .before .before .before .args .formula) (c .before .before .before .before .before .before .before .before .before .before .before .before .before .pre) (enters-at _ _ _ (c .before .before .before .before .before .before .before .sp .given .1) (c .before .before .before .before .before .before .before .before .before .before .enter .ensures)) (c .before .before .before .before .before .before .before .before .before .before .enter .kept .1 .1 .0) (c .before .before .before .before .walk .ensures) _ (c .before .refusal2 .given .1)
+returns-2 c = walk-refused
+    (c .before .before .before .before .before .before .before .before .before .before .before .before .before .args .bytes .now) (c .before .before .before .before .before .before .before .before .before .before .before .before .before .args .formula) (c .before .before .before .before .before .before .before .before .before .before .before .before .before .pre)
+    (enters-at _ _ _ (c .before .before .before .before .before .before .before .sp .given .1) (c .before .before .before .before .before .before .before .before .before .before .enter .ensures))
+    (c .before .before .before .before .before .before .before .before .before .before .enter .kept .1 .1 .0)
+    (c .before .before .before .before .walk .ensures)
+    _
+    (c .before .refusal2 .given .1)
 
 returns-3 : tie.Need-returns-3
-returns-3 c = walk-found (c .before .before .before .before .before .before .before .before .before .before .before .before .before .args .bytes .now) (c .before .before .before .before .before .before .before .before .before .before .before .before .before .args .formula) (c .before .before .before .before .before .before .before .before .before .before .before .before .before .pre) (enters-at _ _ _ (c .before .before .before .before .before .before .before .sp .given .1) (c .before .before .before .before .before .before .before .before .before .before .enter .ensures)) (c .before .before .before .before .before .before .before .before .before .before .enter .kept .1 .1 .0) (c .before .before .before .before .walk .ensures) _ _ (c .before .depth .given .1)
+returns-3 c = walk-found
+    (c .before .before .before .before .before .before .before .before .before .before .before .before .before .args .bytes .now) (c .before .before .before .before .before .before .before .before .before .before .before .before .before .args .formula) (c .before .before .before .before .before .before .before .before .before .before .before .before .before .pre)
+    (enters-at _ _ _ (c .before .before .before .before .before .before .before .sp .given .1) (c .before .before .before .before .before .before .before .before .before .before .enter .ensures))
+    (c .before .before .before .before .before .before .before .before .before .before .enter .kept .1 .1 .0)
+    (c .before .before .before .before .walk .ensures)
+    _
+    _
+    _
+    (c .before .depth .given .1)
 
 pub check-front-spec : {M : Type 1} → statement M
 check-front-spec =
