@@ -1,3 +1,5 @@
 -- The theorems: each function of crate snesl gives what the rules give.
 pub mod Names
 pub mod Typing
+pub mod Values
+pub mod Evaluation

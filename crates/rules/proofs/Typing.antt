@@ -26,13 +26,13 @@ use Rattle.rules.specs.Typing.{BuiltIn, Calls, calls-const, calls-iota, 
 use Rattle.rules.proofs.Names.{same-true, same-false, maps-once, Finds, finds-none, finds-one, finding}
 
 -- A rule's premises from its conclusion, for each expression.
-not-var : {p : ℕ} {x : Variable} {φ : BuiltIn} {xs : List Variable} → Calls (raw.var p x) φ xs → ⊥
+pub not-var : {p : ℕ} {x : Variable} {φ : BuiltIn} {xs : List Variable} → Calls (raw.var p x) φ xs → ⊥
 not-var = elim [ ]
 
-not-let : {p : ℕ} {x : Variable} {e₁ e₂ : Raw} {φ : BuiltIn} {xs : List Variable} → Calls (raw.bind p x e₁ e₂) φ xs → ⊥
+pub not-let : {p : ℕ} {x : Variable} {e₁ e₂ : Raw} {φ : BuiltIn} {xs : List Variable} → Calls (raw.bind p x e₁ e₂) φ xs → ⊥
 not-let = elim [ ]
 
-not-each : {p : ℕ} {x y : Variable} {us : List Variable} {e : Raw} {φ : BuiltIn} {xs : List Variable} → Calls (raw.each p x y us e) φ xs → ⊥
+pub not-each : {p : ℕ} {x y : Variable} {us : List Variable} {e : Raw} {φ : BuiltIn} {xs : List Variable} → Calls (raw.each p x y us e) φ xs → ⊥
 not-each = elim [ ]
 
 record OfEach (Γ : Env ℕ) (x y : Variable) (us : List Variable) (e : Raw) (d : ℕ) : Type 0 where

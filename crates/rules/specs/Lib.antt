@@ -1,2 +1,4 @@
 pub mod Names
 pub mod Typing
+pub mod Values
+pub mod Evaluation

@@ -1,0 +1,362 @@
+-- Evaluation of a named expression by the rules gives exactly the value that `eval` gives its typed expression, and none where `eval` gives none.
+use Prim.Native.Nat.{ℕ, zero, suc}
+use native.Mathlib.Omega.{arith}
+use mathlib.Core.Bool.{Bool, true, false}
+use mathlib.Core.List.{List, [], _∷_}
+use mathlib.Core.Logic.{_↔_}
+use mathlib.Core.Option.{Option, some, none}
+use mathlib.Core.Path.{_≡_, refl, sym, ap, _∙_, subst}
+use lib.IntN.{ℤ, pos, negsuc, _+ℤ_}
+use Rattle.laws.proofs.Never.{never}
+use Rattle.laws.proofs.Options.{none-some}
+use Rattle.snesl.specs.declared.code.Variable.{Variable}
+use Rattle.snesl.specs.Values.{Val, inRange, total}
+use Rattle.snesl.specs.Terms as terms
+use Rattle.snesl.specs.Terms.{_∋_, here, there, Term, listedTypes, All, ∅, _▹_, lookup, listed}
+use Rattle.snesl.specs.Evaluation.{andThen, within, counting, allOf, upTo, eval}
+use Rattle.snesl.specs.Records as raw
+use Rattle.snesl.specs.Records.{Raw}
+use Rattle.snesl.specs.Checking.{Name, same, Found, missing, found, later, find, asInt, asInts, Sequence, noSequence, sequence, asSequence, listedFirst, listedInts, listedNames, pointers, Typed, typed, check}
+use Rattle.rules.specs.Names.{Env, nothing, named, Maps, newest, older, MapsAll, maps-none, maps-more, Listed, listed-none, listed-more}
+use Rattle.rules.specs.Typing.{BuiltIn, Calls, calls-const, calls-iota, calls-plus, calls-sum}
+use Rattle.rules.specs.Values.{Value, Values, int, braces, empty, item, plains, plain}
+use Rattle.rules.specs.Evaluation.{Counts, counts-none, counts-more, Totals, totals-none, totals-more, Gives, gives-const, gives-iota, gives-plus, gives-sum, Number, number, Evaluates, evaluates-var, evaluates-let, evaluates-call, evaluates-each, EvaluatesEach, evaluates-none, evaluates-more, valuesOf}
+use Rattle.rules.proofs.Names.{same-true, same-false, maps-once}
+use Rattle.rules.proofs.Typing.{not-var, not-let, not-each, listed-once, Resolved, resolved-var, resolved-let, resolved-const, resolved-iota, resolved-plus, resolved-sum, resolved-each, resolved}
+
+-- ---- the rules give one value at most
+
+counts-once : {k n : ℕ} {vs ws : Values} → Counts k n vs → Counts k n ws → vs ≡ ws
+counts-once counts-none counts-none = refl
+counts-once (counts-more {k = k} r h) (counts-more r′ h′) = ap (item (int (pos k))) (counts-once h h′)
+
+totals-once : {vs : Values} {n m : ℤ} → Totals vs n → Totals vs m → n ≡ m
+totals-once totals-none totals-none = refl
+totals-once (totals-more {n = n} h p) (totals-more h′ p′) = p ∙ ap (λ z. n +ℤ z) (totals-once h h′) ∙ sym p′
+
+gives-once : {φ : BuiltIn} {vs : List Value} {v w : Value} → Gives φ vs v → Gives φ vs w → v ≡ w
+gives-once gives-const gives-const = refl
+gives-once (gives-iota h) (gives-iota h′) = ap braces (counts-once h h′)
+gives-once (gives-plus p r) (gives-plus p′ r′) = ap int (p ∙ sym p′)
+gives-once (gives-sum h r) (gives-sum h′ r′) = ap int (totals-once h h′)
+
+maps-all-once : {A : Type 0} {Γ : Env A} {xs : List Variable} {as₁ as₂ : List A} → MapsAll Γ xs as₁ → MapsAll Γ xs as₂ → as₁ ≡ as₂
+maps-all-once maps-none maps-none = refl
+maps-all-once (maps-more h m) (maps-more h′ m′) = let p = maps-once h h′ in let q = maps-all-once m m′ in λ i. p i ∷ q i
+
+-- a call's premises
+data OfCall (ρ : Env Value) (φ : BuiltIn) (xs : List Variable) (v : Value) : Type 0 where
+  of-call : {vs : List Value} → MapsAll ρ xs vs → Gives φ vs v → OfCall ρ φ xs v
+
+calls-once : {e : Raw} {φ ψ : BuiltIn} {xs ys : List Variable} {ρ : Env Value} {v : Value} → Calls e φ xs → Calls e ψ ys → OfCall ρ ψ ys v → OfCall ρ φ xs v
+calls-once calls-const calls-const h = h
+calls-once calls-iota calls-iota h = h
+calls-once calls-plus calls-plus h = h
+calls-once calls-sum calls-sum h = h
+
+called : {ρ : Env Value} {e : Raw} {φ : BuiltIn} {xs : List Variable} {v : Value} → Calls e φ xs → Evaluates ρ e v → OfCall ρ φ xs v
+called c (evaluates-call c′ m g) = calls-once c c′ (of-call m g)
+
+call-once : {ρ : Env Value} {φ : BuiltIn} {xs : List Variable} {v w : Value} → OfCall ρ φ xs v → OfCall ρ φ xs w → v ≡ w
+call-once {φ = φ} {w = w} (of-call m g) (of-call m′ g′) = gives-once g (subst (λ vs. Gives φ vs w) (sym (maps-all-once m m′)) g′)
+
+module _ {ρ : Env Value} {p : ℕ} where
+  of-var : {x : Variable} {v : Value} → Evaluates ρ (raw.var p x) v → Maps ρ x v
+  of-var (evaluates-var h) = h
+  of-var (evaluates-call c m g) = absurd (not-var c)
+
+  of-let : {x : Variable} {e₁ e₂ : Raw} {v : Value} → Evaluates ρ (raw.bind p x e₁ e₂) v → (v₁ : Value) × Evaluates ρ e₁ v₁ × Evaluates (named x v₁ ρ) e₂ v
+  of-let (evaluates-let {v₁ = v₁} h k) = (v₁, h, k)
+  of-let (evaluates-call c m g) = absurd (not-let c)
+
+data OfEach (ρ : Env Value) (x y : Variable) (us : List Variable) (e : Raw) : Value → Type 0 where
+  of-each : {inside : Env Value} {vs ws : Values} → Maps ρ y (braces vs) → Listed Number ρ us inside → EvaluatesEach x inside e vs ws → OfEach ρ x y us e (braces ws)
+
+each-parts : {ρ : Env Value} {p : ℕ} {x y : Variable} {us : List Variable} {e : Raw} {v : Value} → Evaluates ρ (raw.each p x y us e) v → OfEach ρ x y us e v
+each-parts (evaluates-each h l b) = of-each h l b
+each-parts (evaluates-call c m g) = absurd (not-each c)
+
+module _ {x : Variable} {ρ : Env Value} {e : Raw} (once : (ρ : Env Value) (v w : Value) → Evaluates ρ e v → Evaluates ρ e w → v ≡ w) where
+  each-once : {vs ws us : Values} → EvaluatesEach x ρ e vs ws → EvaluatesEach x ρ e vs us → ws ≡ us
+  each-once evaluates-none evaluates-none = refl
+  each-once (evaluates-more h k) (evaluates-more h′ k′) = let p = once _ _ _ h h′ in let q = each-once k k′ in λ i. item (p i) (q i)
+
+braces-same : {vs ws : Values} → braces vs ≡ braces ws → vs ≡ ws
+braces-same q = cc
+
+parts-once : {ρ : Env Value} {x y : Variable} {us : List Variable} {e : Raw} {v w : Value}
+    → ((ρ : Env Value) (v w : Value) → Evaluates ρ e v → Evaluates ρ e w → v ≡ w)
+    → OfEach ρ x y us e v
+    → OfEach ρ x y us e w
+    → v ≡ w
+parts-once {x = x} {e = e} once (of-each {vs = vs} h l b) (of-each {inside = inside} {ws = ws} h′ l′ b′) =
+    let p = braces-same (maps-once h′ h) in
+    let q = listed-once l′ l in
+    ap braces (each-once once b (subst (λ ρ. EvaluatesEach x ρ e vs ws) q (subst (λ vs. EvaluatesEach x inside e vs ws) p b′)))
+
+pub evaluates-once : (e : Raw) (ρ : Env Value) (v w : Value) → Evaluates ρ e v → Evaluates ρ e w → v ≡ w
+evaluates-once (raw.var p x) ρ v w h k = maps-once (of-var h) (of-var k)
+evaluates-once (raw.bind p x e₁ e₂) ρ v w h k =
+    let (v₁, h₁, h₂) = of-let h in
+    let (w₁, k₁, k₂) = of-let k in
+    evaluates-once e₂ (named x v₁ ρ) v w h₂ (subst (λ a. Evaluates (named x a ρ) e₂ w) (sym (evaluates-once e₁ ρ v₁ w₁ h₁ k₁)) k₂)
+evaluates-once (raw.const p z) ρ v w h k = call-once (called calls-const h) (called calls-const k)
+evaluates-once (raw.iota p x) ρ v w h k = call-once (called calls-iota h) (called calls-iota k)
+evaluates-once (raw.plus p x y) ρ v w h k = call-once (called calls-plus h) (called calls-plus k)
+evaluates-once (raw.sum p x) ρ v w h k = call-once (called calls-sum h) (called calls-sum k)
+evaluates-once (raw.each p x y us e) ρ v w h k = parts-once (evaluates-once e) (each-parts h) (each-parts k)
+
+-- ---- names found, as the mapping of values has them
+
+module _ {Γ : List ℕ} (scope : All Name Γ) (ρ : All Val Γ) (x : Variable) where
+  data Looks : Found Γ → Type 0 where
+    looks-none : Looks missing
+    looks-one : {d : ℕ} {v : Γ ∋ d} → Maps (valuesOf scope ρ) x (plain d (lookup v ρ)) → Looks (found d v)
+
+  data LooksAtSequence : Sequence Γ → Type 0 where
+    looks-no : LooksAtSequence noSequence
+    looks-along : {c : ℕ} {v : Γ ∋ suc c} → Maps (valuesOf scope ρ) x (plain (suc c) (lookup v ρ)) → LooksAtSequence (sequence c v)
+
+looking : {Γ : List ℕ} (scope : All Name Γ) (ρ : All Val Γ) (x : Variable) → Looks scope ρ x (find x scope)
+unfolding find valuesOf lookup
+looking ∅ ∅ x = looks-none
+looking (_▹_ {d = c} {Γ = Δ} y scope) (v ▹ ρ) x = go (same x y) refl (find x scope) (looking scope ρ x)
+  where
+    go : (b : Bool) → same x y ≡ b → (f : Found Δ) → Looks scope ρ x f → Looks (_▹_ {d = c} y scope) (v ▹ ρ) x (elim b [ true ↦ found c here | false ↦ later f ])
+    go true e f h = looks-one (newest (same-true x y e))
+    go false e missing looks-none = looks-none
+    go false e (found d w) (looks-one h) = looks-one (older (same-false x y e) h)
+
+module _ {Γ : List ℕ} {scope : All Name Γ} {ρ : All Val Γ} {x : Variable} where
+  looks-found : {d : ℕ} {v : Γ ∋ d} → Looks scope ρ x (found d v) → Maps (valuesOf scope ρ) x (plain d (lookup v ρ))
+  looks-found (looks-one h) = h
+
+  looks-int : {f : Found Γ} {v : Γ ∋ 0} → Looks scope ρ x f → asInt f ≡ some v → Maps (valuesOf scope ρ) x (int (lookup v ρ))
+  unfolding plain
+  looks-int looks-none q = never (cc)
+  looks-int {v = v} (looks-one {d = zero} {v = w} h) q = let p : w ≡ v = cc in subst (λ u. Maps (valuesOf scope ρ) x (int (lookup u ρ))) p h
+  looks-int (looks-one {d = suc d} h) q = never (cc)
+
+  as-sequence : {f : Found Γ} → Looks scope ρ x f → LooksAtSequence scope ρ x (asSequence f)
+  as-sequence looks-none = looks-no
+  as-sequence (looks-one {d = zero} h) = looks-no
+  as-sequence (looks-one {d = suc d} h) = looks-along h
+
+  along : {c : ℕ} {v : Γ ∋ suc c} → LooksAtSequence scope ρ x (sequence c v) → Maps (valuesOf scope ρ) x (plain (suc c) (lookup v ρ))
+  along (looks-along h) = h
+
+  looks-ints : {f : Found Γ} {v : Γ ∋ 1} → Looks scope ρ x f → asInts (asSequence f) ≡ some v → Maps (valuesOf scope ρ) x (braces (plains (plain 0) (lookup v ρ)))
+  unfolding plain
+  looks-ints looks-none q = never (cc)
+  looks-ints (looks-one {d = zero} h) q = never (cc)
+  looks-ints {v = v} (looks-one {d = suc zero} {v = w} h) q = let p : w ≡ v = cc in subst (λ u. Maps (valuesOf scope ρ) x (plain 1 (lookup u ρ))) p h
+  looks-ints (looks-one {d = suc (suc d)} h) q = never (cc)
+
+-- the listed variables with their values
+module _ {Γ : List ℕ} (scope : All Name Γ) (ρ : All Val Γ) where
+  listed-values : (us : List Variable) {ls : List (Variable × (Γ ∋ 0))}
+      → listedInts scope us ≡ some ls
+      → Listed Number (valuesOf scope ρ) us (valuesOf (listedNames ls) (listed (pointers ls) ρ))
+  unfolding listedInts listedNames listed valuesOf plain
+  listed-values [] {ls} e =
+      let q : [] ≡ ls = cc in
+      subst (λ l. Listed Number (valuesOf scope ρ) [] (valuesOf (listedNames l) (listed (pointers l) ρ))) q listed-none
+  listed-values (u ∷ us) {ls} e = go (asInt (find u scope)) refl (listedInts scope us) refl e (λ l q. listed-values us q)
+    where
+      go : (o : Option (Γ ∋ 0)) → asInt (find u scope) ≡ o → (r : Option (List (Variable × (Γ ∋ 0)))) → listedInts scope us ≡ r
+          → listedFirst u o r ≡ some ls
+          → ((l : List (Variable × (Γ ∋ 0))) → listedInts scope us ≡ some l → Listed Number (valuesOf scope ρ) us (valuesOf (listedNames l) (listed (pointers l) ρ)))
+          → Listed Number (valuesOf scope ρ) (u ∷ us) (valuesOf (listedNames ls) (listed (pointers ls) ρ))
+      go none qo r qr q below = never (cc)
+      go (some v) qo none qr q below = never (cc)
+      go (some v) qo (some l) qr q below =
+          let s : (u, v) ∷ l ≡ ls = cc in
+          subst (λ l. Listed Number (valuesOf scope ρ) (u ∷ us) (valuesOf (listedNames l) (listed (pointers l) ρ))) s
+          (listed-more (looks-int (looking scope ρ u) qo) number (below l qr))
+
+-- ---- what `eval` answers, beside what the rules have
+
+pub data Comes (ρ : Env Value) (e : Raw) (d : ℕ) : Option (Val d) → Type 0 where
+  valued : {w : Val d} → Evaluates ρ e (plain d w) → Comes ρ e d (some w)
+  valueless : ((v : Value) → Evaluates ρ e v → ⊥) → Comes ρ e d none
+
+-- a number that must be in range
+ranging : {ρ : Env Value} {e : Raw} (z : ℤ)
+    → (inRange z ≡ true → Evaluates ρ e (int z))
+    → ((v : Value) → Evaluates ρ e v → inRange z ≡ true)
+    → Comes ρ e 0 (within z)
+unfolding plain
+ranging {ρ} {e} z f g = go (inRange z) refl
+  where
+    go : (b : Bool) → inRange z ≡ b → Comes ρ e 0 (elim b [ true ↦ some z | false ↦ none ])
+    go true q = valued (f q)
+    go false q = valueless (λ v h. let r = g v h in never (cc))
+
+-- 0, 1, .., n - 1
+data Counted (k n : ℕ) : Option (List ℤ) → Type 0 where
+  counted : {zs : List ℤ} → Counts k n (plains (plain 0) zs) → Counted k n (some zs)
+  uncounted : ((vs : Values) → Counts k n vs → ⊥) → Counted k n none
+
+counting-up : (k n : ℕ) → Counted k n (allOf within (counting k n))
+unfolding allOf counting plains plain
+counting-up k zero = counted counts-none
+counting-up k (suc n) = go (inRange (pos k)) refl (allOf within (counting (suc k) n)) (counting-up (suc k) n)
+  where
+    too-far : (vs : Values) → inRange (pos k) ≡ false → Counts k (suc n) vs → ⊥
+    too-far _ q (counts-more r h) = never (cc)
+
+    too-far-on : (vs : Values) → ((ws : Values) → Counts (suc k) n ws → ⊥) → Counts k (suc n) vs → ⊥
+    too-far-on _ none-there (counts-more {vs = ws} r h) = none-there ws h
+
+    go : (b : Bool) → inRange (pos k) ≡ b → (o : Option (List ℤ)) → Counted (suc k) n o
+        → Counted k (suc n) (andThen (elim b [ true ↦ some (pos k) | false ↦ none ]) (λ z. andThen o (λ zs. some (z ∷ zs))))
+    go false q o h = uncounted (λ vs c. too-far vs q c)
+    go true q (some zs) (counted h) = counted (counts-more q h)
+    go true q none (uncounted h) = uncounted (λ vs c. too-far-on vs h c)
+
+totals-plain : (zs : List ℤ) → Totals (plains (plain 0) zs) (total zs)
+unfolding total plains plain
+totals-plain [] = totals-none
+totals-plain (z ∷ zs) = totals-more (totals-plain zs) refl
+
+int-same : {n m : ℤ} → int n ≡ int m → n ≡ m
+int-same q = cc
+
+module _ {ρ : Env Value} where
+  of-iota : {x : Variable} {w : Value} → OfCall ρ BuiltIn.iota (x ∷ []) w → (n : ℕ) × (vs : Values) × Maps ρ x (int (pos n)) × Counts 0 n vs
+  of-iota (of-call (maps-more m maps-none) (gives-iota {n = n} {vs = vs} c)) = (n, vs, m, c)
+
+  of-plus : {x y : Variable} {w : Value} → OfCall ρ BuiltIn.plus (x ∷ y ∷ []) w → (a : ℤ) × (b : ℤ) × Maps ρ x (int a) × Maps ρ y (int b) × (inRange (a +ℤ b) ≡ true)
+  of-plus (of-call (maps-more m (maps-more k maps-none)) (gives-plus {n₁ = a} {n₂ = b} q r)) = (a, b, m, k, ap inRange (sym q) ∙ r)
+
+  of-sum : {x : Variable} {w : Value} → OfCall ρ BuiltIn.sum (x ∷ []) w → (vs : Values) × (n : ℤ) × Maps ρ x (braces vs) × Totals vs n × (inRange n ≡ true)
+  of-sum (of-call (maps-more m maps-none) (gives-sum {vs = vs} {n = n} t r)) = (vs, n, m, t, r)
+
+module _ (ρ : Env Value) {p : ℕ} where
+  comes-iota : (x : Variable) (z : ℤ) → Maps ρ x (int z) → Comes ρ (raw.iota p x) 1 (upTo z)
+  unfolding plain
+  comes-iota x (pos n) m = upward _ (counting-up 0 n)
+    where
+      nowhere : ((vs : Values) → Counts 0 n vs → ⊥) → (w : Value) → Evaluates ρ (raw.iota p x) w → ⊥
+      nowhere none-there w h =
+          let (k, vs, m′, c) = of-iota (called calls-iota h) in
+          let q : pos k ≡ pos n = int-same (maps-once m′ m) in
+          let r : k ≡ n = cc in
+          none-there vs (subst (λ n. Counts 0 n vs) r c)
+
+      upward : (o : Option (List ℤ)) → Counted 0 n o → Comes ρ (raw.iota p x) 1 o
+      upward (some zs) (counted h) = valued (evaluates-call calls-iota (maps-more m maps-none) (gives-iota h))
+      upward none (uncounted h) = valueless (nowhere h)
+  comes-iota x (negsuc n) m = valueless nowhere
+    where
+      nowhere : (w : Value) → Evaluates ρ (raw.iota p x) w → ⊥
+      nowhere w h =
+          let (k, vs, m′, c) = of-iota (called calls-iota h) in
+          let q : pos k ≡ negsuc n = int-same (maps-once m′ m) in
+          never (cc)
+
+  comes-plus : (x y : Variable) (a b : ℤ) → Maps ρ x (int a) → Maps ρ y (int b) → Comes ρ (raw.plus p x y) 0 (within (a +ℤ b))
+  comes-plus x y a b m k = ranging (a +ℤ b) (λ r. evaluates-call calls-plus (maps-more m (maps-more k maps-none)) (gives-plus refl r)) only
+    where
+      only : (v : Value) → Evaluates ρ (raw.plus p x y) v → inRange (a +ℤ b) ≡ true
+      only v h =
+          let (a′, b′, m′, k′, r) = of-plus (called calls-plus h) in
+          let q = int-same (maps-once m m′) in
+          let q′ = int-same (maps-once k k′) in
+          (λ i. inRange (q i +ℤ q′ i)) ∙ r
+
+  comes-sum : (x : Variable) (zs : List ℤ) → Maps ρ x (braces (plains (plain 0) zs)) → Comes ρ (raw.sum p x) 0 (within (total zs))
+  comes-sum x zs m = ranging (total zs) (λ r. evaluates-call calls-sum (maps-more m maps-none) (gives-sum (totals-plain zs) r)) only
+    where
+      only : (v : Value) → Evaluates ρ (raw.sum p x) v → inRange (total zs) ≡ true
+      only v h =
+          let (vs, n, m′, t, r) = of-sum (called calls-sum h) in
+          let q = braces-same (maps-once m′ m) in
+          ap inRange (totals-once (totals-plain zs) (subst (λ ws. Totals ws n) q t)) ∙ r
+
+  comes-let : {c d : ℕ} (x : Variable) (e₁ e₂ : Raw) (o : Option (Val c)) (f : Val c → Option (Val d))
+      → Comes ρ e₁ c o
+      → ((v : Val c) → Comes (named x (plain c v) ρ) e₂ d (f v))
+      → Comes ρ (raw.bind p x e₁ e₂) d (andThen o f)
+  comes-let x e₁ e₂ none f (valueless n) h₂ = valueless (λ v h. let (v₁, h₁, k) = of-let h in n v₁ h₁)
+  comes-let {c} {d} x e₁ e₂ (some v) f (valued h₁) h₂ = go (f v) (h₂ v)
+    where
+      go : (o : Option (Val d)) → Comes (named x (plain c v) ρ) e₂ d o → Comes ρ (raw.bind p x e₁ e₂) d o
+      go (some w) (valued k) = valued (evaluates-let h₁ k)
+      go none (valueless n) =
+          valueless (λ w h. let (v₁, k₁, k₂) = of-let h in
+          n w (subst (λ a. Evaluates (named x a ρ) e₂ w) (evaluates-once e₁ ρ v₁ (plain c v) k₁ h₁) k₂))
+
+-- a body over all items
+data ComesEach (x : Variable) (ρ : Env Value) (e : Raw) (d : ℕ) (vs : Values) : Option (List (Val d)) → Type 0 where
+  all-valued : {ws : List (Val d)} → EvaluatesEach x ρ e vs (plains (plain d) ws) → ComesEach x ρ e d vs (some ws)
+  one-valueless : ((ws : Values) → EvaluatesEach x ρ e vs ws → ⊥) → ComesEach x ρ e d vs none
+
+module _ (x : Variable) (ρ : Env Value) (e : Raw) (c d : ℕ) (f : Val c → Option (Val d)) (body : (v : Val c) → Comes (named x (plain c v) ρ) e d (f v)) where
+  comes-items : (vs : List (Val c)) → ComesEach x ρ e d (plains (plain c) vs) (allOf f vs)
+  unfolding allOf plains
+  comes-items [] = all-valued evaluates-none
+  comes-items (v ∷ vs) = go (f v) (body v) (allOf f vs) (comes-items vs)
+    where
+      first-none : {ws : Values} → ((w : Value) → Evaluates (named x (plain c v) ρ) e w → ⊥) → EvaluatesEach x ρ e (item (plain c v) (plains (plain c) vs)) ws → ⊥
+      first-none n (evaluates-more {w = w} h k) = n w h
+
+      rest-none : {ws : Values} → ((ws : Values) → EvaluatesEach x ρ e (plains (plain c) vs) ws → ⊥) → EvaluatesEach x ρ e (item (plain c v) (plains (plain c) vs)) ws → ⊥
+      rest-none n (evaluates-more {ws = ws} h k) = n ws k
+
+      go : (o : Option (Val d)) → Comes (named x (plain c v) ρ) e d o → (os : Option (List (Val d))) → ComesEach x ρ e d (plains (plain c) vs) os
+          → ComesEach x ρ e d (item (plain c v) (plains (plain c) vs)) (andThen o (λ w. andThen os (λ ws. some (w ∷ ws))))
+      go none (valueless n) os k = one-valueless (λ ws h. first-none n h)
+      go (some w) (valued h) (some ws) (all-valued k) = all-valued (evaluates-more h k)
+      go (some w) (valued h) none (one-valueless n) = one-valueless (λ ws h. rest-none n h)
+
+module _ {ρ inside : Env Value} {p : ℕ} {x y : Variable} {us : List Variable} {e : Raw} {d : ℕ} {vs : Values} (m : Maps ρ y (braces vs)) (l : Listed Number ρ us inside) where
+  comes-each : {o : Option (List (Val d))} → ComesEach x inside e d vs o → Comes ρ (raw.each p x y us e) (suc d) o
+  unfolding plain
+  comes-each (all-valued h) = valued (evaluates-each m l h)
+  comes-each (one-valueless n) = valueless (λ v h. nowhere (each-parts h))
+    where
+      nowhere : {v : Value} → OfEach ρ x y us e v → ⊥
+      nowhere (of-each {inside = other} {ws = ws} m′ l′ b) =
+          n ws (subst (λ ρ. EvaluatesEach x ρ e vs ws) (listed-once l′ l) (subst (λ vs. EvaluatesEach x other e vs ws) (braces-same (maps-once m′ m)) b))
+
+pub coming : {Γ : List ℕ} {scope : All Name Γ} {e : Raw} {d : ℕ} {t : Term Γ d} → Resolved Γ scope e d t → (ρ : All Val Γ) → Comes (valuesOf scope ρ) e d (eval t ρ)
+unfolding eval valuesOf plain
+coming {scope = scope} (resolved-var {x = x} q) ρ = valued (evaluates-var (looks-found (subst (Looks scope ρ x) q (looking scope ρ x))))
+coming {scope = scope} (resolved-let {x = x} {e₁ = e₁} {e₂ = e₂} {t₁ = t₁} {t₂ = t₂} h k) ρ = comes-let _ x e₁ e₂ (eval t₁ ρ) (λ v. eval t₂ (v ▹ ρ)) (coming h ρ) (λ v. coming k (v ▹ ρ))
+coming resolved-const ρ = valued (evaluates-call calls-const maps-none gives-const)
+coming {scope = scope} (resolved-iota {x = x} {v = v} q) ρ = comes-iota _ x (lookup v ρ) (looks-int (looking scope ρ x) q)
+coming {scope = scope} (resolved-plus {x = x} {y = y} {v = v} {w = w} q r) ρ =
+    comes-plus _ x y (lookup v ρ) (lookup w ρ) (looks-int (looking scope ρ x) q) (looks-int (looking scope ρ y) r)
+coming {scope = scope} (resolved-sum {x = x} {v = v} q) ρ = comes-sum _ x (lookup v ρ) (looks-ints (looking scope ρ x) q)
+coming {scope = scope} (resolved-each {c = c} {d = d} {x = x} {y = y} {us = us} {e = e} {v = v} {ls = ls} {t = t} qv ql h) ρ =
+    comes-each (along (subst (LooksAtSequence scope ρ y) qv (as-sequence (looking scope ρ y)))) (listed-values scope ρ us ql)
+    (comes-items x _ e c d (λ u. eval t (u ▹ listed (pointers ls) ρ)) (λ u. coming h (u ▹ listed (pointers ls) ρ)) (lookup v ρ))
+
+-- ---- the theorems
+
+module _ {ρ : Env Value} {e : Raw} {d : ℕ} where
+  comes-value : {w : Val d} → Comes ρ e d (some w) → Evaluates ρ e (plain d w)
+  comes-value (valued h) = h
+
+  comes-none : Comes ρ e d none → (v : Value) → Evaluates ρ e v → ⊥
+  comes-none (valueless n) = n
+
+  has-value : {o : Option (Val d)} {v : Value} → Comes ρ e d o → Evaluates ρ e v → (w : Val d) × (o ≡ some w) × (v ≡ plain d w)
+  has-value {v = v} (valued {w = w} h) k = (w, refl, evaluates-once e ρ v (plain d w) k h)
+  has-value {v = v} (valueless n) k = absurd (n v k)
+
+  has-none : {o : Option (Val d)} → Comes ρ e d o → ((v : Value) → Evaluates ρ e v → ⊥) → o ≡ none
+  has-none (valued {w = w} h) n = absurd (n (plain d w) h)
+  has-none (valueless m) n = refl
+
+module _ {Γ : List ℕ} (scope : All Name Γ) (e : Raw) {d : ℕ} {t : Term Γ d} (checked : check scope e ≡ typed d t) (ρ : All Val Γ) where
+  both : Comes (valuesOf scope ρ) e d (eval t ρ)
+  both = coming (resolved scope e checked) ρ
+
+  pub value-exactly : (v : Value) → Evaluates (valuesOf scope ρ) e v ↔ ((w : Val d) × (eval t ρ ≡ some w) × (v ≡ plain d w))
+  value-exactly v =
+      (has-value both, λ (w, q, r). subst (Evaluates (valuesOf scope ρ) e) (sym r) (comes-value (subst (Comes (valuesOf scope ρ) e d) q both)))
+
+  pub no-value-exactly : ((v : Value) → Evaluates (valuesOf scope ρ) e v → ⊥) ↔ (eval t ρ ≡ none)
+  no-value-exactly = (has-none both, λ q. comes-none (subst (Comes (valuesOf scope ρ) e d) q both))
