@@ -3,3 +3,4 @@ pub mod Names
 pub mod Typing
 pub mod Values
 pub mod Evaluation
+pub mod Representation

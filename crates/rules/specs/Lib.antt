@@ -2,3 +2,5 @@ pub mod Names
 pub mod Typing
 pub mod Values
 pub mod Evaluation
+pub mod Representation
+pub mod Xducers
