@@ -4,3 +4,4 @@ pub mod Typing
 pub mod Values
 pub mod Evaluation
 pub mod Representation
+pub mod Xducers
