@@ -4,3 +4,4 @@ pub mod Values
 pub mod Evaluation
 pub mod Representation
 pub mod Xducers
+pub mod Instructions
