@@ -119,6 +119,10 @@ module _ (outs ins : List ℕ) (i : ℕ) (b : Program) (s n : ℕ) (m : State) {
         start = went-length b (suc j) m (r .ran) ∙ ap (λ k. k + count b) l;
       }
 
+-- a run that goes on as another does
+on-from : {p q : Program} {n : ℕ} {m m₁ : State} {σ′ : Stores} → run boundless p n m ≡ run boundless q n m₁ → Ran q n m₁ σ′ → Ran p n m σ′
+on-from e r = record { after = r .after; ran = e ∙ r .ran; covers = r .covers }
+
 pub running : (p : Program) (s n : ℕ) (m : State) (σ σ′ : Stores) → length (m .store) ≡ s → Covers σ (m .store) → Runs (written s p) σ n σ′ → Ran p n m σ′
 unfolding written
 running done s n m σ σ′ l c h = record { after = m; ran = run-done boundless n m; covers = record { covers = λ u a q. c .covers u a (sym (of-nop h u) ∙ q) } }
@@ -127,9 +131,9 @@ running (define t p) s n m σ σ′ l c h =
     let (a, e, c₁) = define-step t s n m l c h₁ in
     let next : length (m .store ++ a ∷ []) ≡ suc s = omega (arith, next-id (m .store) a l) in
     let r = running p (suc s) n (push t n a m) σ₁ σ′ next c₁ h₂ in
-    record { after = r .after; ran = run-made t p n m e ∙ r .ran; covers = r .covers }
+    on-from (run-made t p n m e) r
 running (programs.withCtrl outs i ins b p) s n m σ σ′ l c h =
     let (σ₁, h₁, h₂) = of-seq h in
     let w = withCtrl-step outs ins i b s n m l c (λ j σ″ k. running b s j m σ σ″ l c k) h₁ in
     let r = running p (s + count b) n (w .next) σ₁ σ′ (w .start) (w .covers) h₂ in
-    record { after = r .after; ran = w .steps-on p ∙ r .ran; covers = r .covers }
+    on-from (w .steps-on p) r

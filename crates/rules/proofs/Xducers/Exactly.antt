@@ -262,3 +262,43 @@ apply-exactly (Distr s t) n σ a (fetches-more {a = b} p (fetches-more {a = c} q
 apply-exactly (SumPlus s t) n σ a (fetches-more {a = b} p (fetches-more {a = c} q fetches-none)) =
     renamed (λ i. onFlags (p i) (λ bs. onInts (q i) (functions.sumPlus some n bs)))
     (over-flags-ints n sumPlus a (functions.sumPlus some n) refl (λ bs xs. sum-exactly n bs xs a) b c)
+
+-- ---- an answer that was made had all its operands
+
+found-flags : (o : Option Stream) (f : List Bool → Answer) {a : Stream} → onFlags o f ≡ made a → (b : Stream) × (o ≡ some b) × ((bs : List Bool) × (f bs ≡ made a))
+found-flags none f q = never (cc)
+found-flags (some b) f q = let (bs, e, r) = on-flags b f q in (b, refl, (bs, r))
+
+found-ints : (o : Option Stream) (f : List ℤ → Answer) {a : Stream} → onInts o f ≡ made a → (b : Stream) × (o ≡ some b) × ((zs : List ℤ) × (f zs ≡ made a))
+found-ints none f q = never (cc)
+found-ints (some b) f q = let (zs, e, r) = on-ints b f q in (b, refl, (zs, r))
+
+pub apply-fetches : (t : Transducer) (n : ℕ) (σ : Store) {a : Stream} → apply t n σ ≡ made a → (xs : List Stream) × Fetches (λ s. σ ! s) (operands t) xs
+unfolding apply
+apply-fetches (Const z) n σ q = ([], fetches-none)
+apply-fetches (ToFlags s) n σ q = let (b, e, r) = found-ints (σ ! s .0) _ q in (b ∷ [], fetches-more e fetches-none)
+apply-fetches (Usum s) n σ q = let (b, e, r) = found-flags (σ ! s .0) _ q in (b ∷ [], fetches-more e fetches-none)
+apply-fetches (MapTwoPlus s t) n σ q =
+    let (b, e, (xs, r)) = found-ints (σ ! s .0) _ q in
+    let (c, f, z) = found-ints (σ ! t .0) _ r in
+    (b ∷ c ∷ [], fetches-more e (fetches-more f fetches-none))
+apply-fetches (ScanPlus z s t) n σ q =
+    let (b, e, (xs, r)) = found-flags (σ ! s .0) _ q in
+    let (c, f, z) = found-ints (σ ! t .0) _ r in
+    (b ∷ c ∷ [], fetches-more e (fetches-more f fetches-none))
+apply-fetches (Distr s t) n σ q =
+    let (b, e, (xs, r)) = found-flags (σ ! s .0) _ q in
+    let (c, f, z) = found-ints (σ ! t .0) _ r in
+    (b ∷ c ∷ [], fetches-more e (fetches-more f fetches-none))
+apply-fetches (SumPlus s t) n σ q =
+    let (b, e, (xs, r)) = found-flags (σ ! s .0) _ q in
+    let (c, f, z) = found-ints (σ ! t .0) _ r in
+    (b ∷ c ∷ [], fetches-more e (fetches-more f fetches-none))
+
+-- 002, Lemma 1.8: the rules give one output at most
+pub loops-once : (t : Transducer) (n : ℕ) (σ : Store) {xs : List Stream} (a b : Stream)
+    → Fetches (λ s. σ ! s) (operands t) xs
+    → Loops (xducer t) n xs a
+    → Loops (xducer t) n xs b
+    → a ≡ b
+loops-once t n σ a b f h k = made-same (sym (apply-exactly t n σ a f .1 h) ∙ apply-exactly t n σ b f .1 k)
