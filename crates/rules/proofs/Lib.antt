@@ -6,3 +6,4 @@ pub mod Evaluation
 pub mod Representation
 pub mod Xducers
 pub mod Instructions
+pub mod Correctness

@@ -5,3 +5,5 @@ pub mod Evaluation
 pub mod Representation
 pub mod Xducers
 pub mod Instructions
+pub mod Trees
+pub mod Correctness

@@ -1,0 +1,176 @@
+-- 002's Theorem 1.20 for the code of a checked expression: from the evaluation rules to the instruction rules.
+use Prim.Native.Nat.{ℕ, zero, suc, _+_, _≤_, _<_}
+use native.Mathlib.Omega.{arith}
+use mathlib.Core.List.{List, [], _∷_, _++_, map, List·Memᴰ, List·Memᴰ·head, List·Memᴰ·not-nil, List·Memᴰ·append-cases, Memᴰ·append-left, Memᴰ·append-right, List·Memᴰ·eq-of-singleton}
+use mathlib.Core.Logic.{⊎-elim}
+use mathlib.Core.Option.{Option, some, none, Option·getD}
+use mathlib.Core.Path.{_≡_, refl, sym, ap, _∙_, subst}
+use lib.ListN.{length, getElem?}
+use Rattle.laws.proofs.Never.{never}
+use Rattle.snesl.specs.Values.{Val}
+use Rattle.snesl.specs.Terms.{_∋_, here, there, Term, All, ∅, _▹_, lookup}
+use Rattle.snesl.specs.Streams.{Stream, units, Store, _!_}
+use Rattle.snesl.specs.Trees.{Tree, leaf, node, inner, outer, root, order, mapTree}
+use Rattle.snesl.specs.Representation.{represent, Holds}
+use Rattle.snesl.specs.Agreement.{Agrees, RanOnce}
+use Rattle.snesl.specs.Ids.{idsOf, Below}
+use Rattle.snesl.specs.Machine.{State}
+use Rattle.snesl.specs.Translation.{size, tree, code}
+use Rattle.snesl.specs.Evaluation.{eval}
+use Rattle.snesl.specs.Records.{Raw}
+use Rattle.snesl.specs.Checking.{Name, typed, check}
+use Rattle.snesl.proofs.Representing.Representation.{holds-streams, streams-held}
+use Rattle.snesl.proofs.Compiled.WellFormed.{below-result}
+use Rattle.snesl.proofs.Statements.Correctness as running
+use Rattle.snesl.proofs.Statements.Compiled as compiled
+use Rattle.rules.specs.Names.{Env, nothing, named}
+use Rattle.rules.specs.Typing.{typesOf}
+use Rattle.rules.specs.Values.{Value, plain}
+use Rattle.rules.specs.Evaluation.{Evaluates, valuesOf}
+use Rattle.rules.specs.Representation.{Represents}
+use Rattle.rules.specs.Instructions.{Stores, written}
+use Rattle.rules.specs.Trees.{STree, one, pair, ids, Builds, builds-one, builds-pair, plainTree, treesOf}
+use Rattle.rules.specs.Correctness.{Suits, suits-none, suits-more, Correct}
+use Rattle.rules.proofs.Evaluation.{value-exactly}
+use Rattle.rules.proofs.Representation.{represents-exactly}
+use Rattle.rules.proofs.Instructions.Deriving.{Agree, Derived, run-derives}
+
+-- ---- the ids below s of a mapping, as a list
+
+unfoldable pub tabulate : Stores → (k n : ℕ) → Store
+tabulate σ k zero = []
+tabulate σ k (suc n) = Option·getD (σ k) (units 0) ∷ tabulate σ (suc k) n
+
+length-tabulate : (σ : Stores) (k n : ℕ) → length (tabulate σ k n) ≡ n
+unfolding tabulate
+length-tabulate σ k zero = refl
+length-tabulate σ k (suc n) = ap suc (length-tabulate σ (suc k) n)
+
+tabulated : (σ : Stores) (k n u : ℕ) {a : Stream} → u < n → σ (k + u) ≡ some a → tabulate σ k n ! u ≡ some a
+unfolding tabulate
+tabulated σ k zero u h q = absurd (omega arith)
+tabulated σ k (suc n) zero h q = let e : σ k ≡ some _ = ap σ (omega arith) ∙ q in ap (λ o. some (Option·getD o (units 0))) e
+tabulated σ k (suc n) (suc u) h q = tabulated σ (suc k) n u (omega arith) (ap σ (omega arith) ∙ q)
+
+-- ---- a tree of ids that a mapping builds, as one of its depth
+
+record Deep (σ : Stores) (s : ℕ) (st : STree) (d : ℕ) (w : Tree Stream d) : Type 0 where
+  deep : Tree ℕ d
+  plainly : plainTree deep ≡ st
+  low : Below s (order deep)
+  streams : mapTree (λ u. tabulate σ 0 s ! u) deep ≡ mapTree some w
+  same : (u : ℕ) → List·Memᴰ u (order deep) → σ u ≡ tabulate σ 0 s ! u
+
+one-id : (σ : Stores) (τ : Store) {u : ℕ} (v : ℕ) → List·Memᴰ v (u ∷ []) → σ u ≡ τ ! u → σ v ≡ τ ! v
+one-id σ τ v m q = subst (λ u. σ u ≡ τ ! u) (sym (List·Memᴰ·eq-of-singleton m)) q
+
+deepen : {σ : Stores} {s : ℕ} {st : STree} {d : ℕ} {w : Tree Stream d} → Below s (ids st) → Builds σ st d w → Deep σ s st d w
+unfolding ids plainTree order mapTree
+deepen {σ} {s} b (builds-one {s = u} {a = a} q) =
+    let y = tabulated σ 0 s u (b u (List·Memᴰ·head refl)) (ap σ (omega arith) ∙ q) in
+    record { deep = leaf u; plainly = refl; low = b; streams = ap leaf y; same = λ v m. one-id σ (tabulate σ 0 s) v m (q ∙ sym y) }
+deepen {σ} {s} b (builds-pair {st = st} {s = u} {a = a} h q) =
+    let r = deepen (λ v m. b v (Memᴰ·append-left _ m)) h in
+    let x = r .streams in
+    let y = tabulated σ 0 s u (b u (Memᴰ·append-right (ids st) (List·Memᴰ·head refl))) (ap σ (omega arith) ∙ q) in
+    record {
+      deep = node (r .deep) u;
+      plainly = ap (λ t. pair t u) (r .plainly);
+      low = λ v m. ⊎-elim (r .low v) (λ k. b v (Memᴰ·append-right (ids st) k)) (List·Memᴰ·append-cases (order (r .deep)) m);
+      streams = λ i. node (x i) (y i);
+      same = λ v m. ⊎-elim (r .same v) (λ k. one-id σ (tabulate σ 0 s) v k (q ∙ sym y)) (List·Memᴰ·append-cases (order (r .deep)) m);
+    }
+
+-- ---- the environments of names as those of a context
+
+pub record Setting (σ : Stores) (s : ℕ) (Γ : Env ℕ) (ρ : Env Value) (δ : Env STree) : Type 0 where
+  pub types : List ℕ
+  pub scope : All Name types
+  pub values : All Val types
+  pub trees : All (Tree ℕ) types
+  pub types-are : typesOf scope ≡ Γ
+  pub values-are : valuesOf scope values ≡ ρ
+  pub trees-are : treesOf scope trees ≡ δ
+  pub low : Below s (idsOf trees)
+  pub known : Agree (idsOf trees) σ (tabulate σ 0 s)
+  pub holds : Agrees (tabulate σ 0 s) trees (values ∷ [])
+
+nothing-held : {τ : Store} → Agrees τ {Γ = []} ∅ (∅ ∷ [])
+nothing-held {τ} = record { holds = go }
+  where
+    go : {d : ℕ} (x : [] ∋ d) → Holds τ d (lookup {P = Tree ℕ} x ∅) (map (λ (ρ : All Val []). lookup x ρ) (∅ ∷ []))
+    go = elim [ ]
+
+one-more-held : {τ : Store} {Γ : List ℕ} {c : ℕ} {st : Tree ℕ c} (v : Val c) {δ : All (Tree ℕ) Γ} {ρ : All Val Γ}
+    → Holds τ c st (v ∷ [])
+    → Agrees τ δ (ρ ∷ [])
+    → Agrees τ (st ▹ δ) ((v ▹ ρ) ∷ [])
+unfolding lookup
+one-more-held {τ} {Γ} {c} {st} v {δ} {ρ} h a = record { holds = go }
+  where
+    go : {d : ℕ} (x : (c ∷ Γ) ∋ d) → Holds τ d (lookup x (st ▹ δ)) (map (lookup x) ((v ▹ ρ) ∷ []))
+    go here = h
+    go (there x) = a .holds x
+
+pub setting : {σ : Stores} {s : ℕ} {Γ : Env ℕ} {ρ : Env Value} {δ : Env STree} → Suits σ s Γ ρ δ → Setting σ s Γ ρ δ
+unfolding typesOf valuesOf treesOf idsOf
+setting suits-none = record { types = []; scope = ∅; values = ∅; trees = ∅; types-are = refl; values-are = refl; trees-are = refl; low = λ u h. absurd (List·Memᴰ·not-nil h); known = record { agree = λ u h. absurd (List·Memᴰ·not-nil h) }; holds = nothing-held }
+setting {σ} {s} (suits-more {x = x} {d = d} {v = v} {w = w} t b h r rest) =
+    let (u, p, q) = represents-exactly d v w .0 r in
+    let m = deepen b h in
+    let g = setting rest in
+    let held : Holds (tabulate σ 0 s) d (m .deep) (u ∷ []) = streams-held (tabulate σ 0 s) d (m .deep) (u ∷ []) (m .streams ∙ ap (mapTree some) q) in
+    record {
+      types = d ∷ g .types;
+      scope = x ▹ g .scope;
+      values = u ▹ g .values;
+      trees = m .deep ▹ g .trees;
+      types-are = ap (named x d) (g .types-are);
+      values-are = (λ i. named x (sym p i) (g .values-are i));
+      trees-are = (λ i. named x (m .plainly i) (g .trees-are i));
+      low = λ v k. ⊎-elim (m .low v) (g .low v) (List·Memᴰ·append-cases (order (m .deep)) k);
+      known = record { agree = λ v k. ⊎-elim (m .same v) (g .known .agree v) (List·Memᴰ·append-cases (order (m .deep)) k) };
+      holds = one-more-held u held (g .holds);
+    }
+
+-- ---- the result's tree, read from the mapping at the end
+
+built : {d : ℕ} (st : Tree ℕ d) (w : Tree Stream d) {σ : Stores} (τ : Store)
+    → mapTree (λ u. τ ! u) st ≡ mapTree some w
+    → ((u : ℕ) → List·Memᴰ u (order st) → σ u ≡ τ ! u)
+    → Builds σ (plainTree st) d w
+unfolding mapTree plainTree order inner outer root
+built (leaf s) (leaf a) τ q g = builds-one (g s (List·Memᴰ·head refl) ∙ ap root q)
+built (node st s) (node w a) τ q g =
+    builds-pair (built st w τ (ap inner q) (λ u h. g u (Memᴰ·append-left _ h))) (g s (Memᴰ·append-right (order st) (List·Memᴰ·head refl)) ∙ ap outer q)
+
+ids-plain : {d : ℕ} (st : Tree ℕ d) → ids (plainTree st) ≡ order st
+unfolding ids plainTree order
+ids-plain (leaf s) = refl
+ids-plain (node st s) = ap (λ l. l ++ s ∷ []) (ids-plain st)
+
+pub correct : {σ : Stores} {s : ℕ} {Γ : Env ℕ} {ρ : Env Value} {δ : Env STree} (g : Setting σ s Γ ρ δ) (e : Raw) {d : ℕ} {t : Term (g .types) d} (v : Value)
+    → check (g .scope) e ≡ typed d t
+    → Evaluates ρ e v
+    → Correct (written s (code t (g .trees) s)) σ s (s + size t) (plainTree (tree t (g .trees) s)) d v
+unfolding idsOf
+correct {σ} {s} g e {d} {t} v c h =
+    let m : State = record { store = tabulate σ 0 s; work = 0; steps = 0 } in
+    let first : length (m .store) ≡ s = length-tabulate σ 0 s in
+    let (w, q, r) = value-exactly (g .scope) e c (g .values) v .0 (subst (λ ρ. Evaluates ρ e v) (sym (g .values-are)) h) in
+    let (m′, went, ran) = running.a-value-gives-a-run t (g .trees) s (g .values) m first (g .holds) q in
+    let x = run-derives (code t (g .trees) s) s 1 m m′ (idsOf (g .trees)) σ went (compiled.code-is-well-formed t (g .trees) (g .low))
+    (compiled.used-ids-are-known t (g .trees) s (λ u h. h)) (running.empty-control-has-empty-inputs t (g .trees) (g .values) [] s m first (g .holds))
+    first (g .low) (g .known) in
+    record {
+      stores = x .stores;
+      runs = x .runs;
+      streams = represent d (w ∷ []);
+      built =
+          built (tree t (g .trees) s) (represent d (w ∷ [])) (m′ .store) (holds-streams (ran .results))
+          (λ u i. ⊎-elim (x .still-known .agree u) (x .made-known .agree u) (compiled.result-ids-are-known t (g .trees) s i));
+      represents = represents-exactly d v (represent d (w ∷ [])) .1 (w, r, refl);
+      kept = x .kept-below;
+      onward = omega arith;
+      below = λ u i. below-result t (g .trees) (g .low) u (Memᴰ·append-left _ (subst (List·Memᴰ u) (ids-plain (tree t (g .trees) s)) i));
+    }
