@@ -9,7 +9,7 @@ use Rattle.snesl.specs.declared.refusal.Refusal.{Refusal}
 use Rattle.snesl.specs.Listing as listing
 use Rattle.snesl.specs.Refusals as refusals
 use Rattle.snesl.specs.Outcome.{Outcome, refusal, value, outcome}
-use Rattle.snesl.specs.Demands.{Told, shows, declines, toldOf, Demands}
+use Rattle.snesl.specs.Demands.{shows, declines, toldOf, Demands}
 use Rattle.snesl.proofs.Jobs.OneAnswer.{demands-determine}
 use Rattle.lister.specs.Lists.{listedAnswer}
 use Rattle.lister.specs.declared.list.Listed.the-variants as listed

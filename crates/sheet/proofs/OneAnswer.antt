@@ -10,7 +10,6 @@ use Rattle.snesl.specs.Outcome.{Outcome, refusal, value, outcome}
 use Rattle.snesl.specs.Demands.{toldOf, Demands}
 use Rattle.snesl.proofs.Jobs.Demands.{demands}
 use Rattle.snesl.proofs.Jobs.OneAnswer as one
-use Rattle.sheet.specs.declared.Counts.{Counts}
 use Rattle.sheet.specs.declared.Ran.{Ran}
 use Rattle.sheet.specs.declared.Ran.the-variants.{Value, Refused}
 use Rattle.sheet.specs.Runs.{ranOf, told, Exact}

@@ -2,7 +2,6 @@
 use Prim.Native.Nat.{ℕ, zero, suc, _+_, _≤_}
 use native.Mathlib.Omega.{arith}
 use mathlib.Core.List.{List, [], _∷_, _++_, append-assoc}
-use mathlib.Core.Option.{some, none}
 use mathlib.Core.Path.{_≡_, refl, sym, ap, _∙_, subst}
 use lib.IntN.{ℤ}
 use lib.ListN.{length, take, drop, length-append}
@@ -11,11 +10,11 @@ use Rattle.snesl.specs.declared.refusal.Refusal.{Refusal}
 use Rattle.snesl.specs.Limits.{usedOf}
 use Rattle.snesl.specs.Refusals.{number}
 use Rattle.snesl.specs.Values.{Val}
-use Rattle.snesl.specs.Streams.{Stream, elements, Store, _!_, contents, room}
+use Rattle.snesl.specs.Streams.{elements, Store, _!_, contents, room}
 use Rattle.snesl.specs.Trees.{Tree, mapTree}
 use Rattle.snesl.specs.Representation.{represent, laid, Holds}
 use Rattle.snesl.specs.Text.{show}
-use Rattle.snesl.specs.Outcome.{Outcome, refusal, elementsOf, outcome, zeroed, streamsRefused, streamsAfter, answerAfter}
+use Rattle.snesl.specs.Outcome.{Outcome, elementsOf, outcome, zeroed, streamsRefused, streamsAfter, answerAfter}
 use Rattle.snesl.specs.Demands.{toldOf, Accepted, environment, Stops, valueless, crowded, filled, unshown, standing, Demands, turned-away, stops, keeps}
 use Rattle.snesl.proofs.Correctness.Costs.{charge-bounded}
 use Rattle.snesl.proofs.Jobs.EarlyRefusals.{Early, early-long, early-record, early-limit, early-many, early-unbound, early-type, early-text, early-keeps}

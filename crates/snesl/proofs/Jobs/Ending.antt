@@ -1,5 +1,5 @@
 -- How an accepted job ends: the bounded run of its code against what the rules give for its inputs. Each theorem on a job's outcome reads one of these cases.
-use Prim.Native.Nat.{ℕ, _<_, _≤_}
+use Prim.Native.Nat.{ℕ, _≤_}
 use native.Mathlib.Omega.{arith}
 use mathlib.Core.Bool.{Bool, true, false}
 use mathlib.Core.List.{List, [], _∷_}

@@ -1,13 +1,11 @@
 -- The demands leave one answer and one content of each buffer: those of the outcome. So two calls that keep them for one job, lent the same, agree.
 use Prim.Native.Nat.{ℕ, _≤_}
 use native.Mathlib.Omega.{arith}
-use mathlib.Core.Bool.{true, false}
 use mathlib.Core.List.{List, _++_}
 use mathlib.Core.Logic.{_⊎_, inl, inr}
 use mathlib.Core.Option.{some, none}
 use mathlib.Core.Path.{_≡_, refl, sym, ap, _∙_, subst}
 use borrow.Author.Tests.{le-leb, lt-leb}
-use lib.Dec.{leb}
 use lib.IntN.{ℤ}
 use lib.ListN.{length, drop}
 use Rattle.laws.proofs.Options.{none-some}
@@ -19,11 +17,11 @@ use Rattle.snesl.specs.Values.{Val}
 use Rattle.snesl.specs.Evaluation.{eval}
 use Rattle.snesl.specs.Charges.{charge, reached, countTrue}
 use Rattle.snesl.specs.Streams.{contents, room}
-use Rattle.snesl.specs.Machine.{State, Result, went, stopped}
+use Rattle.snesl.specs.Machine.{State, Result, went}
 use Rattle.snesl.specs.Agreement.{iota-negative, no-number}
 use Rattle.snesl.specs.Text.{show}
 use Rattle.snesl.specs.Outcome.{Outcome, refusal, value, outcomeRead, outcomeTyped, valued, executed, answered, finished, outcome, streamsRefused, streamsAfter, answerAfter}
-use Rattle.snesl.specs.Demands.{Told, shows, declines, toldOf, Accepted, environment, resultTree, Comes, TurnedAway, unread, untyped, unvalued, Stops, valueless, crowded, filled, unshown, Kept, Demands, turned-away, stops, keeps}
+use Rattle.snesl.specs.Demands.{Told, shows, declines, toldOf, Accepted, environment, resultTree, Comes, TurnedAway, unread, untyped, unvalued, Stops, valueless, crowded, filled, unshown, Demands, turned-away, stops, keeps}
 use Rattle.snesl.proofs.Jobs.Course.{outcome-executed}
 use Rattle.snesl.proofs.Jobs.Demands.{stops-clear}
 use Rattle.snesl.proofs.Jobs.Ending.{went-text, went-right, Ending, short, shown, ending}

@@ -2,7 +2,6 @@
 use mathlib.Core.Path.{sym, _∙_}
 use native.Mathlib.Omega.{arith}
 use borrow.Author.Needs.{needs}
-use lib.ListN.{length}
 use lib.Seq.{length-take-le}
 use Rattle.sheet.specs.declared.Ran.the-variants.{Refused}
 use Rattle.sheet.proofs.Admitting.{turned, taken-in}
@@ -30,7 +29,13 @@ slice-aggregate-execute : tie.Need-slice-aggregate-execute
 slice-aggregate-execute c = sym (length-take-le (c .before .used-part .result) (c .before .before .before .before .before .before .before .before .args .streams .now) (omega (arith, c .before .used-part .ensures)))
 
 execute-requires : tie.Need-execute-requires
-execute-requires c κs = ((taken-in (c .before .before .before .before .before .before .before .before .before .args .job .now) (c .before .before .before .before .formula .given .0 .0) (sym (c .before .before .before .before .formula .given .1) ∙ c .before .before .before .before .before .before .admit .ensures)), omega (arith, (length-take-le (c .before .before .used-part .result) (c .before .before .before .before .before .before .before .before .before .args .streams .now) (omega (arith, c .before .before .used-part .ensures))), c .before .before .used-part .ensures))
+execute-requires c κs =
+    let given = c .before .before .before .before .before .before .before .before .before .args in
+    let formula = c .before .before .before .before .formula .given in
+    let used = c .before .before .used-part in (
+      taken-in (given .job .now) (formula .0 .0) (sym (formula .1) ∙ c .before .before .before .before .before .before .admit .ensures),
+      omega (arith, length-take-le (used .result) (given .streams .now) (omega (arith, used .ensures)), used .ensures),
+    )
 
 returns : tie.Need-returns
 returns c =
