@@ -2,8 +2,8 @@
 //!
 //! The sheet is a plus and a sum for each stop of each area. Both sides take the same value texts
 //! and give the same answer text; then each is timed without the text. It measures, it judges
-//! nothing: the times are of one run on one computer. `--calls` only makes calls, for a program
-//! that counts their instructions.
+//! nothing: the times are of one run on one computer. `--calls` only makes calls and `--job` only
+//! writes a job, for programs that count instructions.
 
 #![forbid(unsafe_code)]
 
@@ -14,6 +14,7 @@ mod timing;
 mod walk;
 
 use sheet::Sheet;
+use std::io::Write;
 use std::process::ExitCode;
 use std::time::Duration;
 
@@ -29,10 +30,12 @@ fn main() -> ExitCode {
         [] => report(&Sheet::new(1_000)),
         ["--large"] => [1_000, 10_000].iter().for_each(|readings| report(&Sheet::new(*readings))),
         ["--calls", side, count] if calls(side, count).is_some() => {}
+        ["--job", side] if write_job(side).is_some() => {}
         _ => {
             eprintln!("usage: bench [--large]            with --large also 10,000 readings");
             eprintln!("       bench --calls SIDE COUNT   SIDE: walk, walk-alone, library, inputs");
             eprintln!("                                  or answer");
+            eprintln!("       bench --job SIDE           the job's bytes; SIDE: library or inputs");
             return ExitCode::from(2);
         }
     }
@@ -53,6 +56,17 @@ fn calls(side: &str, count: &str) -> Option<()> {
     };
     (0..count).for_each(|_| call());
     Some(())
+}
+
+/// Writes the job of a side that is run, on 1,000 readings.
+fn write_job(side: &str) -> Option<()> {
+    let sheet = Sheet::new(1_000);
+    let job = match side {
+        "library" => sheet.job,
+        "inputs" => sheet.inputs_only,
+        _ => return None,
+    };
+    std::io::stdout().write_all(&job).ok()
 }
 
 fn report(sheet: &Sheet) {

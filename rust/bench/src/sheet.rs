@@ -4,7 +4,6 @@
 pub const FORMULA: &str = "IN 0 3, IN 1 0, EA 2 0 1 1, EA 3 2 1 1, LT 4, EA 5 3 1 1, PL 5 1, SM 4";
 
 /// The same inputs, and the correction alone as the answer.
-#[cfg(feature = "linked")]
 const INPUTS_ONLY: &str = "IN 0 3, IN 1 0, VR 1";
 
 pub struct Sheet {
@@ -13,7 +12,6 @@ pub struct Sheet {
     pub correction_text: String,
     pub job: Vec<u8>,
     /// A job that reads the same inputs and works out nothing.
-    #[cfg(feature = "linked")]
     pub inputs_only: Vec<u8>,
 }
 
@@ -32,7 +30,6 @@ impl Sheet {
         Sheet {
             readings,
             job: job(FORMULA),
-            #[cfg(feature = "linked")]
             inputs_only: job(INPUTS_ONLY),
             areas_text,
             correction_text,
