@@ -1,12 +1,13 @@
--- Refusal 7 input by input: what is left to be told of all inputs is what is left of those that follow.
-use Prim.Native.Nat.{ℕ, zero, suc, _+_, _-_, _≤_, _<_}
+-- Refusal 7 and the counts input by input: what is left to be told of all inputs is what is left of those that follow.
+use Prim.Native.Nat.{ℕ, zero, suc, _+_, _*_, _-_, _≤_, _<_}
 use mathlib.Core.Bool.{Bool, true, false}
-use mathlib.Core.List.{List, [], _∷_}
+use mathlib.Core.List.{List, [], _∷_, _++_, append-assoc, append-nil}
 use mathlib.Core.Option.{Option, some, none}
-use mathlib.Core.Path.{_≡_, refl, sym, ap, subst, _∙_}
+use mathlib.Core.Path.{_≡_, refl, sym, ap, ap₂, subst, _∙_}
 use native.Mathlib.Omega.{arith}
 use lib.Dec.{leb}
-use lib.ListN.{length, take, drop}
+use lib.ListN.{length, take, drop, length-drop, drop-of-length-le, take-append-drop}
+use lib.Seq.{length-take-le, take-append-add, drop-append-add}
 use Rattle.snesl.specs.Limits.{mostDepth, mostElements}
 use Rattle.snesl.specs.Streams.{room}
 use Rattle.snesl.specs.Values.{Val}
@@ -16,23 +17,30 @@ use Rattle.snesl.specs.Records.{byteAt, Input, inputAt, Span, spanAt}
 use Rattle.snesl.specs.Checking.{depths}
 use Rattle.snesl.specs.Inputs.{Values, wrong, right, valueFirst, inputValues}
 use Rattle.decimals.specs.Numbers.{pick}
-use Rattle.valuetext.specs.Storing.{valueStore, measured, measuredIf}
+use Rattle.decimals.proofs.Parts.{rest-of}
+use Rattle.records.specs.Declarations.{inputPlace}
+use Rattle.valuetext.specs.Storing.{valueStore, measured, measuredIf, countsAfter}
 use Rattle.valuetext.specs.declared.storing.Measured.{Measured}
 use Rattle.valuetext.specs.declared.storing.Measured.the-variants.{Elements, Over, No}
 use Rattle.inputs.specs.declared.texts.Texts.{Texts}
 use Rattle.inputs.specs.declared.texts.Texts.the-variants.{Good, Bad}
-use Rattle.inputs.specs.Supply.{textsOf}
+use Rattle.inputs.specs.Supply.{textsOf, perInput, tallyFirst, tallied}
 use Rattle.inputs.proofs.Supplying.{Supplied, supplied-none, supplied-more}
 
--- `left` inputs of these are still to be told of, their IN records from `at` on and their texts from k on
-pub record Telling (t : List ℕ) (is : List Input) (ss : List Span) (left at k : ℕ) : Type 0 where
+-- `left` inputs of these, from number i on, are still to be told of, their texts from k on; the counts of those before are kept
+pub record Telling (t : List ℕ) (is : List Input) (ss : List Span) (cs₀ : List ℕ) (left i k : ℕ) (cs : List ℕ) : Type 0 where
   pub inputs : List Input
   pub spans : List Span
-  pub supplied : Supplied t left at k inputs spans
+  pub supplied : Supplied t left (inputPlace i) k inputs spans
   pub same : textsOf (inputValues t is ss) ≡ textsOf (inputValues t inputs spans)
+  pub tally : tallied t is ss cs₀ ≡ take (perInput * i) cs ++ tallied t inputs spans (drop (perInput * i) cs)
+  pub space : perInput * i + perInput * left ≤ length cs
 
-pub tells : {t : List ℕ} {is : List Input} {ss : List Span} {left at k : ℕ} → Supplied t left at k is ss → Telling t is ss left at k
-tells {is = is} {ss = ss} s = record { inputs = is; spans = ss; supplied = s; same = refl }
+pub tells : {t : List ℕ} {is : List Input} {ss : List Span} {n k : ℕ} {cs : List ℕ} → Supplied t n 0 k is ss → perInput * n ≤ length cs
+    → Telling t is ss cs (n - 0) 0 k cs
+tells {t} {is} {ss} {n} {k} s h =
+    let all : n ≡ n - 0 = omega arith in
+    record { inputs = is; spans = ss; supplied = subst (λ (m : ℕ). Supplied t m 0 k is ss) all s; same = refl; tally = refl; space = omega arith }
 
 -- the bounds of the next input's records
 pub record Bounds (t : List ℕ) (at k : ℕ) : Type 0 where
@@ -88,49 +96,143 @@ first-some t at k is ss v e =
     ap (λ (o : Option (Val (byteAt t (at + 3)))). textsOf (valueFirst {d = byteAt t (at + 3)} (k + 4 - 4) o (inputValues t is ss))) e
     ∙ others-tell (byteAt t (at + 3)) (k + 4 - 4) v (inputValues t is ss)
 
-module _ {t : List ℕ} {is : List Input} {ss : List Span} {left at k : ℕ} (h : Telling t is ss left at k) where
-  pub bounds : 0 < left → Bounds t at k
-  bounds l = go (h .supplied) l
+-- the counts of the first input, and the others'
+pub first-tallied : (t : List ℕ) (at k : ℕ) (is : List Input) (ss : List Span) (cs : List ℕ) (v : Val (byteAt t (at + 3)))
+    → valueOf (byteAt t (at + 3)) (spanOf t (spanAt t k)) ≡ some v
+    → tallied t (inputAt t at ∷ is) (spanAt t k ∷ ss) cs
+    ≡ take perInput (countsAfter (byteAt t (at + 3)) (spanOf t (spanAt t k)) cs)
+    ++ tallied t is ss (drop perInput (countsAfter (byteAt t (at + 3)) (spanOf t (spanAt t k)) cs))
+unfolding tallied
+first-tallied t at k is ss cs v e =
+    ap
+    (λ (o : Option (Val (byteAt t (at + 3)))).
+    tallyFirst (byteAt t (at + 3)) o (countsAfter (byteAt t (at + 3)) (spanOf t (spanAt t k)) cs) (tallied t is ss))
+    e
+
+first-untallied : (t : List ℕ) (at k : ℕ) (is : List Input) (ss : List Span) (cs : List ℕ)
+    → valueOf (byteAt t (at + 3)) (spanOf t (spanAt t k)) ≡ none
+    → tallied t (inputAt t at ∷ is) (spanAt t k ∷ ss) cs ≡ countsAfter (byteAt t (at + 3)) (spanOf t (spanAt t k)) cs
+unfolding tallied
+first-untallied t at k is ss cs e =
+    ap
+    (λ (o : Option (Val (byteAt t (at + 3)))).
+    tallyFirst (byteAt t (at + 3)) o (countsAfter (byteAt t (at + 3)) (spanOf t (spanAt t k)) cs) (tallied t is ss))
+    e
+
+-- the counts from input i on, as they are lent
+abbrev pub countsFrom : List ℕ → (i : ℕ) → List ℕ
+countsFrom counts i = take (length counts - perInput * i) (drop (perInput * i) counts)
+
+-- and as they come back
+pub counts-back : (d : ℕ) (text cs : List ℕ) (i : ℕ) {new : List ℕ} → new ≡ countsAfter d text (countsFrom cs i)
+    → take (perInput * i) cs ++ (new ++ drop (length cs - perInput * i) (drop (perInput * i) cs))
+    ≡ take (perInput * i) cs ++ countsAfter d text (drop (perInput * i) cs)
+counts-back d text cs i {new} e =
+    let long : length (drop (perInput * i) cs) ≤ length cs - perInput * i = omega (arith, length-drop (perInput * i) cs) in
+    let none-left : drop (length cs - perInput * i) (drop (perInput * i) cs) ≡ [] = drop-of-length-le (drop (perInput * i) cs) long in
+    ap (λ (x : List ℕ). take (perInput * i) cs ++ x)
+    (ap (λ (x : List ℕ). new ++ x) none-left ∙ append-nil new ∙ e ∙ ap (countsAfter d text) (rest-of cs (perInput * i)))
+
+-- some counts in front of others, cut behind nine more
+module _ (cs new : List ℕ) (i : ℕ) (h : perInput * i ≤ length cs) where
+  front-long : length (take (perInput * i) cs) ≡ perInput * i
+  front-long = length-take-le (perInput * i) cs h
+
+  front-more : take (perInput * (i + 1)) (take (perInput * i) cs ++ new) ≡ take (perInput * i) cs ++ take perInput new
+  front-more =
+      let p : perInput * (i + 1) ≡ length (take (perInput * i) cs) + perInput = omega (arith, front-long) in
+      ap (λ (n : ℕ). take n (take (perInput * i) cs ++ new)) p ∙ take-append-add (take (perInput * i) cs) new perInput
+
+  rest-more : drop (perInput * (i + 1)) (take (perInput * i) cs ++ new) ≡ drop perInput new
+  rest-more =
+      let p : perInput * (i + 1) ≡ length (take (perInput * i) cs) + perInput = omega (arith, front-long) in
+      ap (λ (n : ℕ). drop n (take (perInput * i) cs ++ new)) p ∙ drop-append-add (take (perInput * i) cs) new perInput
+
+module _ {t : List ℕ} {is : List Input} {ss : List Span} {cs₀ : List ℕ} {n i k : ℕ} {cs : List ℕ} (h : Telling t is ss cs₀ (n - i) i k cs) (l : i < n) where
+  pub bounds : Bounds t (inputPlace i) k
+  bounds = go (h .supplied) refl
     where
-      go : {n : ℕ} {js : List Input} {us : List Span} → Supplied t n at k js us → 0 < n → Bounds t at k
-      go supplied-none l = absurd (omega arith)
-      go (supplied-more f s g r) l = record { input = f; shallow = s; text = g }
+      go : {m : ℕ} {js : List Input} {us : List Span} → Supplied t m (inputPlace i) k js us → m ≡ n - i → Bounds t (inputPlace i) k
+      go supplied-none e = absurd (omega arith)
+      go (supplied-more f s g r) e = record { input = f; shallow = s; text = g }
 
-  pub told-bad : (next : ℕ) → next ≡ k + 4 + spanAt t k .bytes → 0 < left → No ≡ measured (byteAt t (at + 3)) (textFrom t k next)
-      → Bad k ≡ textsOf (inputValues t is ss)
-  told-bad next e l m = sym (h .same ∙ go (h .supplied) l)
-    where
-      nothing : valueOf (byteAt t (at + 3)) (spanOf t (spanAt t k)) ≡ none
-      nothing = none-measured (byteAt t (at + 3)) (spanOf t (spanAt t k)) (m ∙ ap (measured (byteAt t (at + 3))) (text-span t k next e))
+  -- its counts are put behind those that are kept
+  module _ (next : ℕ) (e : next ≡ k + 4 + spanAt t k .bytes) {d : ℕ} (as-declared : d ≡ byteAt t (inputPlace i + 3)) {cs′ : List ℕ}
+      (c : cs′ ≡ take (perInput * i) cs ++ countsAfter d (textFrom t k next) (drop (perInput * i) cs)) where
+    counted : cs′ ≡ take (perInput * i) cs ++ countsAfter (byteAt t (inputPlace i + 3)) (spanOf t (spanAt t k)) (drop (perInput * i) cs)
+    counted =
+        c
+        ∙ ap₂ (λ (x : ℕ) (y : List ℕ). take (perInput * i) cs ++ countsAfter x y (drop (perInput * i) cs)) as-declared (text-span t k next e)
 
-      go : {n : ℕ} {js : List Input} {us : List Span} → Supplied t n at k js us → 0 < n → textsOf (inputValues t js us) ≡ Bad k
-      go supplied-none l = absurd (omega arith)
-      go (supplied-more {is = js} {ss = us} f s g r) l = first-none t at k js us nothing
+    pub told-bad : No ≡ measured d (textFrom t k next) → (Bad k ≡ textsOf (inputValues t is ss)) × (cs′ ≡ tallied t is ss cs₀)
+    told-bad m = go (h .supplied) (h .same) (h .tally) refl
+      where
+        nothing : valueOf (byteAt t (inputPlace i + 3)) (spanOf t (spanAt t k)) ≡ none
+        nothing =
+            none-measured (byteAt t (inputPlace i + 3)) (spanOf t (spanAt t k))
+            (m ∙ ap₂ measured as-declared (text-span t k next e))
 
-  pub told-on : (next : ℕ) (m : Measured) → next ≡ k + 4 + spanAt t k .bytes → 0 < left → m ≡ measured (byteAt t (at + 3)) (textFrom t k next) → (m ≡ No → ⊥)
-      → Telling t is ss (left - 1) (at + 4) next
-  told-on next m e l p f = go (h .supplied) (h .same) l
-    where
-      something : (v : Val (byteAt t (at + 3))) × (valueOf (byteAt t (at + 3)) (spanOf t (spanAt t k)) ≡ some v)
-      something =
-          some-measured (byteAt t (at + 3)) (spanOf t (spanAt t k)) m (p ∙ ap (measured (byteAt t (at + 3))) (text-span t k next e)) f
+        go : {m : ℕ} {js : List Input} {us : List Span} → Supplied t m (inputPlace i) k js us
+            → textsOf (inputValues t is ss) ≡ textsOf (inputValues t js us)
+            → tallied t is ss cs₀ ≡ take (perInput * i) cs ++ tallied t js us (drop (perInput * i) cs)
+            → m ≡ n - i
+            → (Bad k ≡ textsOf (inputValues t is ss)) × (cs′ ≡ tallied t is ss cs₀)
+        go supplied-none q u z = absurd (omega arith)
+        go (supplied-more {is = js} {ss = us} f s g r) q u z = (
+          sym (q ∙ first-none t (inputPlace i) k js us nothing),
+          counted
+              ∙ ap (λ (x : List ℕ). take (perInput * i) cs ++ x) (sym (first-untallied t (inputPlace i) k js us (drop (perInput * i) cs) nothing))
+              ∙ sym u,
+        )
 
-      go : {n : ℕ} {js : List Input} {us : List Span} → Supplied t n at k js us → textsOf (inputValues t is ss) ≡ textsOf (inputValues t js us) → 0 < n
-          → Telling t is ss (n - 1) (at + 4) next
-      go supplied-none q l = absurd (omega arith)
-      go (supplied-more {n = n} {is = js} {ss = us} _ _ _ r) q l =
-          let less : n ≡ suc n - 1 = omega arith in
-          record {
-            inputs = js;
-            spans = us;
-            supplied = subst (λ (i : ℕ). Supplied t i (at + 4) next js us) less (subst (λ (i : ℕ). Supplied t n (at + 4) i js us) (sym e) r);
-            same = q ∙ first-some t at k js us (something .0) (something .1);
-          }
+    pub told-on : (m : Measured) → m ≡ measured d (textFrom t k next) → (m ≡ No → ⊥) → length cs′ ≡ length cs
+        → Telling t is ss cs₀ (n - (i + 1)) (i + 1) next cs′
+    told-on m p f long = go (h .supplied) (h .same) (h .tally) refl
+      where
+        something : (v : Val (byteAt t (inputPlace i + 3))) × (valueOf (byteAt t (inputPlace i + 3)) (spanOf t (spanAt t k)) ≡ some v)
+        something =
+            some-measured (byteAt t (inputPlace i + 3)) (spanOf t (spanAt t k)) m
+            (p ∙ ap₂ measured as-declared (text-span t k next e)) f
 
-  pub told-all : left ≤ 0 → Good ≡ textsOf (inputValues t is ss)
-  unfolding inputValues
-  told-all l = sym (h .same ∙ go (h .supplied) l)
-    where
-      go : {n : ℕ} {js : List Input} {us : List Span} → Supplied t n at k js us → n ≤ 0 → textsOf (inputValues t js us) ≡ Good
-      go supplied-none l = refl
-      go (supplied-more f s g r) l = absurd (omega arith)
+        new : List ℕ
+        new = countsAfter (byteAt t (inputPlace i + 3)) (spanOf t (spanAt t k)) (drop (perInput * i) cs)
+
+        go : {m : ℕ} {js : List Input} {us : List Span} → Supplied t m (inputPlace i) k js us
+            → textsOf (inputValues t is ss) ≡ textsOf (inputValues t js us)
+            → tallied t is ss cs₀ ≡ take (perInput * i) cs ++ tallied t js us (drop (perInput * i) cs)
+            → m ≡ n - i
+            → Telling t is ss cs₀ (n - (i + 1)) (i + 1) next cs′
+        go supplied-none q u z = absurd (omega arith)
+        go (supplied-more {n = m} {is = js} {ss = us} _ _ _ r) q u z =
+            let less : m ≡ n - (i + 1) = omega arith in
+            let at : inputPlace i + 4 ≡ inputPlace (i + 1) = omega arith in
+            let low : perInput * i ≤ length cs = omega (arith, h .space) in
+            record {
+              inputs = js;
+              spans = us;
+              supplied =
+                  subst (λ (j : ℕ). Supplied t j (inputPlace (i + 1)) next js us) less
+                  (subst (λ (j : ℕ). Supplied t m j next js us) at (subst (λ (j : ℕ). Supplied t m (inputPlace i + 4) j js us) (sym e) r));
+              same = q ∙ first-some t (inputPlace i) k js us (something .0) (something .1);
+              tally =
+                  u
+                  ∙ ap (λ (x : List ℕ). take (perInput * i) cs ++ x)
+                  (first-tallied t (inputPlace i) k js us (drop (perInput * i) cs) (something .0) (something .1))
+                  ∙ sym (append-assoc (take (perInput * i) cs) (take perInput new) (tallied t js us (drop perInput new)))
+                  ∙ ap₂ (λ (x y : List ℕ). x ++ tallied t js us y) (sym (front-more cs new i low)) (sym (rest-more cs new i low))
+                  ∙ ap (λ (x : List ℕ). take (perInput * (i + 1)) x ++ tallied t js us (drop (perInput * (i + 1)) x)) (sym counted);
+              space = omega (arith, h .space);
+            }
+
+pub told-all : {t : List ℕ} {is : List Input} {ss : List Span} {cs₀ : List ℕ} {left i k : ℕ} {cs : List ℕ} → Telling t is ss cs₀ left i k cs → left ≤ 0
+    → (Good ≡ textsOf (inputValues t is ss)) × (cs ≡ tallied t is ss cs₀)
+unfolding inputValues tallied
+told-all {t} {is} {ss} {cs₀} {left} {i} {k} {cs} h l = go (h .supplied) (h .same) (h .tally) l
+  where
+    go : {n at : ℕ} {js : List Input} {us : List Span} → Supplied t n at k js us
+        → textsOf (inputValues t is ss) ≡ textsOf (inputValues t js us)
+        → tallied t is ss cs₀ ≡ take (perInput * i) cs ++ tallied t js us (drop (perInput * i) cs)
+        → n ≤ 0
+        → (Good ≡ textsOf (inputValues t is ss)) × (cs ≡ tallied t is ss cs₀)
+    go supplied-none q u l = (sym q, sym (u ∙ take-append-drop (perInput * i) cs))
+    go (supplied-more f s g r) q u l = absurd (omega arith)

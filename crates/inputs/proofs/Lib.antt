@@ -3,3 +3,4 @@ pub mod Checking
 pub mod Rows
 pub mod OneLoaded
 pub mod AllLoaded
+pub mod Counting

@@ -7,10 +7,10 @@ use mathlib.Core.Path.{_≡_, refl, sym, ap, ap₂, subst, _∙_}
 use native.Mathlib.Nat.{add-zero}
 use native.Mathlib.Numerals.{add-one}
 use native.Mathlib.Omega.{arith}
-use borrow.Author.Tests.{leb-false}
+use borrow.Author.Tests.{leb-true, leb-false}
 use lib.Dec.{leb}
 use lib.IntN.{ℤ}
-use lib.ListN.{length, getD, set, take, drop, length-append, length-map}
+use lib.ListN.{length, getD, set, take, drop, length-append, length-map, length-take}
 use lib.Seq.{sets, sets-eq, length-sets, take-at, drop-at, length-take-le}
 use Rattle.laws.specs.Parts.{written}
 use Rattle.environment.specs.Words.{Place, placeWords, treeWords, spelled}
@@ -30,9 +30,9 @@ use Rattle.steps.proofs.Stores.{contents-append, room-append, newest}
 use Rattle.leaves.specs.Places.{place, places, Shapely, shapely-leaf, shapely-node, Shaped, shaped-more, Shallow, shallow-more}
 use Rattle.leaves.proofs.Places.{tree-kept, places-kept, shapely-kept, shaped-kept, place-newest}
 use Rattle.decimals.specs.Numbers.{pick}
-use Rattle.valuetext.specs.Storing.{valueStore, valueStoreIf, textElements, measured, measuredIf, countsFor, countsAfter, textStore, Fillable}
-use Rattle.valuetext.specs.declared.storing.Measured.{Measured}
-use Rattle.valuetext.specs.declared.storing.Measured.the-variants.{Elements, Over, No}
+use Rattle.valuetext.specs.Storing.{valueStore, valueStoreIf, textElements, Fillable}
+use Rattle.levels.specs.Counts.{totalOf}
+use Rattle.levels.specs.declared.counts.Total.the-variants.{Of, Over}
 use Rattle.valuetext.proofs.Represented.{lens-length, lens-total, order-length}
 use Rattle.inputs.specs.declared.loading.Loaded.the-variants.{At, Full}
 use Rattle.inputs.specs.Places.{rowWords}
@@ -124,7 +124,8 @@ module _ {σ : Store} {buf : List ℤ} {state : List ℕ} (h : Held (unspent σ)
 
 -- ---- the input
 
-module _ {text : List ℕ} {x : Variable} {d sp : ℕ} {env : List ℕ} {buf : List ℤ} {state : List ℕ} (g : Next text x d sp env buf state) where
+module _ {text : List ℕ} {x : Variable} {d : ℕ} {counts : List ℕ} {sp : ℕ} {env : List ℕ} {buf : List ℤ} {state : List ℕ}
+    (g : Next text x d counts sp env buf state) where
   abbrev σ : Store
   σ = g .store
 
@@ -140,130 +141,120 @@ module _ {text : List ℕ} {x : Variable} {d sp : ℕ} {env : List ℕ} {buf : L
   pub first-room : getD state 1 0 ≡ room σ
   first-room = ap (λ (l : List ℕ). getD l 1 0) (g .stands .held .words)
 
-  -- what measuring says
-  measure-is : measured d text ≡ pick (leb (room τ) mostElements) (Elements (room τ)) Over
-  measure-is = ap (measuredIf d) (g .reads)
+  -- its counts add up to its room
+  lengths-counted : take (d + 1) counts ≡ map len τ
+  lengths-counted = ap (λ (k : ℕ). take k counts) (add-one d) ∙ g .counted
 
-  pub total : (n : ℕ) → Elements n ≡ measured d text → n ≡ room τ
-  total n e = go (leb (room τ) mostElements) (e ∙ measure-is)
+  pub lengths-long : length (take (d + 1) counts) ≡ suc d
+  lengths-long = ap length lengths-counted ∙ lens-length d (g .value ∷ [])
+
+  pub levels-within : d + 1 ≤ length counts
+  levels-within = omega (arith, lengths-long, length-take (d + 1) counts)
+
+  lengths-room : sumOf (take (d + 1) counts) ≡ room τ
+  lengths-room = ap sumOf lengths-counted ∙ lens-total d (g .value ∷ [])
+
+  pub full-now : Over ≡ totalOf (take (d + 1) counts) (length buf - getD state 1 0) → {env′ : List ℕ} {buf′ : List ℤ} {state′ : List ℕ}
+      → Takes g env′ buf′ state′ (Full (getD state 0 0))
+  full-now o {env′} {buf′} {state′} =
+      subst (λ (s : ℕ). Takes g env′ buf′ state′ (Full s)) (sym first-free)
+      (passes (omega (arith, go (leb (sumOf (take (d + 1) counts)) (length buf - getD state 1 0)) refl o, lengths-room, first-room, g .stands .held .fits)))
     where
-      go : (b : Bool) → Elements n ≡ pick b (Elements (room τ)) Over → n ≡ room τ
-      go true q = cc
-      go false q = let z : _≡_ {A = ℕ} 0 1 = cc in absurd (omega arith)
+      go : (b : Bool) → leb (sumOf (take (d + 1) counts)) (length buf - getD state 1 0) ≡ b → Over ≡ pick b (Of (sumOf (take (d + 1) counts))) Over
+          → length buf - getD state 1 0 < sumOf (take (d + 1) counts)
+      go true p q = let z : _≡_ {A = ℕ} 0 1 = cc in absurd (omega arith)
+      go false p q = leb-false (sumOf (take (d + 1) counts)) (length buf - getD state 1 0) p
 
-  pub past : (m : Measured) → m ≡ measured d text → ((n : ℕ) → m ≡ Elements n → ⊥) → mostElements < room τ
-  past m e f = go (leb (room τ) mostElements) refl (e ∙ measure-is)
-    where
-      go : (b : Bool) → leb (room τ) mostElements ≡ b → m ≡ pick b (Elements (room τ)) Over → mostElements < room τ
-      go true p q = absurd (f (room τ) q)
-      go false p q = leb-false (room τ) mostElements p
+  module _ (n : ℕ) (o : Of n ≡ totalOf (take (d + 1) counts) (length buf - getD state 1 0)) where
+    pub added : (n ≡ sumOf (take (d + 1) counts)) × (n ≤ length buf - getD state 1 0)
+    added = go (leb (sumOf (take (d + 1) counts)) (length buf - getD state 1 0)) refl o
+      where
+        go : (b : Bool) → leb (sumOf (take (d + 1) counts)) (length buf - getD state 1 0) ≡ b → Of n ≡ pick b (Of (sumOf (take (d + 1) counts))) Over
+            → (n ≡ sumOf (take (d + 1) counts)) × (n ≤ length buf - getD state 1 0)
+        go true p q =
+            let e : n ≡ sumOf (take (d + 1) counts) = cc in
+            (e, omega (arith, leb-true (sumOf (take (d + 1) counts)) (length buf - getD state 1 0) p))
+        go false p q = let z : _≡_ {A = ℕ} 0 1 = cc in absurd (omega arith)
 
-  pub full-past : (m : Measured) → m ≡ measured d text → ((n : ℕ) → m ≡ Elements n → ⊥) → {env′ : List ℕ} {buf′ : List ℤ} {state′ : List ℕ} → Takes g env′ buf′ state′ (Full (getD state 0 0))
-  full-past m e f {env′} {buf′} {state′} =
-      subst (λ (s : ℕ). Takes g env′ buf′ state′ (Full s)) (sym first-free) (passes (omega (arith, past m e f, g .small)))
+    total : n ≡ room τ
+    total = added .0 ∙ lengths-room
 
-  module _ (n : ℕ) (e : Elements n ≡ measured d text) where
-    pub full-now : length buf - getD state 1 0 < n → {env′ : List ℕ} {buf′ : List ℤ} {state′ : List ℕ} → Takes g env′ buf′ state′ (Full (getD state 0 0))
-    full-now l {env′} {buf′} {state′} =
-        subst (λ (s : ℕ). Takes g env′ buf′ state′ (Full s)) (sym first-free)
-        (passes (omega (arith, total n e, first-room, g .stands .held .fits)))
+    fits : room σ + room τ ≤ length buf
+    fits = omega (arith, total, added .1, first-room, g .stands .held .fits)
 
-    module _ (counts counts′ : List ℕ) (c : counts′ ≡ countsAfter d text counts) where
-      counts-are : counts′ ≡ map len τ ++ drop (suc d) counts
-      counts-are =
-          c
-          ∙ (ap (λ (m : Measured). countsFor m (map len (textStore d text)) d counts) (sym e)
-          ∙ ap (λ (o : Option (Val d)). map len (valueStoreIf d o) ++ drop (suc d) counts) (g .reads))
+    pub fills : Fillable d text counts (getD state 1 0) (length buf)
+    fills =
+        record { value = g .value; reads = g .reads; shallow = g .shallow; counted = g .counted; room-for = omega (arith, fits, first-room) }
 
-      pub counted : take (suc d) counts′ ≡ map len τ
-      counted = ap (take (suc d)) counts-are ∙ take-at (map len τ) (drop (suc d) counts) (suc d) (lens-length d (g .value ∷ []))
+    pub room-small : getD state 1 0 + n ≤ mostElements
+    room-small = omega (arith, fits, first-room, total, g .small)
 
-      pub lengths-counted : take (d + 1) counts′ ≡ map len τ
-      lengths-counted = ap (λ (k : ℕ). take k counts′) (add-one d) ∙ counted
+    pub id-small : getD state 0 0 + suc mostDepth ≤ mostElements
+    id-small = omega (arith, first-free, g .few)
 
-      pub lengths-long : length (take (d + 1) counts′) ≡ suc d
-      lengths-long = ap length lengths-counted ∙ lens-length d (g .value ∷ [])
+    -- the machine and the words afterwards
+    grown : length (σ ++ τ) ≡ length σ + suc d
+    grown = length-append σ τ ∙ ap (λ (k : ℕ). length σ + k) (order-length (represent d (g .value ∷ [])))
 
-      pub lengths-sum : sumOf (take (d + 1) counts′) ≡ n
-      lengths-sum = ap sumOf lengths-counted ∙ (lens-total d (g .value ∷ []) ∙ sym (total n e))
+    new-state : set (set state 0 (getD state 0 0 + (d + 1))) 1 (getD state 1 0 + n) ≡ counters (unspent (σ ++ τ))
+    new-state =
+        let i : getD state 0 0 + (d + 1) ≡ length (σ ++ τ) = omega (arith, grown, first-free) in
+        let r : getD state 1 0 + n ≡ room (σ ++ τ) = omega (arith, first-room, total, room-append σ τ) in
+        ap₂ (λ (i r : ℕ). set (set state 0 i) 1 r) i r
+        ∙ ap (λ (s : List ℕ). set (set s 0 (length (σ ++ τ))) 1 (room (σ ++ τ))) (g .stands .held .words)
 
-      module _ (l : n ≤ length buf - getD state 1 0) where
-        fits : room σ + room τ ≤ length buf
-        fits = omega (arith, total n e, first-room, g .stands .held .fits)
+    module _ (buf′ : List ℤ) (b : buf′ ≡ sets buf (getD state 1 0) (textElements d text)) where
+      stored : buf′ ≡ sets buf (room σ) (contents τ)
+      stored =
+          b
+          ∙ ap₂ (λ (k : ℕ) (w : List ℤ). sets buf k w) first-room (ap (λ (o : Option (Val d)). contents (valueStoreIf d o)) (g .reads))
 
-        pub fills : Fillable d text counts′ (getD state 1 0) (length buf)
-        fills =
-            record { value = g .value; reads = g .reads; shallow = g .shallow; counted = counted; room-for = omega (arith, fits, first-room) }
+      module _ (env₁ : List ℕ) (top : ℕ) (long : length env₁ ≡ length env) (p : top + 3 * length (take (d + 1) counts) ≡ sp)
+          (w : drop top env₁
+          ≡ rowWords (getD state 0 0) ((getD state 1 0 + n) - sumOf (take (d + 1) counts)) (take (d + 1) counts) ++ drop sp env) where
+        place-words : rowWords (getD state 0 0) ((getD state 1 0 + n) - sumOf (take (d + 1) counts)) (take (d + 1) counts)
+            ≡ treeWords (mapTree (place (σ ++ τ)) (inputTree (length σ) d))
+        place-words =
+            let start : (getD state 1 0 + n) - sumOf (take (d + 1) counts) ≡ room σ = omega (arith, added .0, first-room) in
+            ap₂ (λ (i s : ℕ). rowWords i s (take (d + 1) counts)) first-free start
+            ∙ (ap (rowWords (length σ) (room σ)) lengths-counted ∙ sym (rowed σ d (g .value ∷ []) .words))
 
-        pub room-small : getD state 1 0 + n ≤ mostElements
-        room-small = omega (arith, fits, first-room, total n e, g .small)
+        pub top-room : (2 ≤ top) × (top ≤ length env₁) × (sp ≤ top + 27)
+        top-room = (
+          omega (arith, p, lengths-long, g .low, g .shallow),
+          omega (arith, p, long, g .stands .within),
+          omega (arith, p, lengths-long, g .shallow),
+        )
 
-        pub id-small : getD state 0 0 + suc mostDepth ≤ mostElements
-        id-small = omega (arith, first-free, g .few)
+        before-named : (top - 2) + 2 ≤ length env₁
+        before-named = omega (arith, top-room .0, top-room .1)
 
-        -- the machine and the words afterwards
-        grown : length (σ ++ τ) ≡ length σ + suc d
-        grown = length-append σ τ ∙ ap (λ (k : ℕ). length σ + k) (order-length (represent d (g .value ∷ [])))
+        spelt : drop (top - 2) (written (top - 2) (x .0 ∷ d ∷ []) env₁)
+            ≡ spelled (bindOne (g .bound) x (length σ) d .names) (places (σ ++ τ) (bindOne (g .bound) x (length σ) d .trees))
+        unfolding spelled places
+        spelt =
+            let back : (top - 2) + 2 ≡ top = omega (arith, top-room .0) in
+            let others : drop sp env ≡ spelled (g .bound .names) (places (σ ++ τ) (g .bound .trees)) =
+            g .stands .spells ∙ ap (spelled (g .bound .names)) (sym (places-kept σ τ (g .stands .shaped))) in
+            from-written env₁ (top - 2) (x .0 ∷ d ∷ []) before-named
+            ∙ ap (λ (l : List ℕ). x .0 ∷ d ∷ l) (ap (λ (k : ℕ). drop k env₁) back ∙ (w ∙ ap₂ _++_ place-words others))
 
-        new-state : set (set state 0 (getD state 0 0 + (d + 1))) 1 (getD state 1 0 + n) ≡ counters (unspent (σ ++ τ))
-        new-state =
-            let i : getD state 0 0 + (d + 1) ≡ length (σ ++ τ) = omega (arith, grown, first-free) in
-            let r : getD state 1 0 + n ≡ room (σ ++ τ) = omega (arith, first-room, total n e, room-append σ τ) in
-            ap₂ (λ (i r : ℕ). set (set state 0 i) 1 r) i r
-            ∙ ap (λ (s : List ℕ). set (set s 0 (length (σ ++ τ))) 1 (room (σ ++ τ))) (g .stands .held .words)
-
-        module _ (buf′ : List ℤ) (b : buf′ ≡ sets buf (getD state 1 0) (textElements d text)) where
-          stored : buf′ ≡ sets buf (room σ) (contents τ)
-          stored =
-              b
-              ∙ ap₂ (λ (k : ℕ) (w : List ℤ). sets buf k w) first-room (ap (λ (o : Option (Val d)). contents (valueStoreIf d o)) (g .reads))
-
-          module _ (env₁ : List ℕ) (top : ℕ) (long : length env₁ ≡ length env) (p : top + 3 * length (take (d + 1) counts′) ≡ sp)
-              (w : drop top env₁
-              ≡ rowWords (getD state 0 0) ((getD state 1 0 + n) - sumOf (take (d + 1) counts′)) (take (d + 1) counts′) ++ drop sp env) where
-            place-words : rowWords (getD state 0 0) ((getD state 1 0 + n) - sumOf (take (d + 1) counts′)) (take (d + 1) counts′)
-                ≡ treeWords (mapTree (place (σ ++ τ)) (inputTree (length σ) d))
-            place-words =
-                let start : (getD state 1 0 + n) - sumOf (take (d + 1) counts′) ≡ room σ = omega (arith, lengths-sum, first-room) in
-                ap₂ (λ (i s : ℕ). rowWords i s (take (d + 1) counts′)) first-free start
-                ∙ (ap (rowWords (length σ) (room σ)) lengths-counted ∙ sym (rowed σ d (g .value ∷ []) .words))
-
-            pub top-room : (2 ≤ top) × (top ≤ length env₁) × (sp ≤ top + 27)
-            top-room = (
-              omega (arith, p, lengths-long, g .low, g .shallow),
-              omega (arith, p, long, g .stands .within),
-              omega (arith, p, lengths-long, g .shallow),
-            )
-
-            before-named : (top - 2) + 2 ≤ length env₁
-            before-named = omega (arith, top-room .0, top-room .1)
-
-            spelt : drop (top - 2) (written (top - 2) (x .0 ∷ d ∷ []) env₁)
-                ≡ spelled (bindOne (g .bound) x (length σ) d .names) (places (σ ++ τ) (bindOne (g .bound) x (length σ) d .trees))
-            unfolding spelled places
-            spelt =
-                let back : (top - 2) + 2 ≡ top = omega (arith, top-room .0) in
-                let others : drop sp env ≡ spelled (g .bound .names) (places (σ ++ τ) (g .bound .trees)) =
-                g .stands .spells ∙ ap (spelled (g .bound .names)) (sym (places-kept σ τ (g .stands .shaped))) in
-                from-written env₁ (top - 2) (x .0 ∷ d ∷ []) before-named
-                ∙ ap (λ (l : List ℕ). x .0 ∷ d ∷ l) (ap (λ (k : ℕ). drop k env₁) back ∙ (w ∙ ap₂ _++_ place-words others))
-
-            pub taken : {env′ : List ℕ} {state′ : List ℕ} → env′ ≡ written (top - 2) (x .0 ∷ d ∷ []) env₁
-                → state′ ≡ set (set state 0 (getD state 0 0 + (d + 1))) 1 (getD state 1 0 + n)
-                → Takes g env′ buf′ state′ (At (top - 2))
-            taken {env′} {state′} v s =
-                let few : length (σ ++ τ) ≤ mostElements = omega (arith, grown, g .few, g .shallow) in
-                let h = behind-held (g .stands .held) τ few fits state′ (s ∙ new-state) in
-                let k = behind-kept (g .stands .held) τ few fits in
-                let r = rowed σ d (g .value ∷ []) in
-                takes {top = top - 2}
-                fits
-                (record {
-                  spells = ap (drop (top - 2)) v ∙ spelt;
-                  shaped = shaped-more (r .shapely) (shaped-kept σ τ (g .stands .shaped));
-                  shallow = shallow-more (g .shallow) (g .stands .shallow);
-                  held = subst (λ (l : List ℤ). Held (unspent (σ ++ τ)) l state′) (sym stored) h;
-                  within = omega (arith, ap length v, length-written env₁ (top - 2) (x .0 ∷ d ∷ []) before-named, top-room .1);
-                })
-                (ap (drop (room (σ ++ τ))) stored ∙ k)
-                (omega (arith, top-room .2, top-room .0))
+        pub taken : {env′ : List ℕ} {state′ : List ℕ} → env′ ≡ written (top - 2) (x .0 ∷ d ∷ []) env₁
+            → state′ ≡ set (set state 0 (getD state 0 0 + (d + 1))) 1 (getD state 1 0 + n)
+            → Takes g env′ buf′ state′ (At (top - 2))
+        taken {env′} {state′} v s =
+            let few : length (σ ++ τ) ≤ mostElements = omega (arith, grown, g .few, g .shallow) in
+            let h = behind-held (g .stands .held) τ few fits state′ (s ∙ new-state) in
+            let k = behind-kept (g .stands .held) τ few fits in
+            let r = rowed σ d (g .value ∷ []) in
+            takes {top = top - 2}
+            fits
+            (record {
+              spells = ap (drop (top - 2)) v ∙ spelt;
+              shaped = shaped-more (r .shapely) (shaped-kept σ τ (g .stands .shaped));
+              shallow = shallow-more (g .shallow) (g .stands .shallow);
+              held = subst (λ (l : List ℤ). Held (unspent (σ ++ τ)) l state′) (sym stored) h;
+              within = omega (arith, ap length v, length-written env₁ (top - 2) (x .0 ∷ d ∷ []) before-named, top-room .1);
+            })
+            (ap (drop (room (σ ++ τ))) stored ∙ k)
+            (omega (arith, top-room .2, top-room .0))

@@ -1,18 +1,18 @@
 -- Loading a job's inputs (01, "Translation" and refusal 9): their streams into the stream buffer in id order, and a binding for each on the stack of words, the
 -- newest first.
 use Prim.Native.Nat.{ℕ, suc, _+_, _*_, _≤_, _<_}
-use mathlib.Core.List.{List, [], _∷_, _++_}
+use mathlib.Core.List.{List, [], _∷_, _++_, map}
 use mathlib.Core.Option.{Option, some, none}
 use mathlib.Core.Path.{_≡_}
 use lib.IntN.{ℤ}
-use lib.ListN.{length, drop}
+use lib.ListN.{length, take, drop}
 use Rattle.snesl.specs.declared.code.Variable.{Variable}
 use Rattle.snesl.specs.declared.limits.Formula.{Formula}
 use Rattle.snesl.specs.Limits.{mostInputs, mostDepth, mostElements}
 use Rattle.snesl.specs.Values.{Val}
 use Rattle.snesl.specs.Terms.{All, ∅, _▹_}
 use Rattle.snesl.specs.Trees.{Tree}
-use Rattle.snesl.specs.Streams.{Store, room}
+use Rattle.snesl.specs.Streams.{Store, len, room}
 use Rattle.snesl.specs.Machine.{State}
 use Rattle.snesl.specs.Text.{valueOf}
 use Rattle.snesl.specs.Records.{Input}
@@ -54,20 +54,22 @@ pub record Stands (b : Bound) (σ : Store) (env : List ℕ) (sp : ℕ) (buf : Li
 
 -- ---- one input
 
--- a text that is the value of an input x of depth d, behind inputs that are loaded
-pub record Next (text : List ℕ) (x : Variable) (d sp : ℕ) (env : List ℕ) (buf : List ℤ) (state : List ℕ) : Type 0 where
+-- a text that is the value of an input x of depth d, with its counts, behind inputs that are loaded
+pub record Next (text : List ℕ) (x : Variable) (d : ℕ) (counts : List ℕ) (sp : ℕ) (env : List ℕ) (buf : List ℤ) (state : List ℕ) : Type 0 where
   pub bound : Bound
   pub store : Store
   pub value : Val d
   pub stands : Stands bound store env sp buf state
   pub reads : valueOf d text ≡ some value
+  pub counted : take (suc d) counts ≡ map len (valueStore d value)
   pub shallow : d ≤ mostDepth
   pub low : bindingWords ≤ sp
   pub few : length store + suc mostDepth ≤ mostElements
   pub small : length buf ≤ mostElements
 
 -- its streams fit behind the others, and it is bound to them; or they don't
-pub data Takes {text : List ℕ} {x : Variable} {d sp : ℕ} {env : List ℕ} {buf : List ℤ} {state : List ℕ} (g : Next text x d sp env buf state)
+pub data Takes {text : List ℕ} {x : Variable} {d : ℕ} {counts : List ℕ} {sp : ℕ} {env : List ℕ} {buf : List ℤ} {state : List ℕ}
+    (g : Next text x d counts sp env buf state)
     (env′ : List ℕ) (buf′ : List ℤ) (state′ : List ℕ) : Loaded → Type 0 where
   takes : {top : ℕ}
       → room (g .store) + room (valueStore d (g .value)) ≤ length buf

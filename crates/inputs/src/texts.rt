@@ -1,14 +1,19 @@
-// Refusal 7 over all inputs, in order.
+// Refusal 7 over all inputs, in order, and how many elements their streams have.
 use levels::counts::LEVELS;
+use records::inputs::declared;
 use snesl::limits::Formula;
 use valuetext::storing::Measured;
 use valuetext::storing::measure_text;
 ghost use mathlib.Core.Path.{_≡_};
-ghost use Prim.Native.Nat.{_+_, _≤_};
+ghost use Prim.Native.Nat.{_+_, _*_, _≤_};
 ghost use lib.ListN.{length};
+ghost use Rattle.snesl.specs.Limits.{mostInputs};
 ghost use Rattle.snesl.specs.Records.{spanAt};
 ghost use Rattle.snesl.specs.Inputs.{inputValues};
-ghost use Rattle.inputs.specs.Supply.{Read, textsOf};
+ghost use Rattle.inputs.specs.Supply.{Read, textsOf, perInput, tallied};
+
+// Places for the counts of the most inputs.
+pub const COUNTS: usize = LEVELS * Formula::INPUTS;
 
 // Each text is a value of its input's depth, or the VA record of the first that is none.
 pub enum Texts {
@@ -24,23 +29,26 @@ pub fn text_end(job: &[u8], k: usize) -> usize
     k + 4 + (job[k + 2] as usize + job[k + 3] as usize * 256)
 }
 
-pub fn texts_hold(job: &[u8], formula: Formula) -> Texts
+// The counts of each text, `LEVELS` places for each input, up to the first that is no value.
+pub fn measure_texts(job: &[u8], formula: Formula, counts: &mut [usize]) -> Texts
     requires { ⌜ Read (now job) formula ⌝ }
+    requires { ⌜ perInput * mostInputs ≤ length (now counts) ⌝ }
     ensures { λ r. ⌜ ((g : Read (now (job .entry)) formula) → r ≡ textsOf (inputValues (now (job .entry)) (g .inputs) (g .spans))) ⌝ }
+    ensures { λ _. ⌜ ((g : Read (now (job .entry)) formula) → now (counts .exit) ≡ tallied (now (job .entry)) (g .inputs) (g .spans) (now (counts .entry))) ⌝ }
 {
-    let mut counts = [0usize; LEVELS];
-    let mut left = formula.inputs;
-    let mut at: usize = 0;
+    let inputs = formula.inputs;
+    let mut i: usize = 0;
     let mut k = formula.end;
-    while 0 < left {
+    while i < inputs {
         let next = text_end(job, k);
-        match measure_text(&job[k + 4..next], job[at + 3], &mut counts) {
+        let depth = declared(job, i).depth;
+        let from = LEVELS * i;
+        match measure_text(&job[k + 4..next], depth, &mut counts[from..]) {
             Measured::No => {
                 return Texts::Bad(k);
             }
             Measured::Elements(_) | Measured::Over => {
-                left -= 1;
-                at += 4;
+                i += 1;
                 k = next;
             }
         }

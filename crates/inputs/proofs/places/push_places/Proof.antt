@@ -40,13 +40,20 @@ add-put-place : tie.Need-add-put-place Inv-loop μ-loop
 add-put-place c = omega (arith, (c .before .before .before .loop .inv) .within, (c .before .before .loop-test .taken), c .before .before .before .before .before .before .pre .2)
 
 put-place-requires : tie.Need-put-place-requires Inv-loop μ-loop
-put-place-requires c κs = (omega (arith, pushing-room (c .before .before .before .loop .inv) (c .before .before .loop-test .taken), pushing-high (c .before .before .before .loop .inv) (c .before .before .loop-test .taken)), omega (arith, (c .before .before .before .loop .inv) .within, (c .before .before .loop-test .taken), c .before .before .before .before .before .before .pre .2), omega (arith, (c .before .before .before .loop .inv) .sum, c .before .before .before .before .before .before .pre .4), omega (arith, pushing-fits (c .before .before .before .loop .inv) (c .before .before .loop-test .taken), (c .before .before .before .loop .inv) .sum, c .before .before .before .before .before .before .pre .4))
+put-place-requires c κs =
+    let at-loop = c .before .before .before in
+    let at-start = at-loop .before .before .before in
+    (omega (arith, pushing-room (at-loop .loop .inv) (c .before .before .loop-test .taken), pushing-high (at-loop .loop .inv) (c .before .before .loop-test .taken)), omega (arith, (at-loop .loop .inv) .within, (c .before .before .loop-test .taken), at-start .pre .2), omega (arith, (at-loop .loop .inv) .sum, at-start .pre .4), omega (arith, pushing-fits (at-loop .loop .inv) (c .before .before .loop-test .taken), (at-loop .loop .inv) .sum, at-start .pre .4))
 
 loop-less : tie.Need-loop-less Inv-loop μ-loop
 loop-less c = omega arith
 
 loop-again : tie.Need-loop-again Inv-loop μ-loop
-loop-again c = subst (λ (l : List ℕ). Pushing (c .before .before .before .before .before .before .before .before .before .args .lengths .now) (c .before .before .before .before .before .before .before .before .before .args .id) (c .before .before .before .before .before .before .before .before .before .args .end) (c .before .before .before .before .before .before .before .before .before .args .sp) (c .before .before .before .before .before .before .before .before .before .args .env .now) l (c .before .before .before .before .before .before .loop .i - 1) (c .before .before .before .before .before .before .loop .start - getD (c .before .before .before .before .before .before .before .before .before .args .lengths .now) (c .before .before .before .before .before .before .loop .i - 1) 0) (c .before .before .before .before .before .before .loop .top - 3)) (sym (c .before .before .put-place .ensures)) (pushing-on (c .before .before .before .before .before .before .loop .inv) (c .before .before .before .before .before .loop-test .taken))
+loop-again c =
+    let at-loop-test = c .before .before .before .before .before in
+    let at-loop = at-loop-test .before in
+    let at-start = at-loop .before .before .before in
+    subst (λ (l : List ℕ). Pushing (at-start .args .lengths .now) (at-start .args .id) (at-start .args .end) (at-start .args .sp) (at-start .args .env .now) l (at-loop .loop .i - 1) (at-loop .loop .start - getD (at-start .args .lengths .now) (at-loop .loop .i - 1) 0) (at-loop .loop .top - 3)) (sym (c .before .before .put-place .ensures)) (pushing-on (at-loop .loop .inv) (at-loop-test .loop-test .taken))
 
 same-length : tie.Need-same-length Inv-loop μ-loop
 same-length c = (c .before .loop .inv) .long
