@@ -23,8 +23,8 @@ use Rattle.snesl.proofs.Jobs.EarlyRefusals.{early-keeps, reading-refuses-early,
 use Rattle.formula.specs.Reading.{formulaOf, jobOf}
 use Rattle.formula.specs.declared.read.JobRead.the-variants as found
 use Rattle.formula.specs.declared.read.FormulaRead.the-variants as formula
-use Rattle.checking.specs.Checks.{checkedOf, checkFront}
-use Rattle.checking.specs.declared.check.Checked.the-variants as checked
+use Rattle.checking.specs.Checks.{judgedOf, judgeFront}
+use Rattle.checking.specs.declared.check.Judged.the-variants as judged
 use Rattle.inputs.specs.Supply.{Read, textsOf}
 use Rattle.inputs.specs.declared.texts.Texts.the-variants as texts
 use Rattle.sheet.specs.declared.admission.Admission.{Admission}
@@ -96,18 +96,18 @@ module _ (t : List ℕ) where
         ap (admissionRead t) (g .read)
         ∙ ap (λ (h : Formula). admissionTyped t h (g .inputs) (g .spans) (checkFormula (g .inputs) (g .raw))) (sym (g .formula))
 
-    pub refused-typed : (r : Refusal) → checked.Refused r ≡ checkFront (frontOf t) → Refused r ≡ admission t
-    refused-typed r e = go (checkFormula (g .inputs) (g .raw)) (e ∙ ap checkFront the-front) ∙ sym admission-is
+    pub refused-typed : (r : Refusal) → judged.Refused r ≡ judgeFront (frontOf t) → Refused r ≡ admission t
+    refused-typed r e = go (checkFormula (g .inputs) (g .raw)) (e ∙ ap judgeFront the-front) ∙ sym admission-is
       where
-        go : (y : Typed (context (g .inputs))) → checked.Refused r ≡ checkedOf y → Refused r ≡ admissionTyped t f (g .inputs) (g .spans) y
+        go : (y : Typed (context (g .inputs))) → judged.Refused r ≡ judgedOf y → Refused r ≡ admissionTyped t f (g .inputs) (g .spans) y
         go (checking.Typed.refused s) q = let same : r ≡ s = cc in ap Refused same
         go (typed d e) q = never (cc)
 
-    module _ (d : ℕ) (e : checked.Depth d ≡ checkFront (frontOf t)) where
+    module _ (d n : ℕ) (e : judged.Typed d n ≡ judgeFront (frontOf t)) where
       valued-is : admission t ≡ admissionValued f (inputValues t (g .inputs) (g .spans))
-      valued-is = admission-is ∙ go (checkFormula (g .inputs) (g .raw)) (e ∙ ap checkFront the-front)
+      valued-is = admission-is ∙ go (checkFormula (g .inputs) (g .raw)) (e ∙ ap judgeFront the-front)
         where
-          go : (y : Typed (context (g .inputs))) → checked.Depth d ≡ checkedOf y
+          go : (y : Typed (context (g .inputs))) → judged.Typed d n ≡ judgedOf y
               → admissionTyped t f (g .inputs) (g .spans) y ≡ admissionValued f (inputValues t (g .inputs) (g .spans))
           go (checking.Typed.refused s) q = never (cc)
           go (typed d′ e) q = refl

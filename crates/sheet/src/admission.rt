@@ -1,5 +1,5 @@
 // Refusals 1 to 7, in 01's order. Nothing is written.
-use checking::check::Checked;
+use checking::check::Judged;
 use checking::check::check_front;
 use formula::read::JobRead;
 use formula::read::read_job;
@@ -24,8 +24,8 @@ pub fn admit(job: &[u8]) -> Admission
         JobRead::Found(found) => {
             let formula = found.formula;
             match check_front(job, formula) {
-                Checked::Refused(refusal) => Admission::Refused(refusal),
-                Checked::Depth(_) => match texts_hold(job, formula) {
+                Judged::Refused(refusal) => Admission::Refused(refusal),
+                Judged::Typed(_, _) => match texts_hold(job, formula) {
                     Texts::Good => Admission::Admitted(formula),
                     Texts::Bad(place) => Admission::Refused(Refusal::NoValueText(place)),
                 },

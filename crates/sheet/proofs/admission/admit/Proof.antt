@@ -39,10 +39,10 @@ returns-2 : tie.Need-returns-2
 returns-2 c = refused-typed (c .before .before .before .before .before .before .before .before .before .before .args .job .now) (job-found (c .before .before .before .before .before .before .before .before .before .before .args .job .now) (c .before .before .before .before .before .before .found .given .0 .0) (sym (c .before .before .before .before .before .before .found .given .1) ∙ c .before .before .before .before .before .before .before .before .read-job .ensures)) (c .before .refusal2 .given .0 .0) (sym (c .before .refusal2 .given .1) ∙ c .before .before .before .check-front .ensures)
 
 returns-3 : tie.Need-returns-3
-returns-3 c = admitted (c .before .before .before .before .before .before .before .before .before .before .before .before .args .job .now) (job-found (c .before .before .before .before .before .before .before .before .before .before .before .before .args .job .now) (c .before .before .before .before .before .before .before .before .found .given .0 .0) (sym (c .before .before .before .before .before .before .before .before .found .given .1) ∙ c .before .before .before .before .before .before .before .before .before .before .read-job .ensures)) (c .before .before .before .enum-told .given .0 .0) (sym (c .before .before .before .enum-told .given .1) ∙ c .before .before .before .before .before .check-front .ensures) (sym (c .enum-told2 .given .1) ∙ c .before .before .texts-hold .ensures (job-found (c .before .before .before .before .before .before .before .before .before .before .before .before .args .job .now) (c .before .before .before .before .before .before .before .before .found .given .0 .0) (sym (c .before .before .before .before .before .before .before .before .found .given .1) ∙ c .before .before .before .before .before .before .before .before .before .before .read-job .ensures)))
+returns-3 c = admitted (c .before .before .before .before .before .before .before .before .before .before .before .before .args .job .now) (job-found (c .before .before .before .before .before .before .before .before .before .before .before .before .args .job .now) (c .before .before .before .before .before .before .before .before .found .given .0 .0) (sym (c .before .before .before .before .before .before .before .before .found .given .1) ∙ c .before .before .before .before .before .before .before .before .before .before .read-job .ensures)) (c .before .before .before .enum-told .given .0 .0) (c .before .before .before .enum-told .given .0 .1 .0) (sym (c .before .before .before .enum-told .given .1) ∙ c .before .before .before .before .before .check-front .ensures) (sym (c .enum-told2 .given .1) ∙ c .before .before .texts-hold .ensures (job-found (c .before .before .before .before .before .before .before .before .before .before .before .before .args .job .now) (c .before .before .before .before .before .before .before .before .found .given .0 .0) (sym (c .before .before .before .before .before .before .before .before .found .given .1) ∙ c .before .before .before .before .before .before .before .before .before .before .read-job .ensures)))
 
 returns-4 : tie.Need-returns-4
-returns-4 c = refused-valued (c .before .before .before .before .before .before .before .before .before .before .before .before .before .args .job .now) (job-found (c .before .before .before .before .before .before .before .before .before .before .before .before .before .args .job .now) (c .before .before .before .before .before .before .before .before .before .found .given .0 .0) (sym (c .before .before .before .before .before .before .before .before .before .found .given .1) ∙ c .before .before .before .before .before .before .before .before .before .before .before .read-job .ensures)) (c .before .before .before .before .enum-told .given .0 .0) (sym (c .before .before .before .before .enum-told .given .1) ∙ c .before .before .before .before .before .before .check-front .ensures) (c .before .place .given .0 .0) (sym (c .before .place .given .1) ∙ c .before .before .before .texts-hold .ensures (job-found (c .before .before .before .before .before .before .before .before .before .before .before .before .before .args .job .now) (c .before .before .before .before .before .before .before .before .before .found .given .0 .0) (sym (c .before .before .before .before .before .before .before .before .before .found .given .1) ∙ c .before .before .before .before .before .before .before .before .before .before .before .read-job .ensures)))
+returns-4 c = refused-valued (c .before .before .before .before .before .before .before .before .before .before .before .before .before .args .job .now) (job-found (c .before .before .before .before .before .before .before .before .before .before .before .before .before .args .job .now) (c .before .before .before .before .before .before .before .before .before .found .given .0 .0) (sym (c .before .before .before .before .before .before .before .before .before .found .given .1) ∙ c .before .before .before .before .before .before .before .before .before .before .before .read-job .ensures)) (c .before .before .before .before .enum-told .given .0 .0) (c .before .before .before .before .enum-told .given .0 .1 .0) (sym (c .before .before .before .before .enum-told .given .1) ∙ c .before .before .before .before .before .before .check-front .ensures) (c .before .place .given .0 .0) (sym (c .before .place .given .1) ∙ c .before .before .before .texts-hold .ensures (job-found (c .before .before .before .before .before .before .before .before .before .before .before .before .before .args .job .now) (c .before .before .before .before .before .before .before .before .before .found .given .0 .0) (sym (c .before .before .before .before .before .before .before .before .before .found .given .1) ∙ c .before .before .before .before .before .before .before .before .before .before .before .read-job .ensures)))
 
 pub admit-spec : {M : Type 1} → statement M
 admit-spec =
