@@ -14,7 +14,7 @@ use Rattle.checking.specs.declared.check.Judged.the-variants.{Typed, Ref
 use Rattle.checking.specs.declared.check.Judging.{Judging}
 use Rattle.checking.specs.declared.check.Judging.the-variants as judging
 use Rattle.environment.specs.Needs.{bindingSize, bodySize}
-use Rattle.checking.specs.Checks.{thenTyped, bound, closed, judgingOf, boundIn, closedIn, wordsOf, mostTaken}
+use Rattle.checking.specs.Checks.{thenTyped, bound, closed, judgingOf, boundIn, closedIn, wordsOf, nestingBound}
 
 -- ---- the answers
 
@@ -51,14 +51,14 @@ module _ (p c j : ℕ) {r : Judging} {m d k : ℕ} (e : r ≡ judging.Found m d 
 
 -- ---- no more words than so many for each nesting
 
-pub bound-few : (c n : ℕ) {b : ℕ} (r : Judging) → c < 256 → n ≤ b → wordsOf r ≤ b → wordsOf (boundIn c n r) ≤ mostTaken + b
+pub bound-few : (c n : ℕ) {b : ℕ} (r : Judging) → c < 256 → n ≤ b → wordsOf r ≤ b → wordsOf (boundIn c n r) ≤ nestingBound + b
 bound-few c n (judging.Refused f) h i l = omega arith
 bound-few c n (judging.Found m d k) h i l = max-le (omega arith) (omega arith)
 
-pub closed-few : (p c j : ℕ) {b : ℕ} (r : Judging) → c < 256 → j ≤ mostListed → wordsOf r ≤ b → wordsOf (closedIn p c j r) ≤ mostTaken + b
+pub closed-few : (p c j : ℕ) {b : ℕ} (r : Judging) → c < 256 → j ≤ mostListed → wordsOf r ≤ b → wordsOf (closedIn p c j r) ≤ nestingBound + b
 closed-few p c j (judging.Refused f) h i l = omega arith
 closed-few p c j {b} (judging.Found m d n) h i l = go (ltb d mostDepth)
   where
-    go : (a : Bool) → wordsOf (judgingOf m (elim a [ true ↦ Typed (d + 1) (bodySize c j + n) | false ↦ Refused (WrongType p) ])) ≤ mostTaken + b
+    go : (a : Bool) → wordsOf (judgingOf m (elim a [ true ↦ Typed (d + 1) (bodySize c j + n) | false ↦ Refused (WrongType p) ])) ≤ nestingBound + b
     go true = omega arith
     go false = omega arith

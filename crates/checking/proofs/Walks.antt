@@ -25,7 +25,7 @@ use Rattle.records.specs.Heads.{headOf}
 use Rattle.scopes.specs.Scopes.{scope, depthIn, Pushed}
 use Rattle.scopes.specs.UsingLists.{Body, stop, inside, isBoundIn, usableIn, intsIn, listedWords, sequenceIn, eachIn, Inside, Stopped, Prepares}
 use Rattle.environment.specs.Words.{treeSize}
-use Rattle.checking.specs.Checks.{thenTyped, bodyThen, bound, closed, newest, judge, turnIn, judgingOf, boundIn, closedIn, wordsOf, mostTaken, mostWords, mostPushed, Judgeable, Judges}
+use Rattle.checking.specs.Checks.{thenTyped, bodyThen, bound, closed, newest, judge, turnIn, judgingOf, boundIn, closedIn, wordsOf, nestingBound, wordsBound, mostPushed, Judgeable, Judges}
 use Rattle.records.proofs.Variables.{length-variables}
 use Rattle.scopes.proofs.Listing.{length-words}
 use Rattle.checking.proofs.Closing.{bound-of, closed-of, bound-few, closed-few}
@@ -123,7 +123,7 @@ module _ {t : List ℕ} {k levels : ℕ} {env : List ℕ} {sp floor : ℕ} (here
       }
 
   -- what an answer of an expression inside takes
-  pub inner-few : {i : ℕ} {old new : List ℕ} {s f : ℕ} {r : Judging} → Judges t i (levels - 1) old s f new r → wordsOf r ≤ mostWords
+  pub inner-few : {i : ℕ} {old new : List ℕ} {s f : ℕ} {r : Judging} → Judges t i (levels - 1) old s f new r → wordsOf r ≤ wordsBound
   inner-few v = omega (arith, v .few, here .shallow)
 
   -- LT: the first expression, and the second in a scope with x

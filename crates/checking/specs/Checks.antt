@@ -130,11 +130,11 @@ wordsOf (judging.Refused r) = 0
 wordsOf (judging.Found next d n) = n
 
 -- words that one nesting takes at most, where all that is known of a depth is that it is a byte: enough to see that no sum of them is too large
-abbrev pub mostTaken : ℕ
-mostTaken = bodySize 255 mostListed
+abbrev pub nestingBound : ℕ
+nestingBound = bodySize 255 mostListed
 
-abbrev pub mostWords : ℕ
-mostWords = mostTaken * suc mostNesting
+abbrev pub wordsBound : ℕ
+wordsBound = nestingBound * suc mostNesting
 
 -- bytes of the stack that one nesting takes at most: x and the listed variables, a pair each
 abbrev pub mostPushed : ℕ
@@ -155,7 +155,7 @@ pub record Judgeable (t : List ℕ) (k levels : ℕ) (env : List ℕ) (sp floor 
 -- The answer is that expression's, whichever it is, and the stack from sp on is as it was.
 pub record Judges (t : List ℕ) (k levels : ℕ) (old : List ℕ) (sp floor : ℕ) (new : List ℕ) (r : Judging) : Type 0 where
   pub above : drop sp new ≡ drop sp old
-  pub few : wordsOf r ≤ mostTaken * levels
+  pub few : wordsOf r ≤ nestingBound * levels
   pub answer : (g : Judgeable t k levels old sp floor) → r ≡ judgingOf (g .next) (judge (scope sp floor old) (g .expression))
 
 -- the inputs of a formula entered into a scope, first one first: the place of one whose name is there already, or the scope with all of them

@@ -19,7 +19,7 @@ ghost use Rattle.snesl.specs.Records.{headAt, inputsAt, frontOf, readFormula};
 ghost use Rattle.records.specs.Heads.{headOf};
 ghost use Rattle.formula.specs.Reading.{formulaOf};
 ghost use Rattle.scopes.specs.Scopes.{scope};
-ghost use Rattle.checking.specs.Checks.{varIn, wantIn, plusIn, leafIn, turnIn, boundIn, closedIn, wordsOf, mostWords, Judgeable, Judges, Declares, enteredBy, Enters, judgeFront, checkFront};
+ghost use Rattle.checking.specs.Checks.{varIn, wantIn, plusIn, leafIn, turnIn, boundIn, closedIn, wordsOf, wordsBound, Judgeable, Judges, Declares, enteredBy, Enters, judgeFront, checkFront};
 
 // What checking answers.
 pub enum Checked {
@@ -134,7 +134,7 @@ fn step(bytes: &[u8], k: usize, env: &[u8], sp: usize, floor: usize) -> Turn
 
 // A let when its second expression is done: the walk of the first is over before the binding stands.
 fn bound(second: Judging, depth: u8, first: usize) -> Judging
-    requires { ⌜ wordsOf second ≤ mostWords ⌝ }
+    requires { ⌜ wordsOf second ≤ wordsBound ⌝ }
     ensures { λ r. ⌜ r ≡ boundIn depth first second ⌝ }
 {
     match second {
@@ -152,7 +152,7 @@ fn bound(second: Judging, depth: u8, first: usize) -> Judging
 
 // A comprehension at k when its body is done.
 fn close(body: Judging, k: usize, element: u8, listed: usize) -> Judging
-    requires { ⌜ wordsOf body ≤ mostWords ⌝ ∗ ⌜ listed ≤ mostListed ⌝ }
+    requires { ⌜ wordsOf body ≤ wordsBound ⌝ ∗ ⌜ listed ≤ mostListed ⌝ }
     ensures { λ r. ⌜ r ≡ closedIn k element listed body ⌝ }
 {
     match body {
