@@ -7,3 +7,4 @@ pub mod Representation
 pub mod Xducers
 pub mod Instructions
 pub mod Correctness
+pub mod Reading

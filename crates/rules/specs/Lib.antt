@@ -7,3 +7,4 @@ pub mod Xducers
 pub mod Instructions
 pub mod Trees
 pub mod Correctness
+pub mod Grammar
