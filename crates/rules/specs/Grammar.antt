@@ -20,7 +20,7 @@ Names x = x .0 ≤ lastVariable
 pub data Spells : (levels k : ℕ) → List ℕ → Raw → (records : ℕ) → Type 0 where
   spells-var : {l k : ℕ} {bs : List ℕ} {x : Variable} → bs ≡ VR (x .0) → Names x → Spells (suc l) k bs (raw.var k x) 1
   spells-let : {l k n n₁ n₂ : ℕ} {bs bs₁ bs₂ : List ℕ} {x : Variable} {e₁ e₂ : Raw}
-      → bs ≡ LT (x .0) ++ bs₁ ++ bs₂
+      → bs ≡ LT (x .0) ++ (bs₁ ++ bs₂)
       → Names x
       → Spells l (k + 3) bs₁ e₁ n₁
       → Spells l (k + 3 + length bs₁) bs₂ e₂ n₂
@@ -58,7 +58,7 @@ pub data SpellsInputs : (left k : ℕ) → List ℕ → List Input → Type 0 wh
 pub data SpellsTexts : (k : ℕ) → List ℕ → List Span → Type 0 where
   texts-none : {k : ℕ} → SpellsTexts k [] []
   texts-more : {k a b : ℕ} {bs rest : List ℕ} {s : Span} {ss : List Span} (text : List ℕ)
-      → bs ≡ (ascii "VA" ++ a ∷ b ∷ []) ++ text ++ rest
+      → bs ≡ (ascii "VA" ++ a ∷ b ∷ []) ++ (text ++ rest)
       → length text ≡ a + b * 256
       → s .start ≡ k + 4
       → s .bytes ≡ length text
@@ -70,7 +70,7 @@ pub record SpellsFront (t : List ℕ) (is : List Input) (k : ℕ) (e : Raw) (nex
   pub declared : List ℕ
   pub expression : List ℕ
   pub records : ℕ
-  pub parts : t ≡ declared ++ expression ++ rest
+  pub parts : t ≡ declared ++ (expression ++ rest)
   pub short : length t ≤ mostBytes
   pub inputs : SpellsInputs mostInputs 0 declared is
   pub starts : k ≡ length declared

@@ -154,7 +154,7 @@ module _ {t : List ℕ} {k n : ℕ} where
       let bs₂ = r₂ .bytes in
       let second = subst (λ j. At t j bs₂) (r₁ .ends) (r₂ .stand) in
       record {
-        bytes = LT (x .0) ++ bs₁ ++ bs₂;
+        bytes = LT (x .0) ++ (bs₁ ++ bs₂);
         records = 1 + (r₁ .records + r₂ .records);
         stand = at-both (LT (x .0)) (bs₁ ++ bs₂) a (at-both bs₁ bs₂ (r₁ .stand) second);
         spells = spells-let refl nx (r₁ .spells) (subst (λ j. Spells l j bs₂ e₂ (r₂ .records)) (r₁ .ends) (r₂ .spells)) refl;

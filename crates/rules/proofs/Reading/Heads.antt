@@ -187,7 +187,7 @@ byte-small (each-more h hs) zero = h
 byte-small (each-more h hs) (suc k) = byte-small hs k
 
 -- the two bytes of a mark
-mark-bytes : (t : List ℕ) (k a b m : ℕ) → Bytes t → a * 256 + b ≡ m → b < 256 → 0 < m → markAt t k ≡ m → At t k (a ∷ b ∷ [])
+pub mark-bytes : (t : List ℕ) (k a b m : ℕ) → Bytes t → a * 256 + b ≡ m → b < 256 → 0 < m → markAt t k ≡ m → At t k (a ∷ b ∷ [])
 mark-bytes t k a b m small split low high q = go (leb (k + 2) (length t)) refl q
   where
     go : (c : Bool) → leb (k + 2) (length t) ≡ c → _≡_ {A = ℕ} (elim c [ true ↦ byteAt t k * 256 + byteAt t (k + 1) | false ↦ 0 ]) m → At t k (a ∷ b ∷ [])
@@ -247,7 +247,7 @@ module _ (t : List ℕ) (small : Bytes t) (k : ℕ) where
   with-one : {a b : ℕ} → k + 3 ≤ length t → At t k (a ∷ b ∷ []) → At t k (a ∷ b ∷ byteAt t (k + 2) ∷ [])
   with-one {a} {b} fits m = at-both (a ∷ b ∷ []) (byteAt t (k + 2) ∷ []) m (at-one t (k + 2) (omega arith))
 
-  with-two : {a b : ℕ} → k + 4 ≤ length t → At t k (a ∷ b ∷ []) → At t k (a ∷ b ∷ byteAt t (k + 2) ∷ byteAt t (k + 3) ∷ [])
+  pub with-two : {a b : ℕ} → k + 4 ≤ length t → At t k (a ∷ b ∷ []) → At t k (a ∷ b ∷ byteAt t (k + 2) ∷ byteAt t (k + 3) ∷ [])
   with-two {a} {b} fits m = at-both (a ∷ b ∷ byteAt t (k + 2) ∷ []) (byteAt t (k + 3) ∷ []) (with-one (omega arith) m) (at-one t (k + 3) (omega arith))
 
   with-four : {a b : ℕ} → k + 6 ≤ length t → At t k (a ∷ b ∷ []) → At t k (a ∷ b ∷ byteAt t (k + 2) ∷ byteAt t (k + 3) ∷ byteAt t (k + 4) ∷ byteAt t (k + 5) ∷ [])
