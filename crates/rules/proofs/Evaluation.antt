@@ -40,7 +40,7 @@ gives-once (gives-iota h) (gives-iota h′) = ap braces (counts-once h h′)
 gives-once (gives-plus p r) (gives-plus p′ r′) = ap int (p ∙ sym p′)
 gives-once (gives-sum h r) (gives-sum h′ r′) = ap int (totals-once h h′)
 
-maps-all-once : {A : Type 0} {Γ : Env A} {xs : List Variable} {as₁ as₂ : List A} → MapsAll Γ xs as₁ → MapsAll Γ xs as₂ → as₁ ≡ as₂
+pub maps-all-once : {A : Type 0} {Γ : Env A} {xs : List Variable} {as₁ as₂ : List A} → MapsAll Γ xs as₁ → MapsAll Γ xs as₂ → as₁ ≡ as₂
 maps-all-once maps-none maps-none = refl
 maps-all-once (maps-more h m) (maps-more h′ m′) = let p = maps-once h h′ in let q = maps-all-once m m′ in λ i. p i ∷ q i
 

@@ -6,5 +6,6 @@ pub mod Evaluation
 pub mod Representation
 pub mod Xducers
 pub mod Instructions
+pub mod Translation
 pub mod Correctness
 pub mod Reading

@@ -6,5 +6,6 @@ pub mod Representation
 pub mod Xducers
 pub mod Instructions
 pub mod Trees
+pub mod Translation
 pub mod Correctness
 pub mod Grammar

@@ -63,10 +63,10 @@ of-empty : (o : Option Kind) {a : Stream} → emptyOf o ≡ some a → (k : Kind
 of-empty none q = none-some q
 of-empty (some k) q = (k, refl, cc)
 
-of-nop : {σ σ′ : Stores} {c : ℕ} → Runs nop σ c σ′ → (u : ℕ) → σ′ u ≡ σ u
+pub of-nop : {σ σ′ : Stores} {c : ℕ} → Runs nop σ c σ′ → (u : ℕ) → σ′ u ≡ σ u
 of-nop (p-empty h) = h
 
-of-seq : {p q : Svcode} {σ σ′ : Stores} {c : ℕ} → Runs (seq p q) σ c σ′ → (σ″ : Stores) × Runs p σ c σ″ × Runs q σ″ c σ′
+pub of-seq : {p q : Svcode} {σ σ′ : Stores} {c : ℕ} → Runs (seq p q) σ c σ′ → (σ″ : Stores) × Runs p σ c σ″ × Runs q σ″ c σ′
 of-seq (p-seq {σ″ = σ″} h k) = (σ″, h, k)
 
 -- one definition
