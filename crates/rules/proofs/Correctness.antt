@@ -1,10 +1,10 @@
--- 002's Theorem 1.20 for the code of a checked expression: from the evaluation rules to the instruction rules.
+-- 002's Theorem 1.20: from the typing, evaluation and translation rules to the instruction rules.
 use Prim.Native.Nat.{ℕ, zero, suc, _+_, _≤_, _<_}
 use native.Mathlib.Omega.{arith}
 use mathlib.Core.List.{List, [], _∷_, _++_, map, List·Memᴰ, List·Memᴰ·head, List·Memᴰ·not-nil, List·Memᴰ·append-cases, Memᴰ·append-left, Memᴰ·append-right, List·Memᴰ·eq-of-singleton}
 use mathlib.Core.Logic.{⊎-elim}
 use mathlib.Core.Option.{Option, some, none, Option·getD}
-use mathlib.Core.Path.{_≡_, refl, sym, ap, _∙_, subst}
+use mathlib.Core.Path.{_≡_, refl, sym, ap, _∙_, subst, transport}
 use lib.ListN.{length, getElem?}
 use Rattle.laws.proofs.Never.{never}
 use Rattle.snesl.specs.Values.{Val}
@@ -23,21 +23,26 @@ use Rattle.snesl.proofs.Representing.Representation.{holds-streams, streams-hel
 use Rattle.snesl.proofs.Compiled.WellFormed.{below-result}
 use Rattle.snesl.proofs.Statements.Correctness as running
 use Rattle.snesl.proofs.Statements.Compiled as compiled
-use Rattle.rules.specs.Names.{Env, nothing, named}
-use Rattle.rules.specs.Typing.{typesOf}
+use Rattle.rules.specs.Names.{Env, nothing, named, envOf}
+use Rattle.rules.specs.Typing.{Types, typesOf}
 use Rattle.rules.specs.Values.{Value, plain}
 use Rattle.rules.specs.Evaluation.{Evaluates, valuesOf}
 use Rattle.rules.specs.Representation.{Represents}
-use Rattle.rules.specs.Instructions.{Stores, written}
+use Rattle.rules.specs.Instructions.{Svcode, nop, Stores, Runs, written}
 use Rattle.rules.specs.Trees.{STree, one, pair, ids, Builds, builds-one, builds-pair, plainTree, treesOf}
+use Rattle.rules.specs.Translation.{Translates, regroup}
 use Rattle.rules.specs.Correctness.{Suits, suits-none, suits-more, Correct}
+use Rattle.rules.proofs.Typing.{typed-exactly, resolved}
 use Rattle.rules.proofs.Evaluation.{value-exactly}
 use Rattle.rules.proofs.Representation.{represents-exactly}
-use Rattle.rules.proofs.Instructions.Deriving.{Agree, Derived, run-derives}
+use Rattle.rules.proofs.Instructions.Deriving.{Agree, run-derives}
+use Rattle.rules.proofs.Translation.Regrouped.{ungrouped}
+use Rattle.rules.proofs.Translation.Deterministic.{translates-once}
+use Rattle.rules.proofs.Translation.Derived.{then-nop, ids-plain, making}
 
 -- ---- the ids below s of a mapping, as a list
 
-unfoldable pub tabulate : Stores → (k n : ℕ) → Store
+tabulate : Stores → (k n : ℕ) → Store
 tabulate σ k zero = []
 tabulate σ k (suc n) = Option·getD (σ k) (units 0) ∷ tabulate σ (suc k) n
 
@@ -83,17 +88,17 @@ deepen {σ} {s} b (builds-pair {st = st} {s = u} {a = a} h q) =
 
 -- ---- the environments of names as those of a context
 
-pub record Setting (σ : Stores) (s : ℕ) (Γ : Env ℕ) (ρ : Env Value) (δ : Env STree) : Type 0 where
-  pub types : List ℕ
-  pub scope : All Name types
-  pub values : All Val types
-  pub trees : All (Tree ℕ) types
-  pub types-are : typesOf scope ≡ Γ
-  pub values-are : valuesOf scope values ≡ ρ
-  pub trees-are : treesOf scope trees ≡ δ
-  pub low : Below s (idsOf trees)
-  pub known : Agree (idsOf trees) σ (tabulate σ 0 s)
-  pub holds : Agrees (tabulate σ 0 s) trees (values ∷ [])
+record Setting (σ : Stores) (s : ℕ) (Γ : Env ℕ) (ρ : Env Value) (δ : Env STree) : Type 0 where
+  types : List ℕ
+  scope : All Name types
+  values : All Val types
+  trees : All (Tree ℕ) types
+  types-are : typesOf scope ≡ Γ
+  values-are : valuesOf scope values ≡ ρ
+  trees-are : treesOf scope trees ≡ δ
+  low : Below s (idsOf trees)
+  known : Agree (idsOf trees) σ (tabulate σ 0 s)
+  holds : Agrees (tabulate σ 0 s) trees (values ∷ [])
 
 nothing-held : {τ : Store} → Agrees τ {Γ = []} ∅ (∅ ∷ [])
 nothing-held {τ} = record { holds = go }
@@ -112,8 +117,8 @@ one-more-held {τ} {Γ} {c} {st} v {δ} {ρ} h a = record { holds = go }
     go here = h
     go (there x) = a .holds x
 
-pub setting : {σ : Stores} {s : ℕ} {Γ : Env ℕ} {ρ : Env Value} {δ : Env STree} → Suits σ s Γ ρ δ → Setting σ s Γ ρ δ
-unfolding typesOf valuesOf treesOf idsOf
+setting : {σ : Stores} {s : ℕ} {Γ : Env ℕ} {ρ : Env Value} {δ : Env STree} → Suits σ s Γ ρ δ → Setting σ s Γ ρ δ
+unfolding typesOf envOf idsOf
 setting suits-none = record { types = []; scope = ∅; values = ∅; trees = ∅; types-are = refl; values-are = refl; trees-are = refl; low = λ u h. absurd (List·Memᴰ·not-nil h); known = record { agree = λ u h. absurd (List·Memᴰ·not-nil h) }; holds = nothing-held }
 setting {σ} {s} (suits-more {x = x} {d = d} {v = v} {w = w} t b h r rest) =
     let (u, p, q) = represents-exactly d v w .0 r in
@@ -144,12 +149,7 @@ built (leaf s) (leaf a) τ q g = builds-one (g s (List·Memᴰ·head refl) ∙ a
 built (node st s) (node w a) τ q g =
     builds-pair (built st w τ (ap inner q) (λ u h. g u (Memᴰ·append-left _ h))) (g s (Memᴰ·append-right (order st) (List·Memᴰ·head refl)) ∙ ap outer q)
 
-ids-plain : {d : ℕ} (st : Tree ℕ d) → ids (plainTree st) ≡ order st
-unfolding ids plainTree order
-ids-plain (leaf s) = refl
-ids-plain (node st s) = ap (λ l. l ++ s ∷ []) (ids-plain st)
-
-pub correct : {σ : Stores} {s : ℕ} {Γ : Env ℕ} {ρ : Env Value} {δ : Env STree} (g : Setting σ s Γ ρ δ) (e : Raw) {d : ℕ} {t : Term (g .types) d} (v : Value)
+correct : {σ : Stores} {s : ℕ} {Γ : Env ℕ} {ρ : Env Value} {δ : Env STree} (g : Setting σ s Γ ρ δ) (e : Raw) {d : ℕ} {t : Term (g .types) d} (v : Value)
     → check (g .scope) e ≡ typed d t
     → Evaluates ρ e v
     → Correct (written s (code t (g .trees) s)) σ s (s + size t) (plainTree (tree t (g .trees) s)) d v
@@ -174,3 +174,36 @@ correct {σ} {s} g e {d} {t} v c h =
       onward = omega arith;
       below = λ u i. below-result t (g .trees) (g .low) u (Memᴰ·append-left _ (subst (List·Memᴰ u) (ids-plain (tree t (g .trees) s)) i));
     }
+
+-- the same for code that runs as this does
+runs-as : {p q : Svcode} {σ : Stores} {s₀ s₁ : ℕ} {st : STree} {d : ℕ} {v : Value}
+    → ((σ′ : Stores) → Runs p σ 1 σ′ → Runs q σ 1 σ′)
+    → Correct p σ s₀ s₁ st d v
+    → Correct q σ s₀ s₁ st d v
+runs-as f c =
+    record {
+      stores = c .stores;
+      runs = f (c .stores) (c .runs);
+      streams = c .streams;
+      built = c .built;
+      represents = c .represents;
+      kept = c .kept;
+      onward = c .onward;
+      below = c .below;
+    }
+
+pub theorem : {Γ : Env ℕ} {ρ : Env Value} {δ : Env STree} {σ : Stores} (e : Raw) {d s₀ s₁ : ℕ} {v : Value} {p : Svcode} {st : STree}
+    → Types Γ e d
+    → Evaluates ρ e v
+    → Translates δ e s₀ s₁ p st
+    → Suits σ s₀ Γ ρ δ
+    → Correct p σ s₀ s₁ st d v
+theorem {δ = δ} {σ = σ} e {d} {s₀} {s₁} {v} {p} {st} typing evaluation translation suits =
+    let g = setting suits in
+    let (t, checked) = typed-exactly (g .scope) e d .1 (subst (λ Γ. Types Γ e d) (sym (g .types-are)) typing) in
+    let w = making (resolved (g .scope) e checked) (g .trees) s₀ in
+    let same = translates-once e δ s₀ (s₀ + size t) s₁ (w .made) p (plainTree (tree t (g .trees) s₀)) st
+    (subst (λ δ. Translates δ e s₀ (s₀ + size t) (w .made) (plainTree (tree t (g .trees) s₀))) (g .trees-are) (w .derives)) translation in
+    let grouped : regroup (w .made) nop ≡ written s₀ (code t (g .trees) s₀) = w .grouped nop ∙ then-nop s₀ (code t (g .trees) s₀) in
+    let mine = runs-as (λ σ′ r. ungrouped (w .made) (subst (λ q. Runs q σ 1 σ′) (sym grouped) r)) (correct g e v checked evaluation) in
+    transport (λ i. Correct (same .code i) σ s₀ (same .ends i) (same .tree i) d v) mine

@@ -17,11 +17,11 @@ use Rattle.snesl.specs.Evaluation.{andThen, within, counting, allOf, upTo, eval
 use Rattle.snesl.specs.Records as raw
 use Rattle.snesl.specs.Records.{Raw}
 use Rattle.snesl.specs.Checking.{Name, same, Found, missing, found, later, find, asInt, asInts, Sequence, noSequence, sequence, asSequence, listedFirst, listedInts, listedNames, pointers, Typed, typed, check}
-use Rattle.rules.specs.Names.{Env, nothing, named, Maps, newest, older, MapsAll, maps-none, maps-more, Listed, listed-none, listed-more}
+use Rattle.rules.specs.Names.{Env, named, Maps, MapsAll, maps-none, maps-more, Listed, listed-none, listed-more, envOf}
 use Rattle.rules.specs.Typing.{BuiltIn, Calls, calls-const, calls-iota, calls-plus, calls-sum}
 use Rattle.rules.specs.Values.{Value, Values, int, braces, empty, item, plains, plain}
 use Rattle.rules.specs.Evaluation.{Counts, counts-none, counts-more, Totals, totals-none, totals-more, Gives, gives-const, gives-iota, gives-plus, gives-sum, Number, number, Evaluates, evaluates-var, evaluates-let, evaluates-call, evaluates-each, EvaluatesEach, evaluates-none, evaluates-more, valuesOf}
-use Rattle.rules.proofs.Names.{same-true, same-false, maps-once}
+use Rattle.rules.proofs.Names.{maps-once, Looks, looking, looks-found, looks-int, looks-ints, LooksAtSequence, as-sequence, along}
 use Rattle.rules.proofs.Typing.{not-var, not-let, not-each, listed-once, Resolved, resolved-var, resolved-let, resolved-const, resolved-iota, resolved-plus, resolved-sum, resolved-each, resolved}
 
 -- ---- the rules give one value at most
@@ -106,58 +106,12 @@ evaluates-once (raw.plus p x y) ρ v w h k = call-once (called calls-plus h) (ca
 evaluates-once (raw.sum p x) ρ v w h k = call-once (called calls-sum h) (called calls-sum k)
 evaluates-once (raw.each p x y us e) ρ v w h k = parts-once (evaluates-once e) (each-parts h) (each-parts k)
 
--- ---- names found, as the mapping of values has them
-
-module _ {Γ : List ℕ} (scope : All Name Γ) (ρ : All Val Γ) (x : Variable) where
-  data Looks : Found Γ → Type 0 where
-    looks-none : Looks missing
-    looks-one : {d : ℕ} {v : Γ ∋ d} → Maps (valuesOf scope ρ) x (plain d (lookup v ρ)) → Looks (found d v)
-
-  data LooksAtSequence : Sequence Γ → Type 0 where
-    looks-no : LooksAtSequence noSequence
-    looks-along : {c : ℕ} {v : Γ ∋ suc c} → Maps (valuesOf scope ρ) x (plain (suc c) (lookup v ρ)) → LooksAtSequence (sequence c v)
-
-looking : {Γ : List ℕ} (scope : All Name Γ) (ρ : All Val Γ) (x : Variable) → Looks scope ρ x (find x scope)
-unfolding find valuesOf lookup
-looking ∅ ∅ x = looks-none
-looking (_▹_ {d = c} {Γ = Δ} y scope) (v ▹ ρ) x = go (same x y) refl (find x scope) (looking scope ρ x)
-  where
-    go : (b : Bool) → same x y ≡ b → (f : Found Δ) → Looks scope ρ x f → Looks (_▹_ {d = c} y scope) (v ▹ ρ) x (elim b [ true ↦ found c here | false ↦ later f ])
-    go true e f h = looks-one (newest (same-true x y e))
-    go false e missing looks-none = looks-none
-    go false e (found d w) (looks-one h) = looks-one (older (same-false x y e) h)
-
-module _ {Γ : List ℕ} {scope : All Name Γ} {ρ : All Val Γ} {x : Variable} where
-  looks-found : {d : ℕ} {v : Γ ∋ d} → Looks scope ρ x (found d v) → Maps (valuesOf scope ρ) x (plain d (lookup v ρ))
-  looks-found (looks-one h) = h
-
-  looks-int : {f : Found Γ} {v : Γ ∋ 0} → Looks scope ρ x f → asInt f ≡ some v → Maps (valuesOf scope ρ) x (int (lookup v ρ))
-  unfolding plain
-  looks-int looks-none q = never (cc)
-  looks-int {v = v} (looks-one {d = zero} {v = w} h) q = let p : w ≡ v = cc in subst (λ u. Maps (valuesOf scope ρ) x (int (lookup u ρ))) p h
-  looks-int (looks-one {d = suc d} h) q = never (cc)
-
-  as-sequence : {f : Found Γ} → Looks scope ρ x f → LooksAtSequence scope ρ x (asSequence f)
-  as-sequence looks-none = looks-no
-  as-sequence (looks-one {d = zero} h) = looks-no
-  as-sequence (looks-one {d = suc d} h) = looks-along h
-
-  along : {c : ℕ} {v : Γ ∋ suc c} → LooksAtSequence scope ρ x (sequence c v) → Maps (valuesOf scope ρ) x (plain (suc c) (lookup v ρ))
-  along (looks-along h) = h
-
-  looks-ints : {f : Found Γ} {v : Γ ∋ 1} → Looks scope ρ x f → asInts (asSequence f) ≡ some v → Maps (valuesOf scope ρ) x (braces (plains (plain 0) (lookup v ρ)))
-  unfolding plain
-  looks-ints looks-none q = never (cc)
-  looks-ints (looks-one {d = zero} h) q = never (cc)
-  looks-ints {v = v} (looks-one {d = suc zero} {v = w} h) q = let p : w ≡ v = cc in subst (λ u. Maps (valuesOf scope ρ) x (plain 1 (lookup u ρ))) p h
-  looks-ints (looks-one {d = suc (suc d)} h) q = never (cc)
-
 -- the listed variables with their values
 module _ {Γ : List ℕ} (scope : All Name Γ) (ρ : All Val Γ) where
   listed-values : (us : List Variable) {ls : List (Variable × (Γ ∋ 0))}
       → listedInts scope us ≡ some ls
       → Listed Number (valuesOf scope ρ) us (valuesOf (listedNames ls) (listed (pointers ls) ρ))
-  unfolding listedInts listedNames listed valuesOf plain
+  unfolding listedInts listedNames listed envOf plain
   listed-values [] {ls} e =
       let q : [] ≡ ls = cc in
       subst (λ l. Listed Number (valuesOf scope ρ) [] (valuesOf (listedNames l) (listed (pointers l) ρ))) q listed-none
@@ -172,7 +126,7 @@ module _ {Γ : List ℕ} (scope : All Name Γ) (ρ : All Val Γ) where
       go (some v) qo (some l) qr q below =
           let s : (u, v) ∷ l ≡ ls = cc in
           subst (λ l. Listed Number (valuesOf scope ρ) (u ∷ us) (valuesOf (listedNames l) (listed (pointers l) ρ))) s
-          (listed-more (looks-int (looking scope ρ u) qo) number (below l qr))
+          (listed-more (looks-int (looking plain scope ρ u) qo) number (below l qr))
 
 -- ---- what `eval` answers, beside what the rules have
 
@@ -321,16 +275,16 @@ module _ {ρ inside : Env Value} {p : ℕ} {x y : Variable} {us : List Variable}
           n ws (subst (λ ρ. EvaluatesEach x ρ e vs ws) (listed-once l′ l) (subst (λ vs. EvaluatesEach x other e vs ws) (braces-same (maps-once m′ m)) b))
 
 pub coming : {Γ : List ℕ} {scope : All Name Γ} {e : Raw} {d : ℕ} {t : Term Γ d} → Resolved Γ scope e d t → (ρ : All Val Γ) → Comes (valuesOf scope ρ) e d (eval t ρ)
-unfolding eval valuesOf plain
-coming {scope = scope} (resolved-var {x = x} q) ρ = valued (evaluates-var (looks-found (subst (Looks scope ρ x) q (looking scope ρ x))))
+unfolding eval envOf plain
+coming {scope = scope} (resolved-var {x = x} q) ρ = valued (evaluates-var (looks-found (subst (Looks plain scope ρ x) q (looking plain scope ρ x))))
 coming {scope = scope} (resolved-let {x = x} {e₁ = e₁} {e₂ = e₂} {t₁ = t₁} {t₂ = t₂} h k) ρ = comes-let _ x e₁ e₂ (eval t₁ ρ) (λ v. eval t₂ (v ▹ ρ)) (coming h ρ) (λ v. coming k (v ▹ ρ))
 coming resolved-const ρ = valued (evaluates-call calls-const maps-none gives-const)
-coming {scope = scope} (resolved-iota {x = x} {v = v} q) ρ = comes-iota _ x (lookup v ρ) (looks-int (looking scope ρ x) q)
+coming {scope = scope} (resolved-iota {x = x} {v = v} q) ρ = comes-iota _ x (lookup v ρ) (looks-int (looking plain scope ρ x) q)
 coming {scope = scope} (resolved-plus {x = x} {y = y} {v = v} {w = w} q r) ρ =
-    comes-plus _ x y (lookup v ρ) (lookup w ρ) (looks-int (looking scope ρ x) q) (looks-int (looking scope ρ y) r)
-coming {scope = scope} (resolved-sum {x = x} {v = v} q) ρ = comes-sum _ x (lookup v ρ) (looks-ints (looking scope ρ x) q)
+    comes-plus _ x y (lookup v ρ) (lookup w ρ) (looks-int (looking plain scope ρ x) q) (looks-int (looking plain scope ρ y) r)
+coming {scope = scope} (resolved-sum {x = x} {v = v} q) ρ = comes-sum _ x (lookup v ρ) (looks-ints (looking plain scope ρ x) q)
 coming {scope = scope} (resolved-each {c = c} {d = d} {x = x} {y = y} {us = us} {e = e} {v = v} {ls = ls} {t = t} qv ql h) ρ =
-    comes-each (along (subst (LooksAtSequence scope ρ y) qv (as-sequence (looking scope ρ y)))) (listed-values scope ρ us ql)
+    comes-each (along (subst (LooksAtSequence plain scope ρ y) qv (as-sequence (looking plain scope ρ y)))) (listed-values scope ρ us ql)
     (comes-items x _ e c d (λ u. eval t (u ▹ listed (pointers ls) ρ)) (λ u. coming h (u ▹ listed (pointers ls) ρ)) (lookup v ρ))
 
 -- ---- the theorems

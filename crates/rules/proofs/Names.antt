@@ -1,16 +1,17 @@
 -- A name is found where the mapping has it, and an environment maps a name once.
-use Prim.Native.Nat.{ℕ}
+use Prim.Native.Nat.{ℕ, zero, suc}
 use native.Mathlib.Omega.{arith}
 use mathlib.Core.Bool.{Bool, true, false}
 use mathlib.Core.List.{List, [], _∷_}
-use mathlib.Core.Path.{_≡_, refl, sym, ap, _∙_}
+use mathlib.Core.Option.{some}
+use mathlib.Core.Path.{_≡_, refl, ap, subst}
 use borrow.Author.Tests.{eqb-true, eqb-false}
 use lib.Dec.{eqb}
 use Rattle.laws.proofs.Never.{never}
 use Rattle.snesl.specs.declared.code.Variable.{Variable}
 use Rattle.snesl.specs.Terms.{_∋_, here, there, All, ∅, _▹_, lookup}
-use Rattle.snesl.specs.Checking.{Name, same, Found, missing, found, later, find}
-use Rattle.rules.specs.Names.{Env, nothing, named, Maps, newest, older, MapsAll, maps-none, maps-more, Listed, listed-none, listed-more}
+use Rattle.snesl.specs.Checking.{Name, same, Found, missing, found, later, find, asInt, asInts, Sequence, noSequence, sequence, asSequence}
+use Rattle.rules.specs.Names.{Env, nothing, named, Maps, newest, older, envOf}
 use Rattle.rules.specs.Typing.{typesOf}
 
 pub same-true : (x y : Variable) → same x y ≡ true → x ≡ y
@@ -46,3 +47,48 @@ finding (_▹_ {d = c} {Γ = Δ} y scope) x = go (same x y) refl (find x scope) 
     go true e f h = finds-one (newest (same-true x y e))
     go false e missing (finds-none h) = finds-none (not-older (same-false x y e) h)
     go false e (found d v) (finds-one h) = finds-one (older (same-false x y e) h)
+
+-- ---- the same beside what the names map to
+
+module _ {P : ℕ → Type 0} {A : Type 0} (f : (d : ℕ) → P d → A) {Γ : List ℕ} (scope : All Name Γ) (ρ : All P Γ) (x : Variable) where
+  pub data Looks : Found Γ → Type 0 where
+    looks-none : Looks missing
+    looks-one : {d : ℕ} {v : Γ ∋ d} → Maps (envOf f scope ρ) x (f d (lookup v ρ)) → Looks (found d v)
+
+  pub data LooksAtSequence : Sequence Γ → Type 0 where
+    looks-no : LooksAtSequence noSequence
+    looks-along : {c : ℕ} {v : Γ ∋ suc c} → Maps (envOf f scope ρ) x (f (suc c) (lookup v ρ)) → LooksAtSequence (sequence c v)
+
+module _ {P : ℕ → Type 0} {A : Type 0} (f : (d : ℕ) → P d → A) where
+  pub looking : {Γ : List ℕ} (scope : All Name Γ) (ρ : All P Γ) (x : Variable) → Looks f scope ρ x (find x scope)
+  unfolding find envOf lookup
+  looking ∅ ∅ x = looks-none
+  looking (_▹_ {d = c} {Γ = Δ} y scope) (v ▹ ρ) x = go (same x y) refl (find x scope) (looking scope ρ x)
+    where
+      go : (b : Bool) → same x y ≡ b → (g : Found Δ) → Looks f scope ρ x g → Looks f (_▹_ {d = c} y scope) (v ▹ ρ) x (elim b [ true ↦ found c here | false ↦ later g ])
+      go true e g h = looks-one (newest (same-true x y e))
+      go false e missing looks-none = looks-none
+      go false e (found d w) (looks-one h) = looks-one (older (same-false x y e) h)
+
+module _ {P : ℕ → Type 0} {A : Type 0} {f : (d : ℕ) → P d → A} {Γ : List ℕ} {scope : All Name Γ} {ρ : All P Γ} {x : Variable} where
+  pub looks-found : {d : ℕ} {v : Γ ∋ d} → Looks f scope ρ x (found d v) → Maps (envOf f scope ρ) x (f d (lookup v ρ))
+  looks-found (looks-one h) = h
+
+  pub looks-int : {g : Found Γ} {v : Γ ∋ 0} → Looks f scope ρ x g → asInt g ≡ some v → Maps (envOf f scope ρ) x (f 0 (lookup v ρ))
+  looks-int looks-none q = never (cc)
+  looks-int {v = v} (looks-one {d = zero} {v = w} h) q = let p : w ≡ v = cc in subst (λ u. Maps (envOf f scope ρ) x (f 0 (lookup u ρ))) p h
+  looks-int (looks-one {d = suc d} h) q = never (cc)
+
+  pub as-sequence : {g : Found Γ} → Looks f scope ρ x g → LooksAtSequence f scope ρ x (asSequence g)
+  as-sequence looks-none = looks-no
+  as-sequence (looks-one {d = zero} h) = looks-no
+  as-sequence (looks-one {d = suc d} h) = looks-along h
+
+  pub along : {c : ℕ} {v : Γ ∋ suc c} → LooksAtSequence f scope ρ x (sequence c v) → Maps (envOf f scope ρ) x (f (suc c) (lookup v ρ))
+  along (looks-along h) = h
+
+  pub looks-ints : {g : Found Γ} {v : Γ ∋ 1} → Looks f scope ρ x g → asInts (asSequence g) ≡ some v → Maps (envOf f scope ρ) x (f 1 (lookup v ρ))
+  looks-ints looks-none q = never (cc)
+  looks-ints (looks-one {d = zero} h) q = never (cc)
+  looks-ints {v = v} (looks-one {d = suc zero} {v = w} h) q = let p : w ≡ v = cc in subst (λ u. Maps (envOf f scope ρ) x (f 1 (lookup u ρ))) p h
+  looks-ints (looks-one {d = suc (suc d)} h) q = never (cc)

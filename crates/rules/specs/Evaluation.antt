@@ -6,11 +6,11 @@ use mathlib.Core.Path.{_≡_}
 use lib.IntN.{ℤ, pos, _+ℤ_}
 use Rattle.snesl.specs.declared.code.Variable.{Variable}
 use Rattle.snesl.specs.Values.{Val, inRange}
-use Rattle.snesl.specs.Terms.{All, ∅, _▹_}
+use Rattle.snesl.specs.Terms.{All}
 use Rattle.snesl.specs.Records as raw
 use Rattle.snesl.specs.Records.{Raw}
 use Rattle.snesl.specs.Checking.{Name}
-use Rattle.rules.specs.Names.{Env, nothing, named, Maps, MapsAll, Listed}
+use Rattle.rules.specs.Names.{Env, named, Maps, MapsAll, Listed, envOf}
 use Rattle.rules.specs.Typing.{BuiltIn, const, iota, plus, sum, Calls}
 use Rattle.rules.specs.Values.{Value, Values, int, braces, empty, item, plain}
 
@@ -61,6 +61,5 @@ mutual
         → EvaluatesEach x ρ e (item v vs) (item w ws)
 
 -- the ρ of names and their values
-unfoldable pub valuesOf : {Γ : List ℕ} → All Name Γ → All Val Γ → Env Value
-valuesOf ∅ ∅ = nothing
-valuesOf (_▹_ {d = d} x scope) (v ▹ ρ) = named x (plain d v) (valuesOf scope ρ)
+abbrev pub valuesOf : {Γ : List ℕ} → All Name Γ → All Val Γ → Env Value
+valuesOf scope ρ = envOf plain scope ρ

@@ -4,10 +4,10 @@ use mathlib.Core.List.{List, [], _∷_, _++_}
 use mathlib.Core.Option.{some}
 use mathlib.Core.Path.{_≡_}
 use Rattle.snesl.specs.Streams.{Stream}
-use Rattle.snesl.specs.Terms.{All, ∅, _▹_}
+use Rattle.snesl.specs.Terms.{All}
 use Rattle.snesl.specs.Trees.{Tree, leaf, node}
 use Rattle.snesl.specs.Checking.{Name}
-use Rattle.rules.specs.Names.{Env, nothing, named}
+use Rattle.rules.specs.Names.{Env, envOf}
 use Rattle.rules.specs.Instructions.{Stores}
 
 -- st ::= s | (st1, s)
@@ -31,6 +31,5 @@ plainTree (leaf s) = one s
 plainTree (node st s) = pair (plainTree st) s
 
 -- the δ of names and their trees
-unfoldable pub treesOf : {Γ : List ℕ} → All Name Γ → All (Tree ℕ) Γ → Env STree
-treesOf ∅ ∅ = nothing
-treesOf (x ▹ scope) (t ▹ δ) = named x (plainTree t) (treesOf scope δ)
+abbrev pub treesOf : {Γ : List ℕ} → All Name Γ → All (Tree ℕ) Γ → Env STree
+treesOf scope δ = envOf (λ d. plainTree) scope δ
