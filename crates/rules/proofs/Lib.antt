@@ -9,3 +9,4 @@ pub mod Instructions
 pub mod Translation
 pub mod Correctness
 pub mod Reading
+pub mod Statements
