@@ -12,6 +12,8 @@ use Rattle.snesl.specs.declared.refusal.Refusal.the-variants.{NoRecord, OverLim
 use Rattle.snesl.specs.Limits.{mostInputs, mostDepth, lastVariable}
 use Rattle.snesl.specs.Records as records
 use Rattle.snesl.specs.Records.{byteAt, markAt, markIN, Input, inputAt, inputOk, inputFirst, inputsAt, refused, declared}
+use Rattle.formula.specs.Declarations.{inputPlace, declarationOf}
+use Rattle.formula.specs.declared.inputs.Declaration.{Declaration}
 use Rattle.scopes.specs.declared.scope.Kind.{Kind}
 use Rattle.scopes.specs.declared.scope.Kind.the-variants as kind
 use Rattle.scopes.specs.Scopes.{scope, depthIn, Pushed}
@@ -148,6 +150,25 @@ module _ (t : List ℕ) (inputs : ℕ) where
         go : (os : List Input) → i + length os ≡ inputs → enteredBy (inputsAt mostInputs t 0) ≡ enterIn (drop sp env) os → Top (enteredBy (inputsAt mostInputs t 0)) inputs env sp
         go [] c e = record { at = omega (arith, p .at, p .long); pairs = e }
         go (o ∷ os) c e = absurd (omega arith)
+
+-- the same as the declaration of input i says it
+module _ (t : List ℕ) (inputs : ℕ) {top : ℕ} {env : List ℕ} {sp i : ℕ} (p : Entering t inputs top env sp i (inputPlace i)) (h : i < inputs)
+    {r : Declaration} (e : r ≡ declarationOf (inputAt t (inputPlace i))) where
+  pub turn-at :
+      kind.Missing ≡ depthIn (r .name .0) (scope sp top env)
+      → {new : List ℕ} {s : ℕ} → Pushed env sp (r .name .0) (r .depth) new s → length new ≡ length env
+      → Entering t inputs top new s (i + 1) (inputPlace (i + 1))
+  turn-at m {new} {s} u l =
+      let place : inputPlace i + 4 ≡ inputPlace (i + 1) = omega arith in
+      subst (λ (k : ℕ). Entering t inputs top new s (i + 1) k) place
+      (turn t inputs p h
+      (m ∙ ap (λ (d : Declaration). depthIn (d .name .0) (scope sp top env)) e)
+      (subst (λ (d : Declaration). Pushed env sp (d .name .0) (d .depth) new s) e u) l)
+
+  pub repeated-at : (d : ℕ) → kind.Depth d ≡ depthIn (r .name .0) (scope sp top env) → enteredBy (inputsAt mostInputs t 0) ≡ again (r .place)
+  repeated-at d m =
+      repeated t inputs p h d (m ∙ ap (λ (d : Declaration). depthIn (d .name .0) (scope sp top env)) e)
+      ∙ ap (λ (d : Declaration). again (d .place)) (sym e)
 
 -- there are no more inputs than are allowed
 pub few : (t : List ℕ) (next left k : ℕ) (is : List Input) → inputsAt left t k ≡ declared is next → length is ≤ left

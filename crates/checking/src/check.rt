@@ -1,4 +1,5 @@
 // Checking (document 01, refusals 5 and 6): the depth of a formula's type, or why it has none, in one walk over its records.
+use formula::inputs::declared;
 use formula::read::FormulaRead;
 use formula::read::read_formula;
 use records::head::Head;
@@ -203,17 +204,15 @@ fn enter(bytes: &[u8], inputs: usize, env: &mut [u8]) -> Opened
     let top = env.len();
     let mut sp = top;
     let mut i = 0;
-    let mut k = 0;
     while i < inputs {
-        let x = Variable(bytes[k + 2]);
-        match look(env, x, sp, top) {
+        let input = declared(bytes, i);
+        match look(env, input.name, sp, top) {
             Kind::Missing => {
-                sp = push(env, sp, x, bytes[k + 3]);
+                sp = push(env, sp, input.name, input.depth);
                 i += 1;
-                k += 4;
             }
             Kind::Depth(_) => {
-                return Opened::Refused(Refusal::Unbound(k));
+                return Opened::Refused(Refusal::Unbound(input.place));
             }
         }
     }

@@ -28,8 +28,8 @@ use Rattle.steps.specs.Holding.{keeps}
 use Rattle.steps.proofs.Stores.{room-append}
 use Rattle.leaves.specs.Places.{places, shaped-none, shallow-none}
 use Rattle.decimals.proofs.Parts.{rest-of}
-use Rattle.records.specs.Declarations.{inputPlace, declarationOf}
-use Rattle.records.specs.declared.inputs.Declaration.{Declaration}
+use Rattle.formula.specs.Declarations.{inputPlace, declarationOf}
+use Rattle.formula.specs.declared.inputs.Declaration.{Declaration}
 use Rattle.valuetext.specs.Storing.{valueStore}
 use Rattle.valuetext.proofs.Represented.{order-length}
 use Rattle.inputs.specs.declared.loading.Loaded.{Loaded}

@@ -18,7 +18,7 @@ use Rattle.snesl.specs.Checking.{depths}
 use Rattle.snesl.specs.Inputs.{Values, wrong, right, valueFirst, inputValues}
 use Rattle.decimals.specs.Numbers.{pick}
 use Rattle.decimals.proofs.Parts.{rest-of}
-use Rattle.records.specs.Declarations.{inputPlace}
+use Rattle.formula.specs.Declarations.{inputPlace}
 use Rattle.valuetext.specs.Storing.{valueStore, measured, measuredIf, countsAfter}
 use Rattle.valuetext.specs.declared.storing.Measured.{Measured}
 use Rattle.valuetext.specs.declared.storing.Measured.the-variants.{Elements, Over, No}

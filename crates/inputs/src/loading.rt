@@ -2,11 +2,11 @@
 use crate::places::push_places;
 use crate::texts::text_end;
 use environment::put_name;
+use formula::inputs::Declaration;
+use formula::inputs::declared;
 use levels::counts::LEVELS;
 use levels::counts::Total;
 use levels::counts::add_up;
-use records::inputs::Declaration;
-use records::inputs::declared;
 use snesl::limits::Formula;
 use valuetext::storing::fill_text;
 ghost use mathlib.Core.Path.{_≡_};

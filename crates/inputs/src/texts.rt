@@ -1,6 +1,6 @@
 // Refusal 7 over all inputs, in order, and how many elements their streams have.
+use formula::inputs::declared;
 use levels::counts::LEVELS;
-use records::inputs::declared;
 use snesl::limits::Formula;
 use valuetext::storing::Measured;
 use valuetext::storing::measure_text;

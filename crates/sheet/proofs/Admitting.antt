@@ -25,11 +25,11 @@ use Rattle.formula.specs.declared.read.JobRead.the-variants as found
 use Rattle.formula.specs.declared.read.FormulaRead.the-variants as formula
 use Rattle.checking.specs.Checks.{judgedOf, judgeFront}
 use Rattle.checking.specs.declared.check.Judged.the-variants as judged
-use Rattle.inputs.specs.Supply.{Read, textsOf}
+use Rattle.inputs.specs.Supply.{Read, textsOf, tallied}
 use Rattle.inputs.specs.declared.texts.Texts.the-variants as texts
 use Rattle.sheet.specs.declared.admission.Admission.{Admission}
 use Rattle.sheet.specs.declared.admission.Admission.the-variants.{Admitted, Refused}
-use Rattle.sheet.specs.Admission.{admissionValued, admissionTyped, admissionRead, admission}
+use Rattle.sheet.specs.Admission.{admissionValued, admissionTyped, admissionRead, admission, countsTyped, countsRead, admissionCounts}
 use Rattle.sheet.specs.Runs as runs
 
 -- ---- step by step
@@ -40,6 +40,13 @@ module _ (t : List ℕ) where
     where
       go : (j : JobRead) → found.Refused r ≡ jobOf t j → Refused r ≡ admissionRead t j
       go (records.JobRead.refused s) q = let same : r ≡ s = cc in ap Refused same
+      go (job is k e next ss) q = never (cc)
+
+  pub kept-read : (r : Refusal) → found.Refused r ≡ jobOf t (readJob t) → (cs : List ℕ) → cs ≡ admissionCounts t cs
+  kept-read r e cs = go (readJob t) e
+    where
+      go : (j : JobRead) → found.Refused r ≡ jobOf t j → cs ≡ countsRead t j cs
+      go (records.JobRead.refused s) q = refl
       go (job is k e next ss) q = never (cc)
 
   pub job-found : (j : Job) → found.Found j ≡ jobOf t (readJob t) → Read t (j .formula)
@@ -103,7 +110,24 @@ module _ (t : List ℕ) where
         go (checking.Typed.refused s) q = let same : r ≡ s = cc in ap Refused same
         go (typed d e) q = never (cc)
 
+    counts-are : (cs : List ℕ) → admissionCounts t cs ≡ countsTyped t (g .inputs) (g .spans) (checkFormula (g .inputs) (g .raw)) cs
+    counts-are cs = ap (λ (j : JobRead). countsRead t j cs) (g .read)
+
+    pub kept-typed : (r : Refusal) → judged.Refused r ≡ judgeFront (frontOf t) → (cs : List ℕ) → cs ≡ admissionCounts t cs
+    kept-typed r e cs = go (checkFormula (g .inputs) (g .raw)) (e ∙ ap judgeFront the-front) ∙ sym (counts-are cs)
+      where
+        go : (y : Typed (context (g .inputs))) → judged.Refused r ≡ judgedOf y → cs ≡ countsTyped t (g .inputs) (g .spans) y cs
+        go (checking.Typed.refused s) q = refl
+        go (typed d e) q = never (cc)
+
     module _ (d n : ℕ) (e : judged.Typed d n ≡ judgeFront (frontOf t)) where
+      pub tallied-all : (cs : List ℕ) → tallied t (g .inputs) (g .spans) cs ≡ admissionCounts t cs
+      tallied-all cs = go (checkFormula (g .inputs) (g .raw)) (e ∙ ap judgeFront the-front) ∙ sym (counts-are cs)
+        where
+          go : (y : Typed (context (g .inputs))) → judged.Typed d n ≡ judgedOf y → tallied t (g .inputs) (g .spans) cs ≡ countsTyped t (g .inputs) (g .spans) y cs
+          go (checking.Typed.refused s) q = never (cc)
+          go (typed d′ e) q = refl
+
       valued-is : admission t ≡ admissionValued f (inputValues t (g .inputs) (g .spans))
       valued-is = admission-is ∙ go (checkFormula (g .inputs) (g .raw)) (e ∙ ap judgeFront the-front)
         where

@@ -23,7 +23,8 @@ use Rattle.snesl.specs.Streams.{Store, contents, room}
 use Rattle.snesl.specs.Machine.{State, Result, went, stopped, run, holding}
 use Rattle.snesl.specs.Translation.{code, tree}
 use Rattle.snesl.specs.Agreement.{RanOnce}
-use Rattle.snesl.specs.Checking.{context, depths, turned, inputNames}
+use Rattle.snesl.specs.Records.{JobRead}
+use Rattle.snesl.specs.Checking.{Typed, context, depths, turned, inputNames}
 use Rattle.snesl.specs.Formed.{Formed}
 use Rattle.snesl.specs.Inputs.{inputTrees, inputStreams, inputOver}
 use Rattle.snesl.specs.Outcome.{Outcome, refusal, value, refusalOf, answerText, answered, finished, loaded, executed, answerAfter}
@@ -41,12 +42,14 @@ use Rattle.runner.specs.Walks.{Ready}
 use Rattle.leaves.specs.declared.Walked.{Walked}
 use Rattle.leaves.specs.declared.Walked.the-variants as walks
 use Rattle.runner.proofs.Measures.{shallow-type}
-use Rattle.inputs.specs.Supply.{Valued}
+use Rattle.inputs.specs.Supply.{Valued, perInput, Counted}
+use Rattle.inputs.proofs.Counting.{counted-all}
 use Rattle.inputs.specs.Loading.{bindingWords, inputsBound, Stands, Loads, loads, fills}
 use Rattle.inputs.specs.declared.loading.Loaded.{Loaded}
 use Rattle.inputs.specs.declared.loading.Loaded.the-variants.{At, Full}
 use Rattle.sheet.specs.declared.Ran.{Ran as Ran-answer}
 use Rattle.sheet.specs.declared.Ran.the-variants.{Value, Refused}
+use Rattle.sheet.specs.Admission.{countsTyped, countsRead, admissionCounts}
 use Rattle.sheet.specs.Runs.{ranOf, Admitted, execution, Finished, Shows, LeftBy, Performs, spoiledFrom, Executes}
 
 -- ---- loading
@@ -68,6 +71,15 @@ valued-of g =
       given = g .accepted .given;
       values = g .accepted .valued;
     }
+
+-- the counts that its admission kept are its inputs'
+pub counted-of : {t : List ℕ} {f : Formula} (g : Admitted t f) (cs₀ : List ℕ) {cs : List ℕ} → cs ≡ admissionCounts t cs₀
+    → perInput * mostInputs ≤ length cs₀ → length cs ≡ length cs₀ → Counted t cs
+counted-of {t} g cs₀ e =
+    counted-all (valued-of g .job) cs₀
+    (e
+    ∙ ap (λ (j : JobRead). countsRead t j cs₀) (g .accepted .read)
+    ∙ ap (λ (y : Typed (context (g .accepted .inputs))). countsTyped t (g .accepted .inputs) (g .accepted .spans) y cs₀) (g .accepted .checked))
 
 -- all inputs are loaded
 pub record Laid {t : List ℕ} {f : Formula} (g : Valued t f) (env env₁ : List ℕ) (buf buf₁ : List ℤ) (state₁ : List ℕ) (o : Option ℕ) (sp : ℕ) : Type 0 where

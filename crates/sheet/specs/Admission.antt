@@ -7,6 +7,7 @@ use Rattle.snesl.specs.declared.refusal.Refusal.the-variants.{NoValueText}
 use Rattle.snesl.specs.Records as records
 use Rattle.snesl.specs.Checking as checking
 use Rattle.snesl.specs.Inputs.{Values, wrong, right, inputValues}
+use Rattle.inputs.specs.Supply.{tallied}
 use Rattle.sheet.specs.declared.admission.Admission.{Admission}
 use Rattle.sheet.specs.declared.admission.Admission.the-variants.{Admitted, Refused}
 
@@ -28,3 +29,16 @@ admissionRead t (records.job is k e next ss) =
 
 abbrev pub admission : List ℕ → Admission
 admission t = admissionRead t (records.readJob t)
+
+-- ---- the counts of the inputs' texts, which are read where none of 1 to 6 is met
+
+abbrev pub countsTyped : List ℕ → (is : List records.Input) → List records.Span → checking.Typed (checking.context is) → List ℕ → List ℕ
+countsTyped t is ss (checking.Typed.refused r) counts = counts
+countsTyped t is ss (checking.typed d e) counts = tallied t is ss counts
+
+abbrev pub countsRead : List ℕ → records.JobRead → List ℕ → List ℕ
+countsRead t (records.JobRead.refused r) counts = counts
+countsRead t (records.job is k e next ss) counts = countsTyped t is ss (checking.checkFormula is e) counts
+
+abbrev pub admissionCounts : List ℕ → List ℕ → List ℕ
+admissionCounts t counts = countsRead t (records.readJob t) counts

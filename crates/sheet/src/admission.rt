@@ -1,14 +1,18 @@
-// Refusals 1 to 7, in 01's order. Nothing is written.
+// Refusals 1 to 7, in 01's order. Nothing is written but the counts of the inputs' texts.
 use checking::check::Judged;
 use checking::check::check_front;
 use formula::read::JobRead;
 use formula::read::read_job;
 use inputs::texts::Texts;
-use inputs::texts::texts_hold;
+use inputs::texts::measure_texts;
 use snesl::limits::Formula;
 use snesl::refusal::Refusal;
 ghost use mathlib.Core.Path.{_≡_};
-ghost use Rattle.sheet.specs.Admission.{admission};
+ghost use Prim.Native.Nat.{_*_, _≤_};
+ghost use lib.ListN.{length};
+ghost use Rattle.snesl.specs.Limits.{mostInputs};
+ghost use Rattle.inputs.specs.Supply.{perInput};
+ghost use Rattle.sheet.specs.Admission.{admission, admissionCounts};
 
 // The formula of a job that meets none of 1 to 7.
 pub enum Admission {
@@ -16,8 +20,10 @@ pub enum Admission {
     Refused(Refusal),
 }
 
-pub fn admit(job: &[u8]) -> Admission
+pub fn admit(job: &[u8], counts: &mut [usize]) -> Admission
+    requires { ⌜ perInput * mostInputs ≤ length (now counts) ⌝ }
     ensures { λ r. ⌜ r ≡ admission (now (job .entry)) ⌝ }
+    ensures { λ _. ⌜ now (counts .exit) ≡ admissionCounts (now (job .entry)) (now (counts .entry)) ⌝ }
 {
     match read_job(job) {
         JobRead::Refused(refusal) => Admission::Refused(refusal),
@@ -25,7 +31,7 @@ pub fn admit(job: &[u8]) -> Admission
             let formula = found.formula;
             match check_front(job, formula) {
                 Judged::Refused(refusal) => Admission::Refused(refusal),
-                Judged::Typed(_, _) => match texts_hold(job, formula) {
+                Judged::Typed(_, _) => match measure_texts(job, formula, counts) {
                     Texts::Good => Admission::Admitted(formula),
                     Texts::Bad(place) => Admission::Refused(Refusal::NoValueText(place)),
                 },

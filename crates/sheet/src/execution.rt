@@ -15,6 +15,7 @@ ghost use lib.ListN.{length};
 ghost use Rattle.snesl.specs.Limits.{mostElements};
 ghost use Rattle.snesl.specs.Demands.{Demands};
 ghost use Rattle.leaves.specs.Places.{mostWords};
+ghost use Rattle.inputs.specs.Supply.{Counted};
 ghost use Rattle.sheet.specs.Runs.{told, Admitted, execution, Performs, spoiledFrom};
 
 // The most words that an input's binding takes, and those that a nesting of the walk takes.
@@ -29,16 +30,17 @@ const WORDS: usize = NESTING_WORDS * (Formula::NESTING + 1) + INPUT_WORDS * Form
 fn perform(
     job: &[u8],
     formula: Formula,
+    counts: &[usize],
     env: &mut [u32],
     buf: &mut [i32],
     state: &mut [usize],
     answer: &mut [u8],
 ) -> Ran
-    requires { ⌜ Admitted (now job) formula ⌝ }
+    requires { ⌜ Admitted (now job) formula × Counted (now job) (now counts) ⌝ }
     requires { ⌜ (mostWords ≤ length (now env)) × (length (now buf) ≤ mostElements) × (now state ≡ 0 ∷ 0 ∷ 0 ∷ 0 ∷ []) ⌝ }
     ensures { λ r. ⌜ ((g : Admitted (now (job .entry)) formula) → Performs (execution g (length (now (buf .entry))) (length (now (answer .entry)))) (now (buf .entry)) (now (buf .exit)) (now (answer .entry)) (now (answer .exit)) r) ⌝ }
 {
-    match load(job, formula, env, buf, state) {
+    match load(job, formula, counts, env, buf, state) {
         Loaded::Full(id) => Ran::Refused(Refusal::NoRoom(id)),
         Loaded::At(sp) => match walk(
             job,
@@ -67,14 +69,20 @@ fn spoiled_from(ran: Ran, lent: usize) -> usize
 }
 
 // On the used part of the stream buffer, which is all zero after a refusal. The demands are kept on that part.
-pub fn execute(job: &[u8], formula: Formula, buf: &mut [i32], answer: &mut [u8]) -> Ran
-    requires { ⌜ Admitted (now job) formula ⌝ }
+pub fn execute(
+    job: &[u8],
+    formula: Formula,
+    counts: &[usize],
+    buf: &mut [i32],
+    answer: &mut [u8],
+) -> Ran
+    requires { ⌜ Admitted (now job) formula × Counted (now job) (now counts) ⌝ }
     requires { ⌜ length (now buf) ≤ mostElements ⌝ }
     ensures demands { λ r. ⌜ Demands (now (job .entry)) (now (buf .entry)) (now (buf .exit)) (now (answer .entry)) (now (answer .exit)) (told r) ⌝ }
 {
     let mut env = [0u32; WORDS];
     let mut state = [0usize; 4];
-    let ran = perform(job, formula, &mut env, buf, &mut state, answer);
+    let ran = perform(job, formula, counts, &mut env, buf, &mut state, answer);
     let from = spoiled_from(ran, buf.len());
     clear(buf, from);
     ran

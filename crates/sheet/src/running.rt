@@ -3,6 +3,7 @@ use crate::Ran;
 use crate::admission::Admission;
 use crate::admission::admit;
 use crate::execution::execute;
+use inputs::texts::COUNTS;
 use snesl::limits::Buffer;
 ghost use mathlib.Core.Path.{_≡_};
 ghost use Rattle.snesl.specs.Limits.{usedOf};
@@ -24,11 +25,12 @@ pub fn run(job: &[u8], streams: &mut [i32], answer: &mut [u8]) -> Ran
     ensures exact { λ r. ⌜ Exact (now (job .entry)) (now (streams .entry)) (now (streams .exit)) (now (answer .entry)) (now (answer .exit)) r ⌝ }
     ensures demands { λ r. ⌜ Demands (now (job .entry)) (now (streams .entry)) (now (streams .exit)) (now (answer .entry)) (now (answer .exit)) (told r) ⌝ }
 {
-    match admit(job) {
+    let mut counts = [0usize; COUNTS];
+    match admit(job, &mut counts) {
         Admission::Refused(refusal) => Ran::Refused(refusal),
         Admission::Admitted(formula) => {
             let used = used_part(streams.len());
-            execute(job, formula, &mut streams[..used], answer)
+            execute(job, formula, &counts, &mut streams[..used], answer)
         }
     }
 }

@@ -9,7 +9,7 @@ use borrow.Rule.Slice.PartMut.{same-len-mid}
 use denote.Enum.Declared.{tagOf}
 use lib.ListN.{length, take, drop, length-take, length-drop}
 use Rattle.snesl.specs.Records.{Input, Span}
-use Rattle.records.specs.declared.inputs.Declaration.{Declaration}
+use Rattle.formula.specs.declared.inputs.Declaration.{Declaration}
 use Rattle.valuetext.proofs.storing.Measured.{the-type}
 use Rattle.inputs.proofs.Supplying.{Supplied, inputs-supplied, inputs-few}
 use Rattle.inputs.proofs.Checking.{Telling, tells, counts-back, textFrom, bounds, told-bad, told-on, told-all}

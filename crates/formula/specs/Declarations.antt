@@ -1,7 +1,7 @@
 -- Where an input's IN record stands, and what it says (01, "The formula and the job").
 use Prim.Native.Nat.{ℕ, _*_}
 use Rattle.snesl.specs.Records.{Input}
-use Rattle.records.specs.declared.inputs.Declaration.{Declaration}
+use Rattle.formula.specs.declared.inputs.Declaration.{Declaration}
 
 abbrev pub inputPlace : (input : ℕ) → ℕ
 inputPlace input = 4 * input

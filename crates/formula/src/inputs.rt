@@ -4,7 +4,7 @@ ghost use mathlib.Core.Path.{_≡_};
 ghost use Prim.Native.Nat.{_+_, _≤_};
 ghost use lib.ListN.{length};
 ghost use Rattle.snesl.specs.Records.{inputAt};
-ghost use Rattle.records.specs.Declarations.{inputPlace, declarationOf};
+ghost use Rattle.formula.specs.Declarations.{inputPlace, declarationOf};
 
 // An IN record's place, and what it says.
 pub struct Declaration {
