@@ -2,3 +2,4 @@
 pub mod Stores
 pub mod Running
 pub mod Deriving
+pub mod Deterministic

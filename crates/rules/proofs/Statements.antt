@@ -4,7 +4,7 @@ use Prim.Native.Nat.{ℕ, _+_}
 use mathlib.Core.List.{List, [], _∷_}
 use mathlib.Core.Logic.{_⊎_, _↔_}
 use mathlib.Core.Option.{some, none}
-use mathlib.Core.Path.{_≡_}
+use mathlib.Core.Path.{_≡_, refl}
 use lib.ListN.{length}
 use Rattle.snesl.specs.declared.code.Transducer.{Transducer}
 use Rattle.snesl.specs.declared.refusal.Refusal.{Refusal}
@@ -42,6 +42,7 @@ use Rattle.rules.proofs.Xducers.Exactly as Xducers
 use Rattle.rules.proofs.Instructions.Stores.{Covers}
 use Rattle.rules.proofs.Instructions.Running as Running
 use Rattle.rules.proofs.Instructions.Deriving as Deriving
+use Rattle.rules.proofs.Instructions.Deterministic as Determined
 use Rattle.rules.proofs.Translation.Deterministic as Deterministic
 use Rattle.rules.proofs.Translation.Derived as Translation
 use Rattle.rules.proofs.Correctness as Correctness
@@ -111,6 +112,10 @@ pub made-exactly-by-the-rules : (t : Transducer) (n : ℕ) (σ : Store) {xs : Li
     → (apply t n σ ≡ made a) ↔ Loops (xducer t) n xs a
 made-exactly-by-the-rules = Xducers.apply-exactly
 
+-- 002, Lemma 1.8: a transducer has at most one output.
+pub lemma-1-8 : (ψ : Xducer) {n : ℕ} {xs : List Stream} {a b : Stream} → Loops ψ n xs a → Loops ψ n xs b → a ≡ b
+lemma-1-8 = Xducers.loops-once
+
 -- 5. Instructions (002, Figure 1.3). What the rules derive for a program with its ids written out, the run does, from any list of streams that has what the
 -- mapping has; so a run that stops has no derivation.
 pub rules-imply-the-run : (p : Program) (s n : ℕ) (m : State) (σ σ′ : Stores) → length (m .store) ≡ s → Covers σ (m .store) → Runs (written s p) σ n σ′ → Running.Ran p n m σ′
@@ -128,6 +133,10 @@ pub run-implies-the-rules : (p : Program) (s n : ℕ) (m m′ : State) (ids : Li
     → Deriving.Agree ids σ (m .store)
     → Deriving.Derived p s n ids σ m′
 run-implies-the-rules = Deriving.run-derives
+
+-- 002, Theorem 1.9: code has at most one store at its end, id by id, whether it is well-formed or not.
+pub theorem-1-9 : {p : Svcode} {σ σ′ σ″ : Stores} {c : ℕ} → Runs p σ c σ′ → Runs p σ c σ″ → (u : ℕ) → σ′ u ≡ σ″ u
+theorem-1-9 h k = Determined.runs-once h k (λ u. refl)
 
 -- 6. Translation (002, 1.3). For a checked expression the rules derive code with the tree of `tree` and as many ids as `size` says; grouped to the right it is
 -- the code of `code`;

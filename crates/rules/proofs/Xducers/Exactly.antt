@@ -15,6 +15,7 @@ use Rattle.snesl.specs.declared.code.StreamId.{StreamId}
 use Rattle.snesl.specs.declared.code.Transducer.{Transducer}
 use Rattle.snesl.specs.declared.code.Transducer.the-variants.{Const, ToFlags, Usum, MapTwoPlus, ScanPlus, Distr, SumPlus}
 use Rattle.snesl.specs.Streams.{Stream, ints, flags, units, Store, _!_}
+use Rattle.snesl.specs.Translation.{id}
 use Rattle.snesl.specs.Transducers as functions
 use Rattle.snesl.specs.Transducers.{Answer, made, unfit, negative, outside, unless, onInts, onFlags, lengthMisfit, firstOutside, exact, firstNegative, unary, pluses, misfit, spread, scans, sums, countF, alone, eachF, eachT, apply, operands}
 use Rattle.rules.specs.Xducers.{Kind, ofInts, ofFlags, ofUnits, Xducer, const, toFlags, usum, mapTwoPlus, scanPlus, distr, sumPlus, takes, gives, Loops, xducer, Fetches, fetches-none, fetches-more}
@@ -295,10 +296,42 @@ apply-fetches (SumPlus s t) n σ q =
     let (c, f, z) = found-ints (σ ! t .0) _ r in
     (b ∷ c ∷ [], fetches-more e (fetches-more f fetches-none))
 
--- 002, Lemma 1.8: the rules give one output at most
-pub loops-once : (t : Transducer) (n : ℕ) (σ : Store) {xs : List Stream} (a b : Stream)
-    → Fetches (λ s. σ ! s) (operands t) xs
-    → Loops (xducer t) n xs a
-    → Loops (xducer t) n xs b
-    → a ≡ b
-loops-once t n σ a b f h k = made-same (sym (apply-exactly t n σ a f .1 h) ∙ apply-exactly t n σ b f .1 k)
+-- ---- 002, Lemma 1.8: the rules give one output at most
+
+-- each ψ is some transducer's, and streams of its kinds are those of its operands in a store that has no others
+transducer : Xducer → Transducer
+transducer (const z) = Const z
+transducer toFlags = ToFlags (id 0)
+transducer usum = Usum (id 0)
+transducer mapTwoPlus = MapTwoPlus (id 0) (id 1)
+transducer (scanPlus z) = ScanPlus z (id 0) (id 1)
+transducer distr = Distr (id 0) (id 1)
+transducer sumPlus = SumPlus (id 0) (id 1)
+
+no-streams : (xs : List Stream) → map kind xs ≡ [] → Fetches (λ s. xs ! s) [] xs
+no-streams [] q = fetches-none
+no-streams (b ∷ xs) q = never (cc)
+
+one-stream : (xs : List Stream) {k : Kind} → map kind xs ≡ k ∷ [] → Fetches (λ s. xs ! s) (0 ∷ []) xs
+one-stream [] q = never (cc)
+one-stream (b ∷ []) q = fetches-more refl fetches-none
+one-stream (b ∷ c ∷ xs) q = never (cc)
+
+two-streams : (xs : List Stream) {k j : Kind} → map kind xs ≡ k ∷ j ∷ [] → Fetches (λ s. xs ! s) (0 ∷ 1 ∷ []) xs
+two-streams [] q = never (cc)
+two-streams (b ∷ []) q = never (cc)
+two-streams (b ∷ c ∷ []) q = fetches-more refl (fetches-more refl fetches-none)
+two-streams (b ∷ c ∷ d ∷ xs) q = never (cc)
+
+once-by : (t : Transducer) {n : ℕ} {xs : List Stream} {a b : Stream} → Fetches (λ s. xs ! s) (operands t) xs → Loops (xducer t) n xs a → Loops (xducer t) n xs b → a ≡ b
+once-by t {n} {xs} {a} {b} f h k = made-same (sym (apply-exactly t n xs a f .1 h) ∙ apply-exactly t n xs b f .1 k)
+
+pub loops-once : (ψ : Xducer) {n : ℕ} {xs : List Stream} {a b : Stream} → Loops ψ n xs a → Loops ψ n xs b → a ≡ b
+unfolding transducer
+loops-once (const z) {xs = xs} h k = once-by (transducer (const z)) (no-streams xs (loop-kinds h .0)) h k
+loops-once toFlags {xs = xs} h k = once-by (transducer toFlags) (one-stream xs (loop-kinds h .0)) h k
+loops-once usum {xs = xs} h k = once-by (transducer usum) (one-stream xs (loop-kinds h .0)) h k
+loops-once mapTwoPlus {xs = xs} h k = once-by (transducer mapTwoPlus) (two-streams xs (loop-kinds h .0)) h k
+loops-once (scanPlus z) {xs = xs} h k = once-by (transducer (scanPlus z)) (two-streams xs (loop-kinds h .0)) h k
+loops-once distr {xs = xs} h k = once-by (transducer distr) (two-streams xs (loop-kinds h .0)) h k
+loops-once sumPlus {xs = xs} h k = once-by (transducer sumPlus) (two-streams xs (loop-kinds h .0)) h k
