@@ -1,2 +1,4 @@
 pub mod Sinks
+pub mod Between
+pub mod Trees
 pub mod Sunk
