@@ -9,8 +9,9 @@ use mathlib.Core.Path.{_≡_, refl, sym, ap, _∙_, subst}
 use borrow.Author.Tests.{lt-ltb, le-ltb, eq-eqb, ne-eqb}
 use lib.Dec.{ltb, eqb}
 use lib.ListN.{length, getD, take, drop, set, length-append, length-take, length-drop, take-append-drop, drop-of-length-le, List·getD-append}
-use lib.Seq.{take-suc, drop-cons, take-at, drop-at, drop-drop, take-take, getD-at, getD-append-add, set-at, set-append-left, set-split, take-append-seam, length-take-le, take-all}
+use lib.Seq.{take-suc, drop-cons, take-at, drop-at, drop-drop, take-take, getD-at, getD-append-add, set-at, set-append-left, set-split, take-append-seam, length-take-le, length-sets}
 use Rattle.laws.specs.Parts.{part, written}
+use Rattle.laws.proofs.Parts.{length-part, sets-written}
 use Rattle.snesl.specs.Programs.{insert}
 use Rattle.snesl.proofs.Compiled.Members.{_∈_}
 use Rattle.sink.specs.Sinks.{mark, markAll}
@@ -290,3 +291,19 @@ kept-small {taken = taken} {state = state} m bound h u k = subst (λ v. v < boun
 pub marks-used : {front : List ℕ} {own : ℕ} (taken : List ℕ) {most : ℕ} {state : List ℕ} {a b : Used} → a ≡ b
     → Marks front own (markAll own most (usedIds b) taken) most state → Marks front own (markAll own most (usedIds a) taken) most state
 marks-used {front} {own} taken {most} {state} e m = subst (λ u. Marks front own (markAll own most (usedIds u) taken) most state) (sym e) m
+
+-- one more id, by the words
+pub mark-new′ : {front : List ℕ} {own : ℕ} {taken : List ℕ} {most : ℕ} {state : List ℕ} (m : Marks front own taken most state) (u : ℕ) → u < own
+    → 8 + getD state 7 0 < length state
+    → {p : ℕ} → (p ≤ length taken) × (insert u taken ≡ take p taken ++ u ∷ drop p taken)
+    → {new : List ℕ} → new ≡ written (8 + p + 1) (part (8 + p) (getD state 7 0 - p) state) state
+    → Marks front own (mark own most u taken) most (set (set new (8 + p) u) 7 (getD state 7 0 + 1))
+mark-new′ {front} {own} {taken} {most} {state} m u h g {p} e {new} w =
+    let n : getD state 7 0 ≡ length taken = count-word m in
+    let w′ : new ≡ written (8 + p + 1) (part (8 + p) (length taken - p) state) state = w ∙ ap (λ c. written (8 + p + 1) (part (8 + p) (c - p) state) state) n in
+    subst (λ c. Marks front own (mark own most u taken) most (set (set new (8 + p) u) 7 (c + 1))) (sym n) (mark-new m u h (omega arith) (e .0) (e .1) w′)
+
+pub room-length : (l : List ℕ) (p n : ℕ) → p + n < length l → {new : List ℕ} → new ≡ written (p + 1) (part p n l) l → length new ≡ length l
+room-length l p n h e =
+    let long : length (part p n l) ≡ n = length-part p n l (omega arith) in
+    ap length (e ∙ sym (sets-written (p + 1) (part p n l) l (omega arith))) ∙ length-sets l (p + 1) (part p n l)

@@ -7,3 +7,4 @@ pub mod Shorts
 pub mod Using
 pub mod Keeping
 pub mod Sinking
+pub mod Opening

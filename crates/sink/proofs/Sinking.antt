@@ -8,13 +8,17 @@ use borrow.Author.Tests.{le-leb, lt-leb}
 use lib.Dec.{leb}
 use lib.ListN.{length, getD, take, drop, set, length-append, length-set, take-append-drop}
 use lib.Seq.{sets, getD-drop, drop-set-add, drop-set-lt, take-set-le, take-at, drop-at, length-take-le}
+use Rattle.snesl.specs.declared.code.StreamId.{StreamId}
+use Rattle.snesl.specs.declared.code.Instruction.{Instruction}
+use Rattle.snesl.specs.declared.code.Instruction.the-variants.{Define}
 use Rattle.snesl.specs.declared.code.Transducer.{Transducer}
 use Rattle.snesl.specs.Transducers.{operands}
-use Rattle.snesl.specs.Listing.{defineLine}
+use Rattle.snesl.specs.Listing.{defineLine, withCtrlLine}
 use Rattle.decimals.specs.Writing.{Writes}
-use Rattle.sink.specs.Sinks.{Mode, running, listing, surveying, Sink, far, put, take-in, markAll, defined, surveyed}
+use Rattle.sink.specs.Sinks.{Mode, running, listing, surveying, Sink, far, put, take-in, markAll, defined, opened, told, surveyed}
 use Rattle.sink.specs.Sunk.{modeWord, Plain, Sunk, Tells, Resumes}
 use Rattle.sink.specs.Kept.{Marks}
+use Rattle.sink.specs.Uses.{longest}
 
 -- ---- which mode it is
 pub is-running : (m : Mode) → modeWord m ≡ 0 → m ≡ running
@@ -31,6 +35,34 @@ pub is-surveying : (m : Mode) → (modeWord m ≡ 0 → ⊥) → (modeWord m ≡
 is-surveying running e f = absurd (e refl)
 is-surveying listing e f = absurd (f refl)
 is-surveying surveying e f = refl
+
+-- ---- a line is put
+abbrev pub landed : List ℕ → Sink → Sink
+landed w k = record { mode = k .mode; text = sets (k .text) (k .at) w; at = k .at + length w; own = k .own; taken = k .taken; most = k .most }
+
+module _ (w : List ℕ) (k : Sink) where
+  put-by : {b : Bool} → leb (k .at) far ≡ b → put w k ≡ elim b [ true ↦ landed w k | false ↦ k ]
+  put-by e = ap (λ b. elim b [ true ↦ landed w k | false ↦ k ]) e
+
+  pub put-far : far < k .at → put w k ≡ k
+  put-far h = put-by (lt-leb (k .at) far h)
+
+  pub put-near : k .at ≤ far → put w k ≡ landed w k
+  put-near h = put-by (le-leb (k .at) far h)
+
+  -- what it leaves
+  pub record Stays (a : Sink) : Type 0 where
+    pub mode : a .mode ≡ k .mode
+    pub own : a .own ≡ k .own
+    pub taken : a .taken ≡ k .taken
+    pub most : a .most ≡ k .most
+
+  pub put-stays : Stays (put w k)
+  put-stays = go (leb (k .at) far) refl
+    where
+      go : (b : Bool) → leb (k .at) far ≡ b → Stays (put w k)
+      go true e = subst Stays (sym (put-by e)) (record { mode = refl; own = refl; taken = refl; most = refl })
+      go false e = subst Stays (sym (put-by e)) (record { mode = refl; own = refl; taken = refl; most = refl })
 
 -- ---- what the words say
 module _ {k : Sink} {text state : List ℕ} (s : Sunk k text state) where
@@ -96,30 +128,13 @@ module _ {k : Sink} {text state : List ℕ} (s : Sunk k text state) where
 
   -- a line is written
   module _ (w : List ℕ) where
-    abbrev landed : Sink
-    landed = record { mode = k .mode; text = sets (k .text) (k .at) w; at = k .at + length w; own = k .own; taken = k .taken; most = k .most }
-
-    pub put-far : far < k .at → put w k ≡ k
-    put-far h =
-        ap (λ b. elim b [
-          | true ↦ landed
-          | false ↦ k
-        ]) (lt-leb (k .at) far h)
-
-    put-near : k .at ≤ far → put w k ≡ landed
-    put-near h =
-        ap (λ b. elim b [
-          | true ↦ landed
-          | false ↦ k
-        ]) (le-leb (k .at) far h)
-
     pub put-nothing : far < getD state 5 0 → Tells (put w k) text state state
-    put-nothing h = subst (λ a. Tells a text state state) (sym (put-far (omega (arith, at-word)))) unchanged
+    put-nothing h = subst (λ a. Tells a text state state) (sym (put-far w k (omega (arith, at-word)))) unchanged
 
     pub put-written : {new : List ℕ} {r : ℕ} → getD state 5 0 ≤ far → length w ≤ far → Writes text new (getD state 5 0) w r → Tells (put w k) new (set state 5 r) state
     put-written {new} {r} h l e =
         let end : r ≡ k .at + length w = omega (arith, e .count, at-word) in
-        subst (λ a. Tells a new (set state 5 r) state) (sym (put-near (omega (arith, at-word))))
+        subst (λ a. Tells a new (set state 5 r) state) (sym (put-near w k (omega (arith, at-word))))
         (record {
           sunk =
               record {
@@ -239,3 +254,20 @@ module _ {k : Sink} {text state : List ℕ} (s : Sunk k text state) where
               length-set (set (set (set first 4 1) 5 end) 6 0) 7 0
               ∙ (length-set (set (set first 4 1) 5 end) 6 0 ∙ (length-set (set first 4 1) 5 end ∙ (length-set first 4 1 ∙ length-set state 0 (getD state 6 0))));
         }
+
+-- an instruction known by its case
+pub told-case : (k : Sink) {i j : Instruction} {text state old : List ℕ} → i ≡ j → Tells (told j k) text state old → Tells (told i k) text state old
+told-case k {text = text} {state} {old} e t = subst (λ v. Tells (told v k) text state old) (sym e) t
+
+pub told-define : (k : Sink) (s : StreamId) (t : Transducer) (n : ℕ) {text state old : List ℕ} → n ≡ s .0 → Tells (defined n t k) text state old → Tells (told (Define s t) k) text state old
+told-define k s t n {text} {state} {old} e h = subst (λ m. Tells (defined m t k) text state old) e h
+
+-- a WithCtrl that puts out one stream
+pub opened-one : {k : Sink} {text state : List ℕ} (s : Sunk k text state) (out c : StreamId) {x y : ℕ} → x ≡ out .0 → y ≡ c .0
+    → getD state 4 0 ≡ 1 → getD state 5 0 ≤ far → length (withCtrlLine (x ∷ []) y []) ≤ longest
+    → {new : List ℕ} {r : ℕ} → Writes text new (getD state 5 0) (withCtrlLine (x ∷ []) y []) r
+    → Tells (opened (out .0 ∷ []) (c .0) [] k) new (set state 5 r) state
+opened-one {k} {state = state} s out c {x} {y} e f m h l {new} {r} w =
+    subst (λ z. Tells (opened (z ∷ []) (c .0) [] k) new (set state 5 r) state) e
+    (subst (λ z. Tells (opened (x ∷ []) z [] k) new (set state 5 r) state) f
+    (noted-listing s (withCtrlLine (x ∷ []) y []) m (put-written s (withCtrlLine (x ∷ []) y []) h (omega arith) w)))

@@ -1,9 +1,10 @@
 -- What a transducer uses, case by case, and that its line is short.
 use Prim.Native.Nat.{ℕ, _+_, _≤_, _<_, _^_}
 use native.Mathlib.Omega.{arith}
-use mathlib.Core.List.{List, [], _∷_, _++_, List·Memᴰ·not-nil, List·Memᴰ·cases-cons, List·Memᴰ·eq-of-singleton}
+use mathlib.Core.Bool.{true, false}
+use mathlib.Core.List.{List, [], _∷_, _++_, append-nil, List·Memᴰ·not-nil, List·Memᴰ·cases-cons, List·Memᴰ·eq-of-singleton}
 use mathlib.Core.Logic.{⊎-elim}
-use mathlib.Core.Path.{_≡_, refl, sym, ap, subst}
+use mathlib.Core.Path.{_≡_, refl, sym, ap, _∙_, subst}
 use lib.IntN.{ℤ}
 use lib.Signed.{mag}
 use lib.ListN.{length, length-append}
@@ -14,6 +15,8 @@ use Rattle.snesl.specs.Ascii.{ascii, pieces}
 use Rattle.snesl.specs.Transducers.{operands}
 use Rattle.snesl.specs.Listing.{idText, idsText, nameText, defineLine, withCtrlLine}
 use Rattle.snesl.proofs.Compiled.Members.{_∈_}
+use Rattle.lines.specs.Pieces.{restText, controlText}
+use Rattle.lines.proofs.IdLists.{control-line, rest-next, rest-none}
 use Rattle.sink.specs.declared.uses.Used.{Used}
 use Rattle.sink.specs.declared.uses.Used.the-variants.{Nothing, One, Two}
 use Rattle.sink.specs.Uses.{Operates, longest}
@@ -47,27 +50,40 @@ operates {r = r} e o = subst (λ v. Operates v r) (sym e) o
 pub const-operates : (z : ℤ) → mag z < 2 ^ 31 → Operates (Const z) Nothing
 const-operates z h = record { ids = refl; name = let n = int-short z h in omega arith; list = none-short }
 
-module _ (a : StreamId) (h : Small (a .0)) where
-  pub toFlags-operates : Operates (ToFlags a) (One (a .0))
-  toFlags-operates = record { ids = refl; name = omega arith; list = one-short (a .0) h }
+module _ {x : ℕ} (a : StreamId) (h : Small x) (e : x ≡ a .0) where
+  pub toFlags-operates : Operates (ToFlags a) (One x)
+  toFlags-operates = record { ids = ap (λ y. y ∷ []) e; name = omega arith; list = one-short (a .0) (subst Small e h) }
 
-  pub usum-operates : Operates (Usum a) (One (a .0))
-  usum-operates = record { ids = refl; name = omega arith; list = one-short (a .0) h }
+  pub usum-operates : Operates (Usum a) (One x)
+  usum-operates = record { ids = ap (λ y. y ∷ []) e; name = omega arith; list = one-short (a .0) (subst Small e h) }
 
-  module _ (b : StreamId) (g : Small (b .0)) where
-    pub plus-operates : Operates (MapTwoPlus a b) (Two (a .0) (b .0))
-    plus-operates = record { ids = refl; name = omega arith; list = two-short (a .0) (b .0) h g }
+  module _ {y : ℕ} (b : StreamId) (g : Small y) (f : y ≡ b .0) where
+    both : x ∷ y ∷ [] ≡ a .0 ∷ b .0 ∷ []
+    both = ap (λ z. z ∷ y ∷ []) e ∙ ap (λ z. a .0 ∷ z ∷ []) f
 
-    pub scan-operates : (z : ℤ) → mag z < 2 ^ 31 → Operates (ScanPlus z a b) (Two (a .0) (b .0))
-    scan-operates z m = record { ids = refl; name = let n = int-short z m in omega arith; list = two-short (a .0) (b .0) h g }
+    lists : length (idsText (a .0 ∷ b .0 ∷ [])) ≤ 44
+    lists = two-short (a .0) (b .0) (subst Small e h) (subst Small f g)
 
-    pub distr-operates : Operates (Distr a b) (Two (a .0) (b .0))
-    distr-operates = record { ids = refl; name = omega arith; list = two-short (a .0) (b .0) h g }
+    pub plus-operates : Operates (MapTwoPlus a b) (Two x y)
+    plus-operates = record { ids = both; name = omega arith; list = lists }
 
-    pub sum-operates : Operates (SumPlus a b) (Two (a .0) (b .0))
-    sum-operates = record { ids = refl; name = omega arith; list = two-short (a .0) (b .0) h g }
+    pub scan-operates : (z : ℤ) → mag z < 2 ^ 31 → Operates (ScanPlus z a b) (Two x y)
+    scan-operates z m = record { ids = both; name = let n = int-short z m in omega arith; list = lists }
+
+    pub distr-operates : Operates (Distr a b) (Two x y)
+    distr-operates = record { ids = both; name = omega arith; list = lists }
+
+    pub sum-operates : Operates (SumPlus a b) (Two x y)
+    sum-operates = record { ids = both; name = omega arith; list = lists }
 
 -- the lines
+pub one-line : (o c : ℕ) → withCtrlLine (o ∷ []) c [] ≡ pieces (ascii "[" ∷ idText o ∷ controlText c ∷ ascii "]) {\n" ∷ [])
+one-line o c =
+    control-line (o ∷ []) c []
+    ∙ (ap (λ l. pieces (ascii "[" ∷ l ∷ controlText c ∷ restText true [] ∷ ascii "]) {\n" ∷ []))
+    (rest-next true o [] ∙ ap (λ l. idText o ++ l) (rest-none false) ∙ append-nil (idText o))
+    ∙ ap (λ l. pieces (ascii "[" ∷ idText o ∷ controlText c ∷ l ∷ ascii "]) {\n" ∷ [])) (rest-none true))
+
 pub define-short : (s : ℕ) (t : Transducer) {r : Used} → Small s → Operates t r → length (defineLine s t) ≤ longest
 define-short s t h o =
     let n = id-short s h in

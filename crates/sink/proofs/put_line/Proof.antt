@@ -1,7 +1,6 @@
 use native.Mathlib.Omega.{arith}
 use Rattle.instructions.specs.Instructions.{instructionText}
 use Rattle.sink.proofs.Sinking as sinking
--- ^ own imports
 use borrow.Author.Needs.{needs}
 use Rattle.sink.proofs.put_line.Statement.{statement}
 use Rattle.sink.proofs.put_line.Tie as tie

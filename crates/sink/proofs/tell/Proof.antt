@@ -1,3 +1,4 @@
+use Rattle.sink.proofs.Sinking as sinking
 use borrow.Author.Needs.{needs}
 use Rattle.sink.proofs.tell.Statement.{statement}
 use Rattle.sink.proofs.tell.Tie as tie
@@ -40,11 +41,11 @@ same-length-2 c = search needs
 
 -- src/lib.rt:70:1
 returns : tie.Need-returns
-returns c = ?
+returns c = λ k s. sinking.told-case k (c .before .before .before .before .before .before .before .before .before .i .given .1) (sinking.told-define k (c .before .before .before .before .before .before .before .before .before .i .given .0 .0) (c .before .before .before .before .before .before .before .before .before .i .given .0 .1 .0) (c .before .before .before .before .before .before .before .id-of .result) (c .before .before .before .before .before .before .before .id-of .ensures) (c .before .before .before .before .define .ensures k s))
 
 -- src/lib.rt:70:1
 returns-2 : tie.Need-returns-2
-returns-2 c = ?
+returns-2 c = λ k s. sinking.told-case k (c .enum-told .given .1) (sinking.unchanged s)
 
 -- src/lib.rt:70:1
 same-length-3 : tie.Need-same-length-3
@@ -56,7 +57,7 @@ same-length-4 c = search needs
 
 -- src/lib.rt:70:1
 returns-3 : tie.Need-returns-3
-returns-3 c = ?
+returns-3 c = λ k s. sinking.told-case k (c .before .before .before .before .before .before .before .enum-told2 .given .1) (c .before .before .before .before .close .ensures k s)
 
 pub tell-spec : {M : Type 1} → statement M
 tell-spec =

@@ -2,7 +2,6 @@ use native.Mathlib.Omega.{arith}
 use Prim.Native.Nat.{_+_}
 use mathlib.Core.Logic.{inl}
 use Rattle.environment.proofs.Moving.{Moving, Clear, start, turn, done, same-length as kept}
--- ^ own imports
 use Rattle.sink.proofs.kept.make_room.Statement.{statement}
 use Rattle.sink.proofs.kept.make_room.Tie as tie
 use Rattle.sink.proofs.kept.make_room.Reads as reads

@@ -2,7 +2,6 @@ use native.Mathlib.Omega.{arith}
 use mathlib.Core.Path.{sym, _∙_}
 use lib.ListN.{length-set}
 use Rattle.sink.proofs.Keeping as keeping
--- ^ own imports
 use borrow.Author.Needs.{needs}
 use Rattle.sink.proofs.kept.mark_one.Statement.{statement}
 use Rattle.sink.proofs.kept.mark_one.Tie as tie
@@ -64,7 +63,7 @@ mul-state c = omega (arith, (c .before .before .before .before .before .before .
 
 -- src/kept.rt:68:13
 slice-write-state : tie.Need-slice-write-state
-slice-write-state c = ?
+slice-write-state c = omega (arith, (keeping.room-length (c .before .before .before .before .before .before .before .before .before .before .before .before .before .before .args .state .now) _ _ (omega (arith, (c .before .before .before .before .before .before .before .seek .ensures _ _ _ _ (c .before .before .before .before .before .before .before .before .before .before .before .before .before .before .pre .4) .new (c .before .before .before .before .before .r .given .0 .0) (c .before .before .before .before .before .r .given .1)) .0, keeping.count-word (c .before .before .before .before .before .before .before .before .before .before .before .before .before .before .pre .4), c .before .before .before .before .before .before .before .before .before .if2 .left)) (c .before .before .make-room .ensures)), (c .before .before .before .before .before .before .before .seek .ensures _ _ _ _ (c .before .before .before .before .before .before .before .before .before .before .before .before .before .before .pre .4) .new (c .before .before .before .before .before .r .given .0 .0) (c .before .before .before .before .before .r .given .1)) .0, keeping.count-word (c .before .before .before .before .before .before .before .before .before .before .before .before .before .before .pre .4), c .before .before .before .before .before .before .before .before .before .if2 .left)
 
 -- src/kept.rt:69:28
 add-state-2 : tie.Need-add-state-2
@@ -72,7 +71,7 @@ add-state-2 c = search needs
 
 -- src/kept.rt:69:13
 slice-write-state-2 : tie.Need-slice-write-state-2
-slice-write-state-2 c = ?
+slice-write-state-2 c = simp length-set (omega (arith, (keeping.room-length (c .before .before .before .before .before .before .before .before .before .before .before .before .before .before .args .state .now) _ _ (omega (arith, (c .before .before .before .before .before .before .before .seek .ensures _ _ _ _ (c .before .before .before .before .before .before .before .before .before .before .before .before .before .before .pre .4) .new (c .before .before .before .before .before .r .given .0 .0) (c .before .before .before .before .before .r .given .1)) .0, keeping.count-word (c .before .before .before .before .before .before .before .before .before .before .before .before .before .before .pre .4), c .before .before .before .before .before .before .before .before .before .if2 .left)) (c .before .before .make-room .ensures)), keeping.long (c .before .before .before .before .before .before .before .before .before .before .before .before .before .before .pre .4)))
 
 -- src/kept.rt:53:1
 same-length : tie.Need-same-length
@@ -88,7 +87,7 @@ same-length-2 c = search needs
 
 -- src/kept.rt:53:1
 returns-4 : tie.Need-returns-4
-returns-4 c = ?
+returns-4 c = λ f o t n m. keeping.mark-new′ m (c .before .before .before .before .before .before .before .before .before .before .before .before .before .before .args .u) (omega (arith, c .before .before .before .before .before .before .before .before .before .before .before .if1 .left, keeping.own-word m)) (c .before .before .before .before .before .before .before .before .before .if2 .left) (c .before .before .before .before .before .before .before .seek .ensures f o t n m .new (c .before .before .before .before .before .r .given .0 .0) (c .before .before .before .before .before .r .given .1)) (c .before .before .make-room .ensures)
 
 pub mark-one-spec : {M : Type 1} → statement M
 mark-one-spec =

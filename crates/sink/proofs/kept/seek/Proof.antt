@@ -6,7 +6,6 @@ use lib.ListN.{getD}
 use Rattle.sink.specs.Kept.{Marks}
 use Rattle.sink.proofs.Keeping as keeping
 use Rattle.sink.proofs.Keeping.{Searching}
--- ^ own imports
 use Rattle.sink.proofs.kept.seek.Statement.{statement}
 use Rattle.sink.proofs.kept.seek.Tie as tie
 use Rattle.sink.proofs.kept.seek.Reads as reads

@@ -1,6 +1,5 @@
 use Rattle.sink.specs.Uses.{usedIds}
 use Rattle.sink.proofs.Keeping as keeping
--- ^ own imports
 use borrow.Author.Needs.{needs}
 use Rattle.sink.proofs.kept.take_in.Statement.{statement}
 use Rattle.sink.proofs.kept.take_in.Tie as tie

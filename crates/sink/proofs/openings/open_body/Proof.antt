@@ -1,3 +1,7 @@
+use mathlib.Core.Path.{ap, subst}
+use lib.ListN.{getD}
+use Rattle.sink.specs.Sunk.{Lines, opening}
+use Rattle.sink.proofs.Opening as openings
 use borrow.Author.Needs.{needs}
 use Rattle.sink.proofs.openings.open_body.Statement.{statement}
 use Rattle.sink.proofs.openings.open_body.Tie as tie
@@ -29,7 +33,7 @@ same-length-2 c = search needs
 
 -- src/openings.rt:122:1
 returns : tie.Need-returns
-returns c = ?
+returns c = λ k g. openings.opens g (openings.lines-of g _ (c .before .before .before .before .before .before .before .before .before .id-of .ensures) (c .before .before .before .before .before .before .put-opening .ensures k g)) (c .before .before .end-survey .ensures _ k (g .sunk))
 
 pub open-body-spec : {M : Type 1} → statement M
 open-body-spec =

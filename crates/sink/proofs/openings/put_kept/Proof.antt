@@ -7,7 +7,6 @@ use Rattle.lines.proofs.Writing.{writes-length}
 use Rattle.sink.specs.Kept.{Marks}
 use Rattle.sink.proofs.Ascent.{Left, left-start, left-end, left-on, left-countable}
 use Rattle.sink.proofs.Keeping as keeping
--- ^ own imports
 use Rattle.sink.proofs.openings.put_kept.Statement.{statement}
 use Rattle.sink.proofs.openings.put_kept.Tie as tie
 use Rattle.sink.proofs.openings.put_kept.Reads as reads

@@ -1,3 +1,4 @@
+use Rattle.sink.proofs.Using as cases
 use borrow.Author.Needs.{needs}
 use Rattle.sink.proofs.uses.operands_of.Statement.{statement}
 use Rattle.sink.proofs.uses.operands_of.Tie as tie
@@ -75,31 +76,31 @@ id-of-requires-10 c κs = search needs
 
 -- src/uses.rt:21:1
 returns : tie.Need-returns
-returns c = ?
+returns c = cases.operates (c .before .t .given .1) (cases.const-operates (c .before .t .given .0 .0) (c .known-told .given .0 .1))
 
 -- src/uses.rt:21:1
 returns-2 : tie.Need-returns-2
-returns-2 c = ?
+returns-2 c = cases.operates (c .before .before .t2 .given .1) (cases.toFlags-operates _ (c .id-of .ok) (c .id-of .ensures))
 
 -- src/uses.rt:21:1
 returns-3 : tie.Need-returns-3
-returns-3 c = ?
+returns-3 c = cases.operates (c .before .before .t3 .given .1) (cases.usum-operates _ (c .id-of2 .ok) (c .id-of2 .ensures))
 
 -- src/uses.rt:21:1
 returns-4 : tie.Need-returns-4
-returns-4 c = ?
+returns-4 c = cases.operates (c .before .before .before .t4 .given .1) (cases.plus-operates _ (c .before .id-of3 .ok) (c .before .id-of3 .ensures) _ (c .id-of4 .ok) (c .id-of4 .ensures))
 
 -- src/uses.rt:21:1
 returns-5 : tie.Need-returns-5
-returns-5 c = ?
+returns-5 c = cases.operates (c .before .before .before .t5 .given .1) (cases.scan-operates _ (c .before .id-of5 .ok) (c .before .id-of5 .ensures) _ (c .id-of6 .ok) (c .id-of6 .ensures) _ (c .before .before .known-told5 .given .0 .1))
 
 -- src/uses.rt:21:1
 returns-6 : tie.Need-returns-6
-returns-6 c = ?
+returns-6 c = cases.operates (c .before .before .before .t6 .given .1) (cases.distr-operates _ (c .before .id-of7 .ok) (c .before .id-of7 .ensures) _ (c .id-of8 .ok) (c .id-of8 .ensures))
 
 -- src/uses.rt:21:1
 returns-7 : tie.Need-returns-7
-returns-7 c = ?
+returns-7 c = cases.operates (c .before .before .before .t7 .given .1) (cases.sum-operates _ (c .before .id-of9 .ok) (c .before .id-of9 .ensures) _ (c .id-of10 .ok) (c .id-of10 .ensures))
 
 pub operands-of-spec : {M : Type 1} → statement M
 operands-of-spec =
