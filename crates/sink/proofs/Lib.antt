@@ -1,0 +1,10 @@
+pub mod Lesser
+pub mod Least
+pub mod Ascent
+pub mod IdSearch
+pub mod TreeTexts
+pub mod Shorts
+pub mod Using
+pub mod Keeping
+pub mod Sinking
+pub mod Opening
