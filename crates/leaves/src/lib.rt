@@ -20,11 +20,16 @@ ghost use Rattle.leaves.specs.Arms.{Sole, Located, Counting, Bare, Fille
 use environment::find;
 use environment::move_words;
 use environment::put_place;
+use sink::openings::open_one;
+use sink::tell;
+use snesl::code::Instruction;
 use snesl::code::StreamId;
 use snesl::code::Transducer;
 use snesl::code::Variable;
 use snesl::refusal::Refusal;
+use steps::Executed;
 use steps::Operands;
+use steps::execute;
 
 // The depth of an expression's type and the position behind it, with its tree left on the stack; or why the run stops.
 pub enum Walked {
@@ -49,6 +54,29 @@ pub fn variable(x: Variable, next: usize, sp: usize, env: &mut [u32]) -> Walked
     let words = 3 * depth + 3;
     move_words(env, p + 2, sp - words, words);
     Walked::Tree(depth, next)
+}
+
+// One instruction: the definition of the next stream is executed, and then told.
+pub fn make(
+    t: Transducer,
+    at: Operands,
+    n: usize,
+    env: &[u32],
+    buf: &mut [i32],
+    state: &mut [usize],
+    text: &mut [u8],
+) -> Executed
+    requires { ⌜ ((m : State) × (k : Sink) × Makes t at (now env) (now buf) (now state) (now text) m k) ⌝ }
+    ensures { λ r. ⌜ ((m : State) (k : Sink) → Makes t at (now (env .entry)) (now (buf .entry)) (now (state .entry)) (now (text .entry)) m k → Instructed (stepped (length (now (buf .entry))) n t m) t m k (now (buf .entry)) (now (buf .exit)) (now (state .exit)) (now (text .exit)) r) ⌝ }
+{
+    let i = Instruction::Define(StreamId(state[0]), t);
+    match execute(t, at, n, env, buf, state) {
+        Executed::Made(made) => {
+            tell(i, text, state);
+            Executed::Made(made)
+        }
+        Executed::Stopped(r) => Executed::Stopped(r),
+    }
 }
 
 // The place of the stream made last, of so many elements, just below sp.
@@ -103,3 +131,118 @@ fn choose(form: Form, at: Operands, env: &[u32]) -> Transducer
     }
 }
 
+// One instruction whose output is the result.
+pub fn single(
+    form: Form,
+    next: usize,
+    n: usize,
+    sp: usize,
+    env: &mut [u32],
+    buf: &mut [i32],
+    state: &mut [usize],
+    text: &mut [u8],
+) -> Walked
+    requires { ⌜ Sole form sp (now env) (now buf) (now state) (now text) ⌝ }
+    ensures { λ r. ⌜ ((g : Sole form sp (now (env .entry)) (now (buf .entry)) (now (state .entry)) (now (text .entry))) → Runs (g .scene) (g .term) n next (now (env .exit)) (now (buf .exit)) (now (state .exit)) (now (text .exit)) r) ⌝ }
+{
+    let at = locate(form, sp, env);
+    match make(choose(form, at, env), at, n, env, buf, state, text) {
+        Executed::Made(made) => {
+            push(made, sp, env, state);
+            Walked::Tree(0, next)
+        }
+        Executed::Stopped(r) => Walked::Stopped(r),
+    }
+}
+
+// A WithCtrl on the newest stream, of so many units, whose body is a Const_1: the ones' place, just below sp.
+fn fill(
+    units: usize,
+    sp: usize,
+    env: &mut [u32],
+    buf: &mut [i32],
+    state: &mut [usize],
+    text: &mut [u8],
+) -> Executed
+    requires { ⌜ ((m : State) × (k : Sink) × Bare sp (now env) (now buf) (now state) (now text) m k) ⌝ }
+    ensures { λ r. ⌜ ((m : State) (k : Sink) → Bare sp (now (env .entry)) (now (buf .entry)) (now (state .entry)) (now (text .entry)) m k → Filled (stepped (length (now (buf .entry))) units (Const (pos 1)) m) m k sp (now (env .entry)) (now (env .exit)) (now (buf .entry)) (now (buf .exit)) (now (state .exit)) (now (text .exit)) r) ⌝ }
+{
+    let s = state[0];
+    open_one(StreamId(s), StreamId(s - 1), text, state);
+    let nowhere = Operands {
+        first: 0,
+        second: 0,
+    };
+    match make(Transducer::Const(1), nowhere, units, env, buf, state, text) {
+        Executed::Made(made) => {
+            tell(Instruction::Close, text, state);
+            push(made, sp, env, state);
+            Executed::Made(made)
+        }
+        Executed::Stopped(r) => Executed::Stopped(r),
+    }
+}
+
+// Iota's instructions behind its flags, which are the newest stream and whose place stands just below sp.
+fn count_up(
+    n: usize,
+    sp: usize,
+    env: &mut [u32],
+    buf: &mut [i32],
+    state: &mut [usize],
+    text: &mut [u8],
+) -> Executed
+    requires { ⌜ ((a : ℕ) × (m : State) × (k : Sink) × Flagged a sp (now env) (now buf) (now state) (now text) m k) ⌝ }
+    ensures { λ r. ⌜ ((a : ℕ) (m : State) (k : Sink) → Flagged a sp (now (env .entry)) (now (buf .entry)) (now (state .entry)) (now (text .entry)) m k → Counted (walked (length (now (buf .entry))) n (countingUp a) m) (feed (a + 1) (countingUp a) k) m sp (now (env .entry)) (now (env .exit)) (now (buf .entry)) (now (buf .exit)) (now (state .exit)) (now (text .exit)) r) ⌝ }
+{
+    let a = state[0] - 1;
+    let at = Operands {
+        first: sp - 3,
+        second: sp - 6,
+    };
+    match make(Transducer::Usum(StreamId(a)), at, n, env, buf, state, text) {
+        Executed::Made(units) => match fill(units, sp - 3, env, buf, state, text) {
+            Executed::Made(_) => {
+                let t = Transducer::ScanPlus(0, StreamId(a), StreamId(a + 2));
+                make(t, at, n, env, buf, state, text)
+            }
+            Executed::Stopped(r) => Executed::Stopped(r),
+        },
+        Executed::Stopped(r) => Executed::Stopped(r),
+    }
+}
+
+// The numbers up to an int, of each unit: its flags stand behind its data.
+pub fn iota(
+    x: Variable,
+    next: usize,
+    n: usize,
+    sp: usize,
+    env: &mut [u32],
+    buf: &mut [i32],
+    state: &mut [usize],
+    text: &mut [u8],
+) -> Walked
+    requires { ⌜ Counting x sp (now env) (now buf) (now state) (now text) ⌝ }
+    ensures { λ r. ⌜ ((g : Counting x sp (now (env .entry)) (now (buf .entry)) (now (state .entry)) (now (text .entry))) → Runs (g .scene) (terms.iota (g .pointer)) n next (now (env .exit)) (now (buf .exit)) (now (state .exit)) (now (text .exit)) r) ⌝ }
+{
+    let p = find(env, sp, x) + 2;
+    let t = Transducer::ToFlags(StreamId(env[p] as usize));
+    let at = Operands {
+        first: p,
+        second: 0,
+    };
+    match make(t, at, n, env, buf, state, text) {
+        Executed::Made(flags) => {
+            push(flags, sp, env, state);
+            match count_up(n, sp, env, buf, state, text) {
+                Executed::Made(made) => {
+                    push(made, sp - 3, env, state);
+                    Walked::Tree(1, next)
+                }
+                Executed::Stopped(r) => Walked::Stopped(r),
+            }
+        }
+        Executed::Stopped(r) => Walked::Stopped(r),
+    }
+}
