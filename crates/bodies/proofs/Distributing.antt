@@ -362,18 +362,31 @@ module _ {t : List ℕ} {at left base sp : ℕ} {env : List ℕ} {buf : List ℤ
 
 -- ---- the loop
 
+-- what was lent keeps its length
+pub record Lengths (env₀ : List ℕ) (buf₀ : List ℤ) (state₀ text₀ : List ℕ) (env : List ℕ) (buf : List ℤ) (state text : List ℕ) : Type 0 where
+  pub env-long : length env ≡ length env₀
+  pub buf-long : length buf ≡ length buf₀
+  pub state-long : length state ≡ length state₀
+  pub text-long : length text ≡ length text₀
+
+pub same-lengths : {env : List ℕ} {buf : List ℤ} {state text : List ℕ} → Lengths env buf state text env buf state text
+same-lengths = record { env-long = refl; buf-long = refl; state-long = refl; text-long = refl }
+
+module _ {env₀ : List ℕ} {buf₀ : List ℤ} {state₀ text₀ env env₁ : List ℕ} {buf buf₁ : List ℤ} {state text state₁ text₁ : List ℕ} where
+  pub lengths-then : Lengths env₀ buf₀ state₀ text₀ env buf state text → length env₁ ≡ length env → length buf₁ ≡ length buf → length state₁ ≡ length state → length text₁ ≡ length text
+      → Lengths env₀ buf₀ state₀ text₀ env₁ buf₁ state₁ text₁
+  lengths-then l a b c d = record { env-long = a ∙ l .env-long; buf-long = b ∙ l .buf-long; state-long = c ∙ l .state-long; text-long = d ∙ l .text-long }
+
 -- What is left to distribute, and that with it all is done.
 pub record Rest {t : List ℕ} {at₀ left₀ base₀ sp : ℕ} {env₀ : List ℕ} {buf₀ : List ℤ} {state₀ text₀ : List ℕ} (g : Distributing t at₀ left₀ base₀ sp env₀ buf₀ state₀ text₀) (n : ℕ)
     (at left base : ℕ) (env : List ℕ) (buf : List ℤ) (state text : List ℕ) : Type 0 where
   pub left-over : Distributing t at left base sp env buf state text
-  pub long : length buf ≡ length buf₀
-  pub wide : length env ≡ length env₀
   pub whole : {env′ : List ℕ} {buf′ : List ℤ} {state′ text′ : List ℕ} {q : Listed} → Distributed (left-over .scene) (left-over .flags) (left-over .list) n base env′ buf′ state′ text′ q
       → Distributed (g .scene) (g .flags) (g .list) n base₀ env′ buf′ state′ text′ q
 
 module _ {t : List ℕ} {at₀ left₀ base₀ sp : ℕ} {env₀ : List ℕ} {buf₀ : List ℤ} {state₀ text₀ : List ℕ} (g : Distributing t at₀ left₀ base₀ sp env₀ buf₀ state₀ text₀) (n : ℕ) where
   pub rest-start : Rest g n at₀ left₀ base₀ env₀ buf₀ state₀ text₀
-  rest-start = record { left-over = g; long = refl; wide = refl; whole = λ d. d }
+  rest-start = record { left-over = g; whole = λ d. d }
 
   module _ {at left base : ℕ} {env : List ℕ} {buf : List ℤ} {state text : List ℕ} (h : Rest g n at left base env buf state text) where
     pub rest-done : left ≤ 0 → Distributed (g .scene) (g .flags) (g .list) n base₀ env buf state text listed.Bound
@@ -383,11 +396,9 @@ module _ {t : List ℕ} {at₀ left₀ base₀ sp : ℕ} {env₀ : List ℕ} {bu
       pub rest-stopped : {q : Refusal} → r ≡ Stopped q → Distributed (g .scene) (g .flags) (g .list) n base₀ env₁ buf₁ state₁ text₁ (listed.Stopped q)
       rest-stopped f = h .whole (first-stopped (h .left-over) some-left n w f)
 
-      pub rest-turn : {l : ℕ} → r ≡ Made l → length buf₁ ≡ length buf → length env₁ ≡ length env → Rest g n (at + 1) (left - 1) (base + 5) env₁ buf₁ state₁ text₁
-      rest-turn f long wide =
+      pub rest-turn : {l : ℕ} → r ≡ Made l → length buf₁ ≡ length buf → Rest g n (at + 1) (left - 1) (base + 5) env₁ buf₁ state₁ text₁
+      rest-turn f long =
           record {
             left-over = others-ready (h .left-over) some-left n w f;
-            long = long ∙ h .long;
-            wide = wide ∙ h .wide;
             whole = λ d. h .whole (distributed (h .left-over) some-left n w f long d);
           }

@@ -1,5 +1,5 @@
 -- What stands before a comprehension's body, step by step: the flags' place, their units, the listed variables' entries, and x's.
-use Prim.Native.Nat.{ℕ, suc, _+_, _*_, _-_, _≤_}
+use Prim.Native.Nat.{ℕ, suc, _+_, _*_, _-_, _≤_, _<_}
 use mathlib.Core.Bool.{Bool}
 use mathlib.Core.List.{List, [], _∷_, _++_, append-assoc}
 use mathlib.Core.Option.{some}
@@ -130,6 +130,13 @@ module _ {t : List ℕ} {k sp : ℕ} {env : List ℕ} {buf : List ℤ} {state te
 
   pub flags-fit : p + 2 + (3 * (getD env (p + 1) 0 - 1) + 3) + 3 ≤ length env
   flags-fit = omega (arith, e .within, depth-is)
+
+  -- what x's binding asks
+  pub items-room : {l : ℕ} → l ≡ length env
+      → (getD env (p + 1) 0 - 1 < 4294967296) × (treeSize (getD env (p + 1) 0 - 1) + 2 ≤ sp - 3 - 5 * byteAt t (k + 4)) × (sp - 3 - 5 * byteAt t (k + 4) ≤ p + 2)
+      × (p + 2 + treeSize (getD env (p + 1) 0 - 1) ≤ l)
+  items-room h =
+      (omega (arith, depth-few), omega (arith, depth-is, g .space), omega (arith, e .above), omega (arith, flags-fit, h))
 
   module _ {env₁ : List ℕ} (w : env₁ ≡ written (sp - 3) (part (p + 2 + (3 * (getD env (p + 1) 0 - 1) + 3)) 3 env) env) where
     flags-written : env₁ ≡ written (sp - 3) (placeWords (place store flagsId)) env
