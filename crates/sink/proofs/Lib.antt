@@ -8,3 +8,6 @@ pub mod Using
 pub mod Keeping
 pub mod Sinking
 pub mod Opening
+pub mod Operands
+pub mod Feeding
+pub mod Surveying
