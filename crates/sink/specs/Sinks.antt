@@ -7,6 +7,8 @@ use mathlib.Core.List.{List, [], _∷_}
 use lib.Dec.{ltb, leb}
 use lib.ListN.{length}
 use lib.Seq.{sets}
+use Rattle.snesl.specs.declared.code.Instruction.{Instruction}
+use Rattle.snesl.specs.declared.code.Instruction.the-variants.{Define, WithCtrl, Close}
 use Rattle.snesl.specs.declared.code.Transducer.{Transducer}
 use Rattle.snesl.specs.Transducers.{operands}
 use Rattle.snesl.specs.Programs.{Program, done, define, withCtrl, count, insert}
@@ -67,3 +69,16 @@ unfoldable pub feed : ℕ → Program → Sink → Sink
 feed s done k = k
 feed s (define t p) k = feed (suc s) p (defined s t k)
 feed s (withCtrl outs c ins b p) k = feed (s + count b) p (closed (feed s b (opened outs c ins k)))
+
+-- an instruction by itself: what a WithCtrl puts out and takes in stands beside it, so that its opening is told by itself
+abbrev pub told : Instruction → Sink → Sink
+told (Define s t) k = defined (s .0) t k
+told (WithCtrl c) k = k
+told Close k = closed k
+
+-- Before a WithCtrl's line is written its body is surveyed, from its first id s on; then the listing goes on where it stood.
+abbrev pub surveyed : ℕ → Sink → Sink
+surveyed s k = record { mode = surveying; text = k .text; at = k .at; own = s; taken = []; most = k .most }
+
+abbrev pub resumed : Sink → Sink
+resumed k = record { mode = listing; text = k .text; at = k .at; own = 0; taken = []; most = k .most }

@@ -1,0 +1,13 @@
+pub mod Lesser
+pub mod Least
+pub mod Ascent
+pub mod IdSearch
+pub mod TreeTexts
+pub mod Shorts
+pub mod Using
+pub mod Keeping
+pub mod Sinking
+pub mod Opening
+pub mod Operands
+pub mod Feeding
+pub mod Surveying
