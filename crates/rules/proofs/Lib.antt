@@ -1,6 +1,7 @@
 -- The theorems: each function of crate snesl gives what the rules give.
 pub mod Names
 pub mod Typing
+pub mod Formulas
 pub mod Values
 pub mod Evaluation
 pub mod Representation

@@ -22,9 +22,9 @@ use Rattle.snesl.specs.Evaluation.{eval}
 use Rattle.snesl.specs.Representation.{represent}
 use Rattle.snesl.specs.Translation.{size, tree, code}
 use Rattle.snesl.specs.Records.{Raw, Input, Span, front, readFormula, job, readJob}
-use Rattle.snesl.specs.Checking.{Name, refused, typed, check}
+use Rattle.snesl.specs.Checking.{Name, refused, typed, check, context, checkFormula}
 use Rattle.rules.specs.Names.{Env}
-use Rattle.rules.specs.Typing.{Types, typesOf}
+use Rattle.rules.specs.Typing.{Types, typesOf, FormulaTypes}
 use Rattle.rules.specs.Values.{Value, HasType, plain}
 use Rattle.rules.specs.Evaluation.{Evaluates, valuesOf}
 use Rattle.rules.specs.Representation.{Represents}
@@ -35,6 +35,7 @@ use Rattle.rules.specs.Translation.{Translates, regroup}
 use Rattle.rules.specs.Correctness.{Suits, Correct}
 use Rattle.rules.specs.Grammar.{Bytes, SpellsFront, SpellsJob}
 use Rattle.rules.proofs.Typing as Typing
+use Rattle.rules.proofs.Formulas as Formulas
 use Rattle.rules.proofs.Values as Values
 use Rattle.rules.proofs.Evaluation as Evaluation
 use Rattle.rules.proofs.Representation as Representation
@@ -70,6 +71,14 @@ module _ {Γ : List ℕ} (scope : All Name Γ) (e : Raw) where
 
   pub refused-by-five-or-six : {why : Refusal} → check scope e ≡ refused why → ((p : ℕ) × (why ≡ Unbound p)) ⊎ ((p : ℕ) × (why ≡ WrongType p))
   refused-by-five-or-six = Typing.refused-by scope e
+
+-- A whole formula is accepted exactly if its inputs have names of their own and its expression has a type over them, and else refused.
+module _ (is : List Input) (e : Raw) where
+  pub formula-typed-exactly-by-the-rules : (d : ℕ) → ((t : Term (context is) d) × (checkFormula is e ≡ typed d t)) ↔ FormulaTypes is e d
+  formula-typed-exactly-by-the-rules = Formulas.formula-typed-exactly is e
+
+  pub formula-refused-exactly-without-a-type : ((why : Refusal) × (checkFormula is e ≡ refused why)) ↔ ((d : ℕ) → FormulaTypes is e d → ⊥)
+  formula-refused-exactly-without-a-type = Formulas.formula-refused-exactly is e
 
 -- Every Γ is that of some names, and an expression has at most one type.
 pub every-environment-is-a-scope : (Γ : Env ℕ) → (ds : List ℕ) × (scope : All Name ds) × (typesOf scope ≡ Γ)

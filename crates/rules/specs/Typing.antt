@@ -8,7 +8,7 @@ use Rattle.snesl.specs.Limits.{mostDepth}
 use Rattle.snesl.specs.Values.{Each}
 use Rattle.snesl.specs.Terms.{All, ∅, _▹_}
 use Rattle.snesl.specs.Records as raw
-use Rattle.snesl.specs.Records.{Raw}
+use Rattle.snesl.specs.Records.{Raw, Input}
 use Rattle.snesl.specs.Checking.{Name}
 use Rattle.rules.specs.Names.{Env, nothing, named, Maps, MapsAll, Listed}
 
@@ -66,6 +66,18 @@ pub data Types : Env ℕ → Raw → ℕ → Type 0 where
       → Types (named x c Δ) e d
       → suc d ≤ mostDepth
       → Types Γ (raw.each p x y us e) (suc d)
+
+-- a formula's inputs, first one first, added to Γ: 01 asks that each has a name of its own
+pub data Declares : Env ℕ → List Input → Env ℕ → Type 0 where
+  declares-none : {Γ : Env ℕ} → Declares Γ [] Γ
+  declares-more : {Γ Δ : Env ℕ} {i : Input} {is : List Input}
+      → ((d : ℕ) → Maps Γ (i .name) d → ⊥)
+      → Declares (named (i .name) (i .depth) Γ) is Δ
+      → Declares Γ (i ∷ is) Δ
+
+-- a formula, inputs and expression, has type τ
+pub data FormulaTypes (is : List Input) (e : Raw) (d : ℕ) : Type 0 where
+  formula-types : {Γ : Env ℕ} → Declares nothing is Γ → Types Γ e d → FormulaTypes is e d
 
 -- the Γ of names that Checking.antt keeps beside a context
 unfoldable pub typesOf : {Γ : List ℕ} → All Name Γ → Env ℕ

@@ -20,8 +20,11 @@ ints-same q = cc
 pub flags-same : {bs cs : List Bool} → flags bs ≡ flags cs → bs ≡ cs
 flags-same q = cc
 
-first-same : {A : Type 0} {a b : A} {l m : List A} → _≡_ {A = List A} (a ∷ l) (b ∷ m) → a ≡ b
+pub first-same : {A : Type 0} {a b : A} {l m : List A} → _≡_ {A = List A} (a ∷ l) (b ∷ m) → a ≡ b
 first-same q = cc
+
+pub tail-same : {A : Type 0} {a b : A} {l m : List A} → _≡_ {A = List A} (a ∷ l) (b ∷ m) → l ≡ m
+tail-same q = cc
 
 -- ---- Const
 
@@ -117,6 +120,3 @@ mapTwo-gives k {xs} {ys} {zs} (x-term p q) =
     let ey : [] ≡ ys = sym (ints-same (first-same (tail-same p))) in
     let ez : [] ≡ zs = sym (ints-same q) in
     transport (λ i. MapTwo 0 k (ex i) (ey i) (ez i)) (map-two refl refl refl refl)
-  where
-    tail-same : {A : Type 0} {a b : A} {l m : List A} → _≡_ {A = List A} (a ∷ l) (b ∷ m) → l ≡ m
-    tail-same q = cc

@@ -12,15 +12,9 @@ use Rattle.snesl.specs.Streams.{Stream, ints, flags, units}
 use Rattle.snesl.specs.Transducers.{Feed, alone, eachF, eachT, takes, fed, misfit, countF, spread, scans, sums, firstOutside}
 use Rattle.rules.specs.Xducers.{Xducer, usum, scanPlus, distr, sumPlus, Joined, joined-ints, joined-flags, joined-units, JoinedAll, joined-none, joined-more, Summed, summed-F, summed-T, Block, block-usum-F, block-usum-T, block-scan-F, block-scan-T, block-distr-F, block-distr-T, block-sum, Loops, x-loop, x-term}
 use Rattle.rules.proofs.Xducers.Loops.{Parted, parted, whole}
-use Rattle.rules.proofs.Xducers.Itemwise.{ints-same, flags-same, inside-first, first-inside}
+use Rattle.rules.proofs.Xducers.Itemwise.{ints-same, flags-same, first-same, tail-same, inside-first, first-inside}
 
 -- the streams of no units at all
-first-same : {A : Type 0} {a b : A} {l m : List A} → _≡_ {A = List A} (a ∷ l) (b ∷ m) → a ≡ b
-first-same q = cc
-
-tail-same : {A : Type 0} {a b : A} {l m : List A} → _≡_ {A = List A} (a ∷ l) (b ∷ m) → l ≡ m
-tail-same q = cc
-
 ended : {bs : List Bool} {xs : List ℤ} → _≡_ {A = List Stream} (flags bs ∷ ints xs ∷ []) (flags [] ∷ ints [] ∷ []) → (bs ≡ []) × (xs ≡ [])
 ended q = (flags-same (first-same q), ints-same (first-same (tail-same q)))
 

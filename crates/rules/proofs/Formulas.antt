@@ -1,0 +1,103 @@
+-- Checking a whole formula: its inputs each have a name of their own, and its expression has a type over them.
+use Prim.Native.Nat.{ℕ}
+use mathlib.Core.Bool.{Bool, true, false, _||_}
+use mathlib.Core.List.{List, [], _∷_}
+use mathlib.Core.Logic.{_↔_}
+use mathlib.Core.Option.{Option, some, none}
+use mathlib.Core.Path.{_≡_, refl, sym, _∙_, subst}
+use Rattle.laws.proofs.Never.{never}
+use Rattle.snesl.specs.declared.code.Variable.{Variable}
+use Rattle.snesl.specs.declared.refusal.Refusal.{Refusal}
+use Rattle.snesl.specs.declared.refusal.Refusal.the-variants.{Unbound}
+use Rattle.snesl.specs.Terms.{Term, All, ∅, _▹_}
+use Rattle.snesl.specs.Records.{Raw, Input}
+use Rattle.snesl.specs.Checking.{Name, same, names, Typed, refused, typed, check, turned, inputNames, context, repeated, checkInputs, checkFormula}
+use Rattle.snesl.proofs.Formed.{checked-inputs}
+use Rattle.rules.specs.Names.{Env, nothing, named, Maps, newest, older}
+use Rattle.rules.specs.Typing.{Types, typesOf, Declares, declares-none, declares-more, FormulaTypes, formula-types}
+use Rattle.rules.proofs.Names.{same-true, same-false}
+use Rattle.rules.proofs.Typing.{typed-exactly, refused-exactly}
+
+-- the names of Γ, newest first
+data Seen : List Variable → Env ℕ → Type 0 where
+  seen-none : Seen [] nothing
+  seen-more : {x : Variable} {xs : List Variable} {d : ℕ} {Γ : Env ℕ} → Seen xs Γ → Seen (x ∷ xs) (named x d Γ)
+
+unseen : {xs : List Variable} {Γ : Env ℕ} → Seen xs Γ → (x : Variable) → names x xs ≡ false → (d : ℕ) → Maps Γ x d → ⊥
+unfolding names
+unseen (seen-more {x = y} {xs = xs} s) x q d (newest e) = go (same x y) refl q
+  where
+    go : (b : Bool) → same x y ≡ b → (b || names x xs) ≡ false → ⊥
+    go true p r = never (cc)
+    go false p r = same-false x y p e
+unseen (seen-more {x = y} {xs = xs} s) x q d (older n m) = go (same x y) q (λ r. unseen s x r d m)
+  where
+    go : (b : Bool) → (b || names x xs) ≡ false → (names x xs ≡ false → ⊥) → ⊥
+    go true r below = never (cc)
+    go false r below = below r
+
+seen : {xs : List Variable} {Γ : Env ℕ} → Seen xs Γ → (x : Variable) → names x xs ≡ true → ((d : ℕ) → Maps Γ x d → ⊥) → ⊥
+unfolding names
+seen seen-none x q n = never (cc)
+seen {Γ = Γ} (seen-more {x = y} {xs = xs} {d = d} {Γ = Δ} s) x q n = go (same x y) refl q (λ r. seen s x r)
+  where
+    go : (b : Bool) → same x y ≡ b → (b || names x xs) ≡ true → (names x xs ≡ true → ((d : ℕ) → Maps Δ x d → ⊥) → ⊥) → ⊥
+    go true p r below = n d (newest (same-true x y p))
+    go false p r below = below r (λ c m. n c (older (same-false x y p) m))
+
+-- inputs that are all new
+declares : {Γ : List ℕ} (scope : All Name Γ) {xs : List Variable} (is : List Input) → Seen xs (typesOf scope) → repeated xs is ≡ none → Declares (typesOf scope) is (typesOf (turned scope (inputNames is)))
+unfolding repeated turned inputNames typesOf
+declares scope [] s q = declares-none
+declares scope {xs} (i ∷ is) s q = go (names (i .name) xs) refl q (λ r. declares (i .name ▹ scope) is (seen-more s) r)
+  where
+    go : (b : Bool) → names (i .name) xs ≡ b
+        → _≡_ {A = Option ℕ} (elim b [ true ↦ some (i .place) | false ↦ repeated (i .name ∷ xs) is ]) none
+        → (repeated (i .name ∷ xs) is ≡ none → Declares (named (i .name) (i .depth) (typesOf scope)) is (typesOf (turned (_▹_ {d = i .depth} (i .name) scope) (inputNames is))))
+        → Declares (typesOf scope) (i ∷ is) (typesOf (turned (_▹_ {d = i .depth} (i .name) scope) (inputNames is)))
+    go true p r below = never (cc)
+    go false p r below = declares-more (unseen s (i .name) p) (below r)
+
+declared : {Γ : List ℕ} (scope : All Name Γ) {xs : List Variable} {Δ : Env ℕ} (is : List Input) → Seen xs (typesOf scope) → Declares (typesOf scope) is Δ
+    → (repeated xs is ≡ none) × (Δ ≡ typesOf (turned scope (inputNames is)))
+unfolding repeated turned inputNames typesOf
+declared scope [] s declares-none = (refl, refl)
+declared scope {xs} (i ∷ is) s (declares-more n h) =
+    let (p, q) = declared (_▹_ {d = i .depth} (i .name) scope) is (seen-more s) h in
+    (go (names (i .name) xs) refl p, q)
+  where
+    go : (b : Bool) → names (i .name) xs ≡ b → repeated (i .name ∷ xs) is ≡ none → _≡_ {A = Option ℕ} (elim b [ true ↦ some (i .place) | false ↦ repeated (i .name ∷ xs) is ]) none
+    go true p r = absurd (seen s (i .name) p n)
+    go false p r = r
+
+-- ---- the theorems
+
+module _ (is : List Input) (e : Raw) where
+  names-of : All Name (context is)
+  names-of = turned ∅ (inputNames is)
+
+  typed-there : (d : ℕ) → (t : Term (context is) d) × (checkFormula is e ≡ typed d t) → FormulaTypes is e d
+  unfolding typesOf names-of
+  typed-there d (t, q) =
+      let (new, checked) = checked-inputs is e q in
+      formula-types (declares ∅ is seen-none new) (typed-exactly names-of e d .0 (t, checked))
+
+  typed-back : (d : ℕ) → FormulaTypes is e d → (t : Term (context is) d) × (checkFormula is e ≡ typed d t)
+  unfolding typesOf names-of
+  typed-back d (formula-types {Γ = Γ} h k) =
+      let (new, same) = declared ∅ is seen-none h in
+      let (t, q) = typed-exactly names-of e d .1 (subst (λ Γ. Types Γ e d) same k) in
+      (t, subst (λ o. checkInputs o (check names-of e) ≡ typed d t) (sym new) q)
+
+  pub formula-typed-exactly : (d : ℕ) → ((t : Term (context is) d) × (checkFormula is e ≡ typed d t)) ↔ FormulaTypes is e d
+  formula-typed-exactly d = (typed-there d, typed-back d)
+
+  refused-there : {r : Typed (context is)} → checkFormula is e ≡ r → ((d : ℕ) → FormulaTypes is e d → ⊥) → (why : Refusal) × (r ≡ refused why)
+  refused-there {r} q n = go r q
+    where
+      go : (r : Typed (context is)) → checkFormula is e ≡ r → (why : Refusal) × (r ≡ refused why)
+      go (Typed.refused why) q = (why, refl)
+      go (typed d t) q = absurd (n d (typed-there d (t, q)))
+
+  pub formula-refused-exactly : ((why : Refusal) × (checkFormula is e ≡ refused why)) ↔ ((d : ℕ) → FormulaTypes is e d → ⊥)
+  formula-refused-exactly = (λ (why, q) d h. let (t, p) = typed-back d h in never (cc), λ n. refused-there refl n)
