@@ -31,14 +31,15 @@ use Rattle.rules.specs.Representation.{Represents}
 use Rattle.rules.specs.Instructions.{Svcode, nop, Stores, Runs, written}
 use Rattle.rules.specs.Trees.{STree, one, pair, ids, Builds, builds-one, builds-pair, plainTree, treesOf}
 use Rattle.rules.specs.Translation.{Translates, regroup}
+use Rattle.rules.specs.Agreement.{Agree}
 use Rattle.rules.specs.Correctness.{Suits, suits-none, suits-more, Correct}
 use Rattle.rules.proofs.Typing.{typed-exactly, resolved}
 use Rattle.rules.proofs.Evaluation.{value-exactly}
 use Rattle.rules.proofs.Representation.{represents-exactly}
-use Rattle.rules.proofs.Instructions.Deriving.{Agree, run-derives}
+use Rattle.rules.proofs.Instructions.Deriving.{run-derives}
 use Rattle.rules.proofs.Translation.Regrouped.{ungrouped}
 use Rattle.rules.proofs.Translation.Deterministic.{translates-once}
-use Rattle.rules.proofs.Translation.Derived.{then-nop, ids-plain, making}
+use Rattle.rules.proofs.Translation.Derived.{ids-plain, translated}
 
 -- ---- the ids below s of a mapping, as a list
 
@@ -201,9 +202,8 @@ pub theorem : {Γ : Env ℕ} {ρ : Env Value} {δ : Env STree} {σ : Stores} (e 
 theorem {δ = δ} {σ = σ} e {d} {s₀} {s₁} {v} {p} {st} typing evaluation translation suits =
     let g = setting suits in
     let (t, checked) = typed-exactly (g .scope) e d .1 (subst (λ Γ. Types Γ e d) (sym (g .types-are)) typing) in
-    let w = making (resolved (g .scope) e checked) (g .trees) s₀ in
+    let w = translated (resolved (g .scope) e checked) (g .trees) s₀ in
     let same = translates-once e δ s₀ (s₀ + size t) s₁ (w .made) p (plainTree (tree t (g .trees) s₀)) st
     (subst (λ δ. Translates δ e s₀ (s₀ + size t) (w .made) (plainTree (tree t (g .trees) s₀))) (g .trees-are) (w .derives)) translation in
-    let grouped : regroup (w .made) nop ≡ written s₀ (code t (g .trees) s₀) = w .grouped nop ∙ then-nop s₀ (code t (g .trees) s₀) in
-    let mine = runs-as (λ σ′ r. ungrouped (w .made) (subst (λ q. Runs q σ 1 σ′) (sym grouped) r)) (correct g e v checked evaluation) in
+    let mine = runs-as (λ σ′ r. ungrouped (w .made) (subst (λ q. Runs q σ 1 σ′) (sym (w .grouped)) r)) (correct g e v checked evaluation) in
     transport (λ i. Correct (same .code i) σ s₀ (same .ends i) (same .tree i) d v) mine

@@ -32,6 +32,7 @@ use Rattle.rules.specs.Xducers.{Xducer, Loops, xducer, Fetches}
 use Rattle.rules.specs.Instructions.{Svcode, nop, Stores, Runs, written}
 use Rattle.rules.specs.Trees.{STree, plainTree, treesOf}
 use Rattle.rules.specs.Translation.{Translates, regroup}
+use Rattle.rules.specs.Agreement.{Covers, Ran, Agree, Derived, Translated, Same}
 use Rattle.rules.specs.Correctness.{Suits, Correct}
 use Rattle.rules.specs.Grammar.{Bytes, SpellsFront, SpellsJob}
 use Rattle.rules.proofs.Typing as Typing
@@ -40,7 +41,6 @@ use Rattle.rules.proofs.Values as Values
 use Rattle.rules.proofs.Evaluation as Evaluation
 use Rattle.rules.proofs.Representation as Representation
 use Rattle.rules.proofs.Xducers.Exactly as Xducers
-use Rattle.rules.proofs.Instructions.Stores.{Covers}
 use Rattle.rules.proofs.Instructions.Running as Running
 use Rattle.rules.proofs.Instructions.Deriving as Deriving
 use Rattle.rules.proofs.Instructions.Deterministic as Determined
@@ -127,7 +127,7 @@ lemma-1-8 = Xducers.loops-once
 
 -- 5. Instructions (002, Figure 1.3). What the rules derive for a program with its ids written out, the run does, from any list of streams that has what the
 -- mapping has; so a run that stops has no derivation.
-pub rules-imply-the-run : (p : Program) (s n : ℕ) (m : State) (σ σ′ : Stores) → length (m .store) ≡ s → Covers σ (m .store) → Runs (written s p) σ n σ′ → Running.Ran p n m σ′
+pub rules-imply-the-run : (p : Program) (s n : ℕ) (m : State) (σ σ′ : Stores) → length (m .store) ≡ s → Covers σ (m .store) → Runs (written s p) σ n σ′ → Ran p n m σ′
 rules-imply-the-run = Running.running
 
 -- What the run does, the rules derive, for code that is well-formed, scoped and proper: the mapping at the end has what the list has at the ids that were
@@ -139,8 +139,8 @@ pub run-implies-the-rules : (p : Program) (s n : ℕ) (m m′ : State) (ids : Li
     → Proper p n m
     → length (m .store) ≡ s
     → Below s ids
-    → Deriving.Agree ids σ (m .store)
-    → Deriving.Derived p s n ids σ m′
+    → Agree ids σ (m .store)
+    → Derived p s n ids σ m′
 run-implies-the-rules = Deriving.run-derives
 
 -- 002, Theorem 1.9: code has at most one store at its end, id by id, whether it is well-formed or not.
@@ -150,14 +150,14 @@ theorem-1-9 h k = Determined.runs-once h k (λ u. refl)
 -- 6. Translation (002, 1.3). For a checked expression the rules derive code with the tree of `tree` and as many ids as `size` says; grouped to the right it is
 -- the code of `code`;
 pub translated-by-the-rules : {Γ : List ℕ} (scope : All Name Γ) (e : Raw) {d : ℕ} {t : Term Γ d} → check scope e ≡ typed d t → (δ : All (Tree ℕ) Γ) (s : ℕ)
-    → Translation.Made (treesOf scope δ) e s (s + size t) (plainTree (tree t δ s)) (code t δ s)
-translated-by-the-rules scope e checked = Translation.making (Typing.resolved scope e checked)
+    → Translated (treesOf scope δ) e s (s + size t) (plainTree (tree t δ s)) (code t δ s)
+translated-by-the-rules scope e checked = Translation.translated (Typing.resolved scope e checked)
 
 -- and nothing else.
 pub one-translation : (e : Raw) (δ : Env STree) (s₀ s s′ : ℕ) (p p′ : Svcode) (st st′ : STree)
     → Translates δ e s₀ s p st
     → Translates δ e s₀ s′ p′ st′
-    → Deterministic.Same s s′ p p′ st st′
+    → Same s s′ p p′ st st′
 one-translation = Deterministic.translates-once
 
 -- 7. Reading (01, "The formula and the job"). Bytes are read as a formula exactly if they spell it,

@@ -7,5 +7,6 @@ pub mod Xducers
 pub mod Instructions
 pub mod Trees
 pub mod Translation
+pub mod Agreement
 pub mod Correctness
 pub mod Grammar

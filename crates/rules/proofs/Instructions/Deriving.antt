@@ -24,6 +24,7 @@ use Rattle.snesl.proofs.Correctness.RunParts.{step-made, run-skipped, run-body}
 use Rattle.snesl.proofs.Correctness.Grown.{new-stream, next-id}
 use Rattle.snesl.proofs.Bounded.Runs.{Ran, ran-done, ran-define, ran-skip, ran-body, ran, run-done, went-length, grows}
 use Rattle.rules.specs.Xducers.{Kind, empty, gives, xducer, Fetches, fetches-none, fetches-more}
+use Rattle.rules.specs.Agreement.{Agree, Derived}
 use Rattle.rules.specs.Instructions.{Svcode, nop, assign, withCtrl, seq, firstOf, when, kindIn, emptyOf, Stores, IsEmpty, Runs, p-empty, p-xducer, p-wc-emp, p-wc-nonemp, p-seq, written}
 use Rattle.rules.proofs.Xducers.Exactly.{apply-exactly, apply-fetches}
 use Rattle.rules.proofs.Instructions.Stores.{kept, skipped-adds, skipped-kind}
@@ -99,9 +100,6 @@ mix-old outs τ σ u h = go (member u outs) refl
 
 -- ---- a mapping that has what a list has at known ids
 
-pub record Agree (ids : List ℕ) (σ : Stores) (τ : Store) : Type 0 where
-  pub agree : (u : ℕ) → u ∈ ids → σ u ≡ τ ! u
-
 fetched : {ids ss : List ℕ} {σ : Stores} {τ : Store} {xs : List Stream} → Agree ids σ τ → Within ss ids → Fetches (λ s. τ ! s) ss xs → Fetches σ ss xs
 fetched a w fetches-none = fetches-none
 fetched a w (fetches-more {s = s} q f) = fetches-more (a .agree s (w s (List·Memᴰ·head refl)) ∙ q) (fetched a (λ u h. w u (List·Memᴰ·tail h)) f)
@@ -135,13 +133,6 @@ agree-mix {ids} {outs} {σ} {τ} {old} {new} g same puts = record { agree = λ u
     out u h = mix-new outs τ σ u h ∙ puts u h
 
 -- ---- the derivation
-
-pub record Derived (p : Program) (s n : ℕ) (ids : List ℕ) (σ : Stores) (m′ : State) : Type 0 where
-  pub stores : Stores
-  pub runs : Runs (written s p) σ n stores
-  pub made-known : Agree (dv s p) stores (m′ .store)
-  pub still-known : Agree ids stores (m′ .store)
-  pub kept-below : (u : ℕ) → u < s → stores u ≡ σ u
 
 units-of : (o : Option Stream) {k : ℕ} → unitsOf o ≡ some k → o ≡ some (units k)
 units-of none q = never (cc)

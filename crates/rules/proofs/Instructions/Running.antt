@@ -24,14 +24,10 @@ use Rattle.snesl.proofs.Correctness.RunParts.{run-made, run-skipped, run-body}
 use Rattle.snesl.proofs.Correctness.Grown.{new-stream, old-stream, next-id}
 use Rattle.snesl.proofs.Bounded.Runs.{run-done, went-length, grows}
 use Rattle.rules.specs.Xducers.{Kind, empty, xducer}
+use Rattle.rules.specs.Agreement.{Covers, Ran}
 use Rattle.rules.specs.Instructions.{Svcode, nop, assign, withCtrl, seq, kindIn, emptyOf, Stores, Runs, p-empty, p-xducer, p-wc-emp, p-wc-nonemp, p-seq, written}
 use Rattle.rules.proofs.Xducers.Exactly.{apply-exactly}
-use Rattle.rules.proofs.Instructions.Stores.{Covers, fetched, skipped-adds, skipped-kind}
-
-pub record Ran (p : Program) (n : ℕ) (m : State) (σ′ : Stores) : Type 0 where
-  pub after : State
-  pub ran : run boundless p n m ≡ went after
-  pub covers : Covers σ′ (after .store)
+use Rattle.rules.proofs.Instructions.Stores.{fetched, skipped-adds, skipped-kind}
 
 -- after a definition
 covers-defined : {σ σ′ : Stores} {τ : Store} {s : ℕ} {a : Stream}

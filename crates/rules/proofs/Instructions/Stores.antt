@@ -18,11 +18,8 @@ use Rattle.snesl.specs.Transducers.{operands}
 use Rattle.snesl.specs.Programs.{Program, done, define, withCtrl, count, member}
 use Rattle.snesl.specs.Machine.{skipped}
 use Rattle.rules.specs.Xducers.{Kind, empty, Xducer, gives, xducer, Fetches, fetches-none, fetches-more}
+use Rattle.rules.specs.Agreement.{Covers}
 use Rattle.rules.specs.Instructions.{Svcode, nop, assign, seq, firstOf, when, kindIn, emptyOf, Stores, written}
-
--- where the mapping has a stream, the list has it too
-pub record Covers (σ : Stores) (τ : Store) : Type 0 where
-  pub covers : (u : ℕ) (a : Stream) → σ u ≡ some a → τ ! u ≡ some a
 
 pub fetched : {σ : Stores} {τ : Store} {ss : List ℕ} {xs : List Stream} → Covers σ τ → Fetches σ ss xs → Fetches (λ s. τ ! s) ss xs
 fetched c fetches-none = fetches-none

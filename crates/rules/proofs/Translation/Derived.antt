@@ -29,18 +29,19 @@ use Rattle.rules.specs.Xducers as xducers
 use Rattle.rules.specs.Xducers.{xducer}
 use Rattle.rules.specs.Instructions.{Svcode, nop, assign, withCtrl, seq, written}
 use Rattle.rules.specs.Trees.{STree, one, pair, ids, plainTree, treesOf}
+use Rattle.rules.specs.Agreement.{Translated}
 use Rattle.rules.specs.Translation.{dv, fv, Becomes, becomes-const, becomes-plus, becomes-iota, becomes-sum, Copies, copies-none, copies-more, Translates, translates-var, translates-let, translates-call, translates-each, regroup}
 use Rattle.rules.proofs.Names.{Looks, looking, looks-found, looks-int, looks-ints, LooksAtSequence, as-sequence, along}
 use Rattle.rules.proofs.Typing.{Resolved, resolved-var, resolved-let, resolved-const, resolved-iota, resolved-plus, resolved-sum, resolved-each}
 use Rattle.rules.proofs.Translation.Regrouped.{dv-grouped, fv-grouped, dv-written, fv-written}
 
 -- a program with its ids written out, then k
-unfoldable pub writtenThen : ℕ → Program → Svcode → Svcode
+writtenThen : ℕ → Program → Svcode → Svcode
 writtenThen s done k = k
 writtenThen s (define t p) k = seq (assign s (xducer t) (operands t)) (writtenThen (suc s) p k)
 writtenThen s (programs.withCtrl outs c ins b p) k = seq (withCtrl outs c ins (written s b)) (writtenThen (s + count b) p k)
 
-pub then-nop : (s : ℕ) (p : Program) → writtenThen s p nop ≡ written s p
+then-nop : (s : ℕ) (p : Program) → writtenThen s p nop ≡ written s p
 unfolding writtenThen written
 then-nop s done = refl
 then-nop s (define t p) = ap (seq (assign s (xducer t) (operands t))) (then-nop (suc s) p)
@@ -56,10 +57,10 @@ then-seq s (programs.withCtrl outs c ins b p) q k =
     let e : s + count b + count p ≡ s + (count b + count p) = omega arith in
     ap (seq (withCtrl outs c ins (written s b))) (then-seq (s + count b) p q k ∙ ap (λ j. writtenThen (s + count b) p (writtenThen j q k)) e)
 
-pub record Made (δ : Env STree) (e : Raw) (s₀ s₁ : ℕ) (st : STree) (P : Program) : Type 0 where
-  pub made : Svcode
-  pub derives : Translates δ e s₀ s₁ made st
-  pub grouped : (k : Svcode) → regroup made k ≡ writtenThen s₀ P k
+record Made (δ : Env STree) (e : Raw) (s₀ s₁ : ℕ) (st : STree) (P : Program) : Type 0 where
+  made : Svcode
+  derives : Translates δ e s₀ s₁ made st
+  grouped : (k : Svcode) → regroup made k ≡ writtenThen s₀ P k
 
 -- ---- trees of a depth, taken apart
 
@@ -241,7 +242,7 @@ module _ {Γ : List ℕ} (scope : All Name Γ) (δ : All (Tree ℕ) Γ) (s : ℕ
             ∙ sym (then-seq s P₁ P₂ k);
       }
 
-pub making : {Γ : List ℕ} {scope : All Name Γ} {e : Raw} {d : ℕ} {t : Term Γ d} → Resolved Γ scope e d t → (δ : All (Tree ℕ) Γ) (s : ℕ)
+making : {Γ : List ℕ} {scope : All Name Γ} {e : Raw} {d : ℕ} {t : Term Γ d} → Resolved Γ scope e d t → (δ : All (Tree ℕ) Γ) (s : ℕ)
     → Made (treesOf scope δ) e s (s + size t) (plainTree (tree t δ s)) (code t δ s)
 unfolding code tree size plainTree
 making {scope = scope} (resolved-var {x = x} {v = v} q) δ s =
@@ -260,3 +261,7 @@ making {scope = scope} (resolved-sum {x = x} {v = v} q) δ s =
 making {scope = scope} (resolved-each {c = c} {x = x} {y = y} {us = us} {v = v} {ls = ls} {t = t} qv ql h) δ s =
     made-each scope δ s v ls t (along (subst (LooksAtSequence (λ d. plainTree) scope δ y) qv (as-sequence (looking (λ d. plainTree) scope δ y)))) ql
     (making h (functions.within v (pointers ls) δ s) (s + (1 + length (pointers ls))))
+
+pub translated : {Γ : List ℕ} {scope : All Name Γ} {e : Raw} {d : ℕ} {t : Term Γ d} → Resolved Γ scope e d t → (δ : All (Tree ℕ) Γ) (s : ℕ)
+    → Translated (treesOf scope δ) e s (s + size t) (plainTree (tree t δ s)) (code t δ s)
+translated {t = t} h δ s = let w = making h δ s in record { made = w .made; derives = w .derives; grouped = w .grouped nop ∙ then-nop s (code t δ s) }

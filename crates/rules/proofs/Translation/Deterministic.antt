@@ -12,16 +12,11 @@ use Rattle.rules.specs.Typing.{BuiltIn, Calls, calls-const, calls-iota, 
 use Rattle.rules.specs.Xducers as xducers
 use Rattle.rules.specs.Instructions.{Svcode, nop, assign, withCtrl, seq}
 use Rattle.rules.specs.Trees.{STree, one, pair, ids}
+use Rattle.rules.specs.Agreement.{Same}
 use Rattle.rules.specs.Translation.{dv, fv, Becomes, becomes-const, becomes-plus, becomes-iota, becomes-sum, Copies, copies-none, copies-more, Translates, translates-var, translates-let, translates-call, translates-each}
 use Rattle.rules.proofs.Names.{maps-once}
 use Rattle.rules.proofs.Typing.{not-var, not-let, not-each}
 use Rattle.rules.proofs.Evaluation.{maps-all-once}
-
--- the code, its end and its tree, as one
-pub record Same (s s′ : ℕ) (p p′ : Svcode) (st st′ : STree) : Type 0 where
-  pub ends : s ≡ s′
-  pub code : p ≡ p′
-  pub tree : st ≡ st′
 
 becomes-once : {φ : BuiltIn} {sts : List STree} {s₀ s s′ : ℕ} {p p′ : Svcode} {st st′ : STree} → Becomes φ sts s₀ s p st → Becomes φ sts s₀ s′ p′ st′ → Same s s′ p p′ st st′
 becomes-once (becomes-const q) (becomes-const q′) = record { ends = q ∙ sym q′; code = refl; tree = refl }
