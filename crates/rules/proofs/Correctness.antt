@@ -1,36 +1,33 @@
 -- 002's Theorem 1.20: from the typing, evaluation and translation rules to the instruction rules.
-use Prim.Native.Nat.{ℕ, zero, suc, _+_, _≤_, _<_}
+use Prim.Native.Nat.{ℕ, zero, suc, _+_, _<_}
 use native.Mathlib.Omega.{arith}
-use mathlib.Core.List.{List, [], _∷_, _++_, map, List·Memᴰ, List·Memᴰ·head, List·Memᴰ·not-nil, List·Memᴰ·append-cases, Memᴰ·append-left, Memᴰ·append-right, List·Memᴰ·eq-of-singleton}
+use mathlib.Core.List.{List, [], _∷_, map, List·Memᴰ, List·Memᴰ·head, List·Memᴰ·not-nil, List·Memᴰ·append-cases, Memᴰ·append-left, Memᴰ·append-right, List·Memᴰ·eq-of-singleton}
 use mathlib.Core.Logic.{⊎-elim}
-use mathlib.Core.Option.{Option, some, none, Option·getD}
+use mathlib.Core.Option.{some, Option·getD}
 use mathlib.Core.Path.{_≡_, refl, sym, ap, _∙_, subst, transport}
-use lib.ListN.{length, getElem?}
-use Rattle.laws.proofs.Never.{never}
+use lib.ListN.{length}
 use Rattle.snesl.specs.Values.{Val}
 use Rattle.snesl.specs.Terms.{_∋_, here, there, Term, All, ∅, _▹_, lookup}
 use Rattle.snesl.specs.Streams.{Stream, units, Store, _!_}
 use Rattle.snesl.specs.Trees.{Tree, leaf, node, inner, outer, root, order, mapTree}
 use Rattle.snesl.specs.Representation.{represent, Holds}
-use Rattle.snesl.specs.Agreement.{Agrees, RanOnce}
+use Rattle.snesl.specs.Agreement.{Agrees}
 use Rattle.snesl.specs.Ids.{idsOf, Below}
 use Rattle.snesl.specs.Machine.{State}
 use Rattle.snesl.specs.Translation.{size, tree, code}
-use Rattle.snesl.specs.Evaluation.{eval}
 use Rattle.snesl.specs.Records.{Raw}
 use Rattle.snesl.specs.Checking.{Name, typed, check}
 use Rattle.snesl.proofs.Representing.Representation.{holds-streams, streams-held}
 use Rattle.snesl.proofs.Compiled.WellFormed.{below-result}
 use Rattle.snesl.proofs.Statements.Correctness as running
 use Rattle.snesl.proofs.Statements.Compiled as compiled
-use Rattle.rules.specs.Names.{Env, nothing, named, envOf}
+use Rattle.rules.specs.Names.{Env, named, envOf}
 use Rattle.rules.specs.Typing.{Types, typesOf}
 use Rattle.rules.specs.Values.{Value, plain}
 use Rattle.rules.specs.Evaluation.{Evaluates, valuesOf}
-use Rattle.rules.specs.Representation.{Represents}
-use Rattle.rules.specs.Instructions.{Svcode, nop, Stores, Runs, written}
-use Rattle.rules.specs.Trees.{STree, one, pair, ids, Builds, builds-one, builds-pair, plainTree, treesOf}
-use Rattle.rules.specs.Translation.{Translates, regroup}
+use Rattle.rules.specs.Instructions.{Svcode, Stores, Runs, written}
+use Rattle.rules.specs.Trees.{STree, pair, ids, Builds, builds-one, builds-pair, plainTree, treesOf}
+use Rattle.rules.specs.Translation.{Translates}
 use Rattle.rules.specs.Agreement.{Agree}
 use Rattle.rules.specs.Correctness.{Suits, suits-none, suits-more, Correct}
 use Rattle.rules.proofs.Typing.{typed-exactly, resolved}

@@ -1,6 +1,5 @@
 -- Evaluation of a named expression by the rules gives exactly the value that `eval` gives its typed expression, and none where `eval` gives none.
 use Prim.Native.Nat.{ℕ, zero, suc}
-use native.Mathlib.Omega.{arith}
 use mathlib.Core.Bool.{Bool, true, false}
 use mathlib.Core.List.{List, [], _∷_}
 use mathlib.Core.Logic.{_↔_}
@@ -8,18 +7,16 @@ use mathlib.Core.Option.{Option, some, none}
 use mathlib.Core.Path.{_≡_, refl, sym, ap, _∙_, subst}
 use lib.IntN.{ℤ, pos, negsuc, _+ℤ_}
 use Rattle.laws.proofs.Never.{never}
-use Rattle.laws.proofs.Options.{none-some}
 use Rattle.snesl.specs.declared.code.Variable.{Variable}
 use Rattle.snesl.specs.Values.{Val, inRange, total}
-use Rattle.snesl.specs.Terms as terms
-use Rattle.snesl.specs.Terms.{_∋_, here, there, Term, listedTypes, All, ∅, _▹_, lookup, listed}
+use Rattle.snesl.specs.Terms.{_∋_, Term, All, _▹_, lookup, listed}
 use Rattle.snesl.specs.Evaluation.{andThen, within, counting, allOf, upTo, eval}
 use Rattle.snesl.specs.Records as raw
 use Rattle.snesl.specs.Records.{Raw}
-use Rattle.snesl.specs.Checking.{Name, same, Found, missing, found, later, find, asInt, asInts, Sequence, noSequence, sequence, asSequence, listedFirst, listedInts, listedNames, pointers, Typed, typed, check}
+use Rattle.snesl.specs.Checking.{Name, find, asInt, listedFirst, listedInts, listedNames, pointers, typed, check}
 use Rattle.rules.specs.Names.{Env, named, Maps, MapsAll, maps-none, maps-more, Listed, listed-none, listed-more, envOf}
 use Rattle.rules.specs.Typing.{BuiltIn, Calls, calls-const, calls-iota, calls-plus, calls-sum}
-use Rattle.rules.specs.Values.{Value, Values, int, braces, empty, item, plains, plain}
+use Rattle.rules.specs.Values.{Value, Values, int, braces, item, plains, plain}
 use Rattle.rules.specs.Evaluation.{Counts, counts-none, counts-more, Totals, totals-none, totals-more, Gives, gives-const, gives-iota, gives-plus, gives-sum, Number, number, Evaluates, evaluates-var, evaluates-let, evaluates-call, evaluates-each, EvaluatesEach, evaluates-none, evaluates-more, valuesOf}
 use Rattle.rules.proofs.Names.{maps-once, Looks, looking, looks-found, looks-int, looks-ints, LooksAtSequence, as-sequence, along}
 use Rattle.rules.proofs.Typing.{not-var, not-let, not-each, listed-once, Resolved, resolved-var, resolved-let, resolved-const, resolved-iota, resolved-plus, resolved-sum, resolved-each, resolved}

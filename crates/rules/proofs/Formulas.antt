@@ -4,11 +4,10 @@ use mathlib.Core.Bool.{Bool, true, false, _||_}
 use mathlib.Core.List.{List, [], _∷_}
 use mathlib.Core.Logic.{_↔_}
 use mathlib.Core.Option.{Option, some, none}
-use mathlib.Core.Path.{_≡_, refl, sym, _∙_, subst}
+use mathlib.Core.Path.{_≡_, refl, sym, subst}
 use Rattle.laws.proofs.Never.{never}
 use Rattle.snesl.specs.declared.code.Variable.{Variable}
 use Rattle.snesl.specs.declared.refusal.Refusal.{Refusal}
-use Rattle.snesl.specs.declared.refusal.Refusal.the-variants.{Unbound}
 use Rattle.snesl.specs.Terms.{Term, All, ∅, _▹_}
 use Rattle.snesl.specs.Records.{Raw, Input}
 use Rattle.snesl.specs.Checking.{Name, same, names, Typed, refused, typed, check, turned, inputNames, context, repeated, checkInputs, checkFormula}
@@ -16,7 +15,7 @@ use Rattle.snesl.proofs.Formed.{checked-inputs}
 use Rattle.rules.specs.Names.{Env, nothing, named, Maps, newest, older}
 use Rattle.rules.specs.Typing.{Types, typesOf, Declares, declares-none, declares-more, FormulaTypes, formula-types}
 use Rattle.rules.proofs.Names.{same-true, same-false}
-use Rattle.rules.proofs.Typing.{typed-exactly, refused-exactly}
+use Rattle.rules.proofs.Typing.{typed-exactly}
 
 -- the names of Γ, newest first
 data Seen : List Variable → Env ℕ → Type 0 where

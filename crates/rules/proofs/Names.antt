@@ -1,15 +1,13 @@
 -- A name is found where the mapping has it, and an environment maps a name once.
 use Prim.Native.Nat.{ℕ, zero, suc}
-use native.Mathlib.Omega.{arith}
 use mathlib.Core.Bool.{Bool, true, false}
-use mathlib.Core.List.{List, [], _∷_}
+use mathlib.Core.List.{List}
 use mathlib.Core.Option.{some}
 use mathlib.Core.Path.{_≡_, refl, ap, subst}
 use borrow.Author.Tests.{eqb-true, eqb-false}
-use lib.Dec.{eqb}
 use Rattle.laws.proofs.Never.{never}
 use Rattle.snesl.specs.declared.code.Variable.{Variable}
-use Rattle.snesl.specs.Terms.{_∋_, here, there, All, ∅, _▹_, lookup}
+use Rattle.snesl.specs.Terms.{_∋_, here, All, ∅, _▹_, lookup}
 use Rattle.snesl.specs.Checking.{Name, same, Found, missing, found, later, find, asInt, asInts, Sequence, noSequence, sequence, asSequence}
 use Rattle.rules.specs.Names.{Env, nothing, named, Maps, newest, older, envOf}
 use Rattle.rules.specs.Typing.{typesOf}

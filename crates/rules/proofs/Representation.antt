@@ -6,11 +6,11 @@ use mathlib.Core.Logic.{_↔_}
 use mathlib.Core.Path.{_≡_, refl, sym, ap, _∙_, subst}
 use lib.ListN.{length, replicate}
 use Rattle.snesl.specs.Values.{Val}
-use Rattle.snesl.specs.Streams.{Stream, ints, flags, _then_}
-use Rattle.snesl.specs.Trees.{Tree, leaf, node, zipTree}
+use Rattle.snesl.specs.Streams.{Stream, flags, _then_}
+use Rattle.snesl.specs.Trees.{Tree, node, zipTree}
 use Rattle.snesl.specs.Representation.{concat, segments, represent}
 use Rattle.snesl.proofs.Representing.Representation.{represent-append, determined}
-use Rattle.rules.specs.Values.{Value, Values, int, braces, empty, item, plains, plain}
+use Rattle.rules.specs.Values.{Value, Values, braces, item, plains, plain}
 use Rattle.rules.specs.Representation.{noStreams, Ends, ends-none, ends-more, Represents, represents-int, represents-braces, RepresentsAll, represents-none, represents-more}
 use Rattle.rules.proofs.Values.{plain-once}
 

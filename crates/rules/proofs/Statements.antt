@@ -29,9 +29,9 @@ use Rattle.rules.specs.Values.{Value, HasType, plain}
 use Rattle.rules.specs.Evaluation.{Evaluates, valuesOf}
 use Rattle.rules.specs.Representation.{Represents}
 use Rattle.rules.specs.Xducers.{Xducer, Loops, xducer, Fetches}
-use Rattle.rules.specs.Instructions.{Svcode, nop, Stores, Runs, written}
+use Rattle.rules.specs.Instructions.{Svcode, Stores, Runs, written}
 use Rattle.rules.specs.Trees.{STree, plainTree, treesOf}
-use Rattle.rules.specs.Translation.{Translates, regroup}
+use Rattle.rules.specs.Translation.{Translates}
 use Rattle.rules.specs.Agreement.{Covers, Ran, Agree, Derived, Translated, Same}
 use Rattle.rules.specs.Correctness.{Suits, Correct}
 use Rattle.rules.specs.Grammar.{Bytes, SpellsFront, SpellsJob}

@@ -21,8 +21,8 @@ use Rattle.snesl.specs.Terms.{_∋_, Term, listedTypes, All, ∅, _▹_}
 use Rattle.snesl.specs.Records as raw
 use Rattle.snesl.specs.Records.{Raw}
 use Rattle.snesl.specs.Checking.{Name, same, Found, missing, found, find, isBound, asInt, asInts, Sequence, noSequence, sequence, asSequence, names, usable, listedFirst, listedInts, listedNames, pointers, Typed, refused, typed, demand, typedIf, typedSequence, typedThen, check}
-use Rattle.rules.specs.Names.{Env, nothing, named, Maps, newest, older, MapsAll, maps-none, maps-more, Listed, listed-none, listed-more}
-use Rattle.rules.specs.Typing.{BuiltIn, Calls, calls-const, calls-iota, calls-plus, calls-sum, Takes, takes-const, takes-iota, takes-plus, takes-sum, Unlisted, Once, once-none, once-more, IsInt, Types, types-var, types-let, types-call, types-each, typesOf}
+use Rattle.rules.specs.Names.{Env, nothing, named, Maps, maps-none, maps-more, Listed, listed-none, listed-more}
+use Rattle.rules.specs.Typing.{BuiltIn, Calls, calls-const, calls-iota, calls-plus, calls-sum, takes-const, takes-iota, takes-plus, takes-sum, Unlisted, Once, once-none, once-more, IsInt, Types, types-var, types-let, types-call, types-each, typesOf}
 use Rattle.rules.proofs.Names.{same-true, same-false, maps-once, Finds, finds-none, finds-one, finding}
 
 -- A rule's premises from its conclusion, for each expression.

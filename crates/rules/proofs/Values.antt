@@ -6,7 +6,7 @@ use mathlib.Core.Path.{_≡_, refl, sym, ap, subst}
 use lib.IntN.{ℤ}
 use Rattle.laws.proofs.Never.{never}
 use Rattle.snesl.specs.Values.{Val}
-use Rattle.rules.specs.Values.{Value, Values, int, braces, empty, item, HasType, HaveType, type-int, type-braces, type-none, type-more, plains, plain}
+use Rattle.rules.specs.Values.{Value, Values, int, braces, item, HasType, HaveType, type-int, type-braces, type-none, type-more, plains, plain}
 
 module _ (d : ℕ) (typed : (v : Val d) → HasType (plain d v) d) where
   plains-typed : (vs : List (Val d)) → HaveType (plains (plain d) vs) d

@@ -1,6 +1,5 @@
 -- What 002's Theorem 1.20 supposes and concludes (1.5.2).
 use Prim.Native.Nat.{ℕ, _≤_, _<_}
-use mathlib.Core.List.{List}
 use mathlib.Core.Path.{_≡_}
 use Rattle.snesl.specs.declared.code.Variable.{Variable}
 use Rattle.snesl.specs.Ids.{Below}

@@ -1,12 +1,12 @@
 -- What the run does, the rules derive: for a program that is well-formed and scoped, and whose WithCtrls meet P-WC-EMP's side condition.
-use Prim.Native.Nat.{ℕ, zero, suc, _+_, _≤_, _<_}
+use Prim.Native.Nat.{ℕ, suc, _+_, _≤_, _<_}
 use native.Mathlib.Omega.{arith}
 use mathlib.Core.Bool.{Bool, true, false}
-use mathlib.Core.List.{List, [], _∷_, _++_, List·Memᴰ, List·Memᴰ·head, List·Memᴰ·tail, List·Memᴰ·not-nil, List·Memᴰ·cases-cons, List·Memᴰ·append-cases, Memᴰ·append-left, Memᴰ·append-right}
+use mathlib.Core.List.{List, [], _∷_, _++_, List·Memᴰ·head, List·Memᴰ·tail, List·Memᴰ·not-nil, List·Memᴰ·cases-cons, List·Memᴰ·append-cases, Memᴰ·append-left, Memᴰ·append-right}
 use mathlib.Core.Logic.{_⊎_, inl, inr, ⊎-elim}
 use mathlib.Core.Option.{Option, some, none}
 use mathlib.Core.Path.{_≡_, refl, sym, ap, _∙_, subst}
-use borrow.Author.Tests.{eqb-true, eqb-false, eq-eqb, ne-eqb}
+use borrow.Author.Tests.{eqb-false, eq-eqb, ne-eqb}
 use lib.Dec.{eqb}
 use lib.ListN.{length, length-append}
 use Rattle.laws.proofs.Never.{never}
@@ -14,18 +14,18 @@ use Rattle.snesl.specs.declared.code.Transducer.{Transducer}
 use Rattle.snesl.specs.Streams.{Stream, ints, flags, units, Store, _!_}
 use Rattle.snesl.specs.Transducers.{made, apply, operands}
 use Rattle.snesl.specs.Programs as programs
-use Rattle.snesl.specs.Programs.{Program, done, define, count, member, dv, Within, WellFormed, well-done, well-define, well-withCtrl, Scoped, scoped-done, scoped-define, scoped-withCtrl}
-use Rattle.snesl.specs.Machine.{State, Result, went, onward, push, skipped, skip, unitsOf, run, boundless}
+use Rattle.snesl.specs.Programs.{Program, done, define, count, member, dv, Within, WellFormed, well-done, well-define, well-withCtrl, Scoped, scoped-define, scoped-withCtrl}
+use Rattle.snesl.specs.Machine.{State, went, onward, push, skipped, skip, unitsOf, run, boundless}
 use Rattle.snesl.specs.Bounded.{starts}
-use Rattle.snesl.specs.SideCondition.{Empty, Proper, proper-done, proper-define, proper-withCtrl}
+use Rattle.snesl.specs.SideCondition.{Empty, Proper, proper-define, proper-withCtrl}
 use Rattle.snesl.specs.Ids.{Below}
 use Rattle.snesl.proofs.Compiled.Members.{_∈_, _∉_, member-true, member-false, known}
 use Rattle.snesl.proofs.Correctness.RunParts.{step-made, run-skipped, run-body}
 use Rattle.snesl.proofs.Correctness.Grown.{new-stream, next-id}
 use Rattle.snesl.proofs.Bounded.Runs.{Ran, ran-done, ran-define, ran-skip, ran-body, ran, run-done, went-length, grows}
-use Rattle.rules.specs.Xducers.{Kind, empty, gives, xducer, Fetches, fetches-none, fetches-more}
+use Rattle.rules.specs.Xducers.{Kind, gives, xducer, Fetches, fetches-none, fetches-more}
 use Rattle.rules.specs.Agreement.{Agree, Derived}
-use Rattle.rules.specs.Instructions.{Svcode, nop, assign, withCtrl, seq, firstOf, when, kindIn, emptyOf, Stores, IsEmpty, Runs, p-empty, p-xducer, p-wc-emp, p-wc-nonemp, p-seq, written}
+use Rattle.rules.specs.Instructions.{Svcode, withCtrl, firstOf, when, kindIn, emptyOf, Stores, IsEmpty, Runs, p-empty, p-xducer, p-wc-emp, p-wc-nonemp, p-seq, written}
 use Rattle.rules.proofs.Xducers.Exactly.{apply-exactly, apply-fetches}
 use Rattle.rules.proofs.Instructions.Stores.{kept, skipped-adds, skipped-kind}
 

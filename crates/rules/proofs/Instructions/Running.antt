@@ -1,15 +1,14 @@
 -- What the rules derive, the run does: for a program with its ids written out, from any list of streams that has what the mapping has.
-use Prim.Native.Nat.{ℕ, zero, suc, _+_}
+use Prim.Native.Nat.{ℕ, suc, _+_}
 use native.Mathlib.Omega.{arith}
 use mathlib.Core.Bool.{Bool, true, false}
 use mathlib.Core.List.{List, [], _∷_, _++_, List·Memᴰ}
-use mathlib.Core.Logic.{_⊎_, inl, inr, ⊎-elim}
+use mathlib.Core.Logic.{_⊎_, ⊎-elim}
 use mathlib.Core.Option.{Option, some, none}
-use mathlib.Core.Path.{_≡_, refl, sym, ap, _∙_, subst}
+use mathlib.Core.Path.{_≡_, refl, sym, ap, _∙_}
 use borrow.Author.Tests.{eqb-true, eqb-false}
 use lib.Dec.{eqb}
 use lib.ListN.{length, length-append}
-use Rattle.laws.proofs.Never.{never}
 use Rattle.laws.proofs.Options.{none-some}
 use Rattle.laws.proofs.Lists.{getElem?-append-left}
 use Rattle.snesl.specs.declared.code.Transducer.{Transducer}
@@ -17,7 +16,7 @@ use Rattle.snesl.specs.Streams.{Stream, units, Store, _!_}
 use Rattle.snesl.specs.Transducers.{made, apply, operands}
 use Rattle.snesl.specs.Programs as programs
 use Rattle.snesl.specs.Programs.{Program, done, define, count}
-use Rattle.snesl.specs.Machine.{State, Result, went, onward, push, skipped, skip, run, boundless}
+use Rattle.snesl.specs.Machine.{State, went, onward, push, skipped, skip, run, boundless}
 use Rattle.snesl.specs.Bounded.{starts}
 use Rattle.snesl.proofs.Compiled.Members.{known}
 use Rattle.snesl.proofs.Correctness.RunParts.{run-made, run-skipped, run-body}

@@ -4,22 +4,21 @@ use native.Mathlib.Omega.{arith}
 use mathlib.Core.Bool.{Bool, true, false}
 use mathlib.Core.List.{List, [], _∷_, _++_, append-assoc}
 use mathlib.Core.Option.{Option, some, none}
-use mathlib.Core.Path.{_≡_, refl, sym, ap, _∙_, subst}
-use borrow.Author.Tests.{eqb-true, eqb-false}
+use mathlib.Core.Path.{_≡_, refl, sym, ap, _∙_}
+use borrow.Author.Tests.{eqb-true}
 use lib.Dec.{eqb}
 use lib.ListN.{length, length-append, getElem?}
 use Rattle.laws.proofs.Never.{never}
 use Rattle.laws.proofs.Lists.{getElem?-append-left, getElem?-append-seam}
 use Rattle.snesl.specs.declared.code.Transducer.{Transducer}
 use Rattle.snesl.specs.declared.code.Transducer.the-variants.{Const, ToFlags, Usum, MapTwoPlus, ScanPlus, Distr, SumPlus}
-use Rattle.snesl.specs.Streams.{Stream, units, Store, _!_}
+use Rattle.snesl.specs.Streams.{Stream, Store, _!_}
 use Rattle.snesl.specs.Transducers as functions
-use Rattle.snesl.specs.Transducers.{operands}
 use Rattle.snesl.specs.Programs.{Program, done, define, withCtrl, count, member}
 use Rattle.snesl.specs.Machine.{skipped}
-use Rattle.rules.specs.Xducers.{Kind, empty, Xducer, gives, xducer, Fetches, fetches-none, fetches-more}
+use Rattle.rules.specs.Xducers.{Kind, empty, gives, xducer, Fetches, fetches-none, fetches-more}
 use Rattle.rules.specs.Agreement.{Covers}
-use Rattle.rules.specs.Instructions.{Svcode, nop, assign, seq, firstOf, when, kindIn, emptyOf, Stores, written}
+use Rattle.rules.specs.Instructions.{firstOf, when, kindIn, Stores, written}
 
 pub fetched : {σ : Stores} {τ : Store} {ss : List ℕ} {xs : List Stream} → Covers σ τ → Fetches σ ss xs → Fetches (λ s. τ ! s) ss xs
 fetched c fetches-none = fetches-none

@@ -1,8 +1,8 @@
 -- Scanning an expression: it reads exactly the bytes that spell one, within the limits of nesting and of records.
-use Prim.Native.Nat.{ℕ, zero, suc, _+_, _*_, _≤_, _<_}
+use Prim.Native.Nat.{ℕ, zero, suc, _+_, _≤_, _<_}
 use native.Mathlib.Omega.{arith}
 use mathlib.Core.Bool.{Bool, true, false}
-use mathlib.Core.List.{List, [], _∷_, _++_, append-assoc}
+use mathlib.Core.List.{List, _++_}
 use mathlib.Core.Path.{_≡_, refl, sym, ap, _∙_, subst, transport}
 use borrow.Author.Tests.{ltb-true, lt-ltb}
 use lib.Dec.{ltb}
@@ -10,8 +10,7 @@ use lib.ListN.{length, length-append, length-map}
 use Rattle.laws.proofs.Never.{never}
 use Rattle.snesl.specs.declared.code.Variable.{Variable}
 use Rattle.snesl.specs.declared.refusal.Refusal.the-variants.{NoRecord, OverLimit, TooMany}
-use Rattle.snesl.specs.Ascii.{ascii}
-use Rattle.snesl.specs.Notation.{VR, LT, IO, PL, SM, EA}
+use Rattle.snesl.specs.Notation.{LT, EA}
 use Rattle.snesl.specs.Limits.{mostRecords, mostListed}
 use Rattle.snesl.specs.Values.{Each}
 use Rattle.snesl.specs.Records as raw

@@ -7,18 +7,17 @@ use mathlib.Core.Path.{_≡_, refl, sym, ap, _∙_, subst}
 use borrow.Author.Tests.{le-leb, leb-true, eqb-true}
 use lib.Dec.{eqb, leb}
 use lib.IntN.{ℤ}
-use lib.ListN.{length, getD, drop, length-map}
-use Rattle.laws.proofs.Never.{never}
+use lib.ListN.{length, getD, length-map}
 use Rattle.laws.proofs.Tests.{both-true}
 use Rattle.snesl.specs.declared.code.Variable.{Variable}
 use Rattle.snesl.specs.Ascii.{ascii}
-use Rattle.snesl.specs.Notation.{IN, VR, LT, IO, PL, SM, EA}
+use Rattle.snesl.specs.Notation.{VR, LT, IO, PL, SM, EA}
 use Rattle.snesl.specs.Limits.{mostListed, lastVariable}
 use Rattle.snesl.specs.Values.{Each, each-none, each-more}
 use Rattle.snesl.specs.Records as raw
-use Rattle.snesl.specs.Records.{Raw, Head, absent, over, single, letting, eaching, whole, eachHead, headAt, byteAt, markAt, variableAt, variablesAt, variablesOk, signed, intAt, markIN, markVR, markLT, markKN, markIO, markPL, markSM, markEA}
+use Rattle.snesl.specs.Records.{Head, absent, over, single, letting, eaching, whole, eachHead, headAt, byteAt, markAt, variableAt, variablesAt, variablesOk, signed, intAt, markVR, markLT, markKN, markIO, markPL, markSM, markEA}
 use Rattle.rules.specs.Grammar.{Names, Bytes}
-use Rattle.rules.proofs.Reading.Places.{At, at-fits, at-byte, at-none, at-first, at-rest, at-both, at-one, at-more}
+use Rattle.rules.proofs.Reading.Places.{At, at-fits, at-byte, at-none, at-rest, at-both, at-one, at-more}
 
 -- ---- from bytes to the record
 

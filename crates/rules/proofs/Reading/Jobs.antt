@@ -1,28 +1,26 @@
 -- Reading a formula and a job: exactly the bytes that the grammar has.
-use Prim.Native.Nat.{ℕ, zero, suc, _+_, _*_, _≤_, _<_}
+use Prim.Native.Nat.{ℕ, zero, suc, _+_, _*_, _≤_}
 use native.Mathlib.Omega.{arith}
 use mathlib.Core.Bool.{Bool, true, false, _&&_}
 use mathlib.Core.List.{List, [], _∷_, _++_, append-assoc, append-nil}
 use mathlib.Core.Logic.{_↔_}
-use mathlib.Core.Path.{_≡_, refl, sym, ap, _∙_, subst, transport}
+use mathlib.Core.Path.{_≡_, refl, sym, ap, _∙_, subst}
 use borrow.Author.Tests.{le-leb, leb-true, eqb-true, eq-eqb}
 use lib.Dec.{eqb, leb}
-use lib.ListN.{length, getD, take, drop, length-append, length-drop, take-append-drop}
+use lib.ListN.{length, take, drop, length-append, length-drop, take-append-drop}
 use lib.Seq.{drop-append-seam, drop-drop, drop-length, length-take-le}
 use Rattle.laws.proofs.Never.{never}
 use Rattle.laws.proofs.Tests.{both-true}
-use Rattle.snesl.specs.declared.code.Variable.{Variable}
 use Rattle.snesl.specs.declared.refusal.Refusal.the-variants.{NoRecord, OverLimit, TooMany}
 use Rattle.snesl.specs.Ascii.{ascii}
-use Rattle.snesl.specs.Notation.{IN, VR, LT, IO, PL, SM, EA}
-use Rattle.snesl.specs.Limits.{mostBytes, mostInputs, mostNesting, mostRecords, mostDepth, lastVariable}
-use Rattle.snesl.specs.Records as raw
-use Rattle.snesl.specs.Records.{Raw, byteAt, markAt, variableAt, markIN, markVA, scan, scanned, Input, Declared, declared, inputFirst, inputAt, inputOk, inputsAt, Span, Texts, texts, spanFirst, spanAt, textsAt, Front, front, expressionAfter, inputsThen, frontOf, formulaEnd, readFormula, JobRead, job, textsThen, jobEnd, readJob}
-use Rattle.snesl.proofs.Formed.{FrontRead, front-read, formula-read, job-read}
+use Rattle.snesl.specs.Notation.{IN}
+use Rattle.snesl.specs.Limits.{mostBytes, mostInputs, mostNesting, mostDepth, lastVariable}
+use Rattle.snesl.specs.Records.{Raw, byteAt, markAt, markIN, markVA, Input, Declared, declared, inputFirst, inputAt, inputOk, inputsAt, Span, Texts, texts, spanFirst, spanAt, textsAt, Front, front, expressionAfter, inputsThen, frontOf, formulaEnd, readFormula, JobRead, job, textsThen, jobEnd, readJob}
+use Rattle.snesl.proofs.Formed.{FrontRead, formula-read, job-read}
 use Rattle.rules.specs.Grammar.{Names, Bytes, Spells, spells-var, spells-let, spells-const, spells-iota, spells-plus, spells-sum, spells-each, SpellsInputs, inputs-none, inputs-more, SpellsTexts, texts-none, texts-more, SpellsFront, SpellsJob}
-use Rattle.rules.proofs.Reading.Places.{At, at-fits, at-byte, at-none, at-first, at-rest, at-both, at-one}
+use Rattle.rules.proofs.Reading.Places.{At, at-fits, at-byte, at-none, at-first, at-rest, at-both}
 use Rattle.rules.proofs.Reading.Heads.{mark-there, mark-bytes, with-two}
-use Rattle.rules.proofs.Reading.Expressions.{spells-scans, Read, scans-spell}
+use Rattle.rules.proofs.Reading.Expressions.{spells-scans, scans-spell}
 
 -- ---- inputs, from bytes
 

@@ -1,10 +1,9 @@
 -- For every checked expression the translation rules derive code, which is that of `code` up to the grouping of `;`, and the tree of `tree`.
-use Prim.Native.Nat.{ℕ, zero, suc, _+_}
+use Prim.Native.Nat.{ℕ, suc, _+_}
 use native.Mathlib.Omega.{arith}
-use mathlib.Core.Bool.{true}
 use mathlib.Core.List.{List, [], _∷_, _++_}
 use mathlib.Core.Option.{Option, some, none}
-use mathlib.Core.Path.{_≡_, refl, sym, ap, _∙_, subst, transport}
+use mathlib.Core.Path.{_≡_, refl, sym, ap, _∙_, subst}
 use borrow.Author.Tests.{eq-eqb}
 use lib.IntN.{ℤ, pos}
 use lib.ListN.{length}
@@ -12,7 +11,7 @@ use Rattle.laws.proofs.Never.{never}
 use Rattle.snesl.specs.declared.code.Variable.{Variable}
 use Rattle.snesl.specs.declared.code.Transducer.the-variants.{Const, ToFlags, Usum, MapTwoPlus, ScanPlus, SumPlus}
 use Rattle.snesl.specs.Terms as terms
-use Rattle.snesl.specs.Terms.{_∋_, Term, listedTypes, All, ∅, _▹_, lookup}
+use Rattle.snesl.specs.Terms.{_∋_, Term, listedTypes, All, _▹_, lookup}
 use Rattle.snesl.specs.Trees.{Tree, leaf, node, inner, outer, root, order}
 use Rattle.snesl.specs.Transducers.{operands}
 use Rattle.snesl.specs.Programs as programs
@@ -21,16 +20,16 @@ use Rattle.snesl.specs.Translation as functions
 use Rattle.snesl.specs.Translation.{size, numbered, distrs, controlled, tree, code}
 use Rattle.snesl.specs.Records as raw
 use Rattle.snesl.specs.Records.{Raw}
-use Rattle.snesl.specs.Checking.{Name, Found, find, asInt, listedFirst, listedInts, listedNames, pointers}
+use Rattle.snesl.specs.Checking.{Name, find, asInt, listedFirst, listedInts, listedNames, pointers}
 use Rattle.snesl.proofs.Compiled.Freshness.{count-code}
-use Rattle.rules.specs.Names.{Env, named, Maps, MapsAll, maps-none, maps-more, envOf}
+use Rattle.rules.specs.Names.{Env, named, Maps, maps-none, maps-more, envOf}
 use Rattle.rules.specs.Typing.{calls-const, calls-iota, calls-plus, calls-sum}
 use Rattle.rules.specs.Xducers as xducers
 use Rattle.rules.specs.Xducers.{xducer}
 use Rattle.rules.specs.Instructions.{Svcode, nop, assign, withCtrl, seq, written}
 use Rattle.rules.specs.Trees.{STree, one, pair, ids, plainTree, treesOf}
 use Rattle.rules.specs.Agreement.{Translated}
-use Rattle.rules.specs.Translation.{dv, fv, Becomes, becomes-const, becomes-plus, becomes-iota, becomes-sum, Copies, copies-none, copies-more, Translates, translates-var, translates-let, translates-call, translates-each, regroup}
+use Rattle.rules.specs.Translation.{dv, fv, becomes-const, becomes-plus, becomes-iota, becomes-sum, Copies, copies-none, copies-more, Translates, translates-var, translates-let, translates-call, translates-each, regroup}
 use Rattle.rules.proofs.Names.{Looks, looking, looks-found, looks-int, looks-ints, LooksAtSequence, as-sequence, along}
 use Rattle.rules.proofs.Typing.{Resolved, resolved-var, resolved-let, resolved-const, resolved-iota, resolved-plus, resolved-sum, resolved-each}
 use Rattle.rules.proofs.Translation.Regrouped.{dv-grouped, fv-grouped, dv-written, fv-written}

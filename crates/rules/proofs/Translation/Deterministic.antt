@@ -7,7 +7,7 @@ use Rattle.snesl.specs.declared.code.Variable.{Variable}
 use Rattle.snesl.specs.Programs.{among, ascending}
 use Rattle.snesl.specs.Records as raw
 use Rattle.snesl.specs.Records.{Raw}
-use Rattle.rules.specs.Names.{Env, nothing, named, Maps, MapsAll}
+use Rattle.rules.specs.Names.{Env, named, Maps, MapsAll}
 use Rattle.rules.specs.Typing.{BuiltIn, Calls, calls-const, calls-iota, calls-plus, calls-sum}
 use Rattle.rules.specs.Xducers as xducers
 use Rattle.rules.specs.Instructions.{Svcode, nop, assign, withCtrl, seq}

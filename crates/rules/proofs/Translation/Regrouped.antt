@@ -2,13 +2,12 @@
 use Prim.Native.Nat.{ℕ, suc, _+_}
 use mathlib.Core.List.{List, [], _∷_, _++_, append-assoc, append-nil}
 use mathlib.Core.Option.{Option, some, none}
-use mathlib.Core.Path.{_≡_, refl, sym, ap, _∙_, subst}
-use native.Mathlib.Omega.{arith}
+use mathlib.Core.Path.{_≡_, refl, sym, ap, _∙_}
 use Rattle.snesl.specs.Transducers.{operands}
 use Rattle.snesl.specs.Programs as programs
-use Rattle.snesl.specs.Programs.{Program, done, define, _⨾_, count, without, member}
+use Rattle.snesl.specs.Programs.{Program, done, define, count, without, member}
 use Rattle.snesl.proofs.Compiled.Members.{without-append, without-none, without-twice}
-use Rattle.rules.specs.Xducers.{Kind, xducer}
+use Rattle.rules.specs.Xducers.{Kind}
 use Rattle.rules.specs.Instructions.{Svcode, nop, assign, withCtrl, seq, firstOf, when, kindIn, emptyOf, Stores, Runs, p-empty, p-xducer, p-wc-emp, p-wc-nonemp, p-seq, written}
 use Rattle.rules.specs.Translation.{dv, fv, regroup}
 use Rattle.rules.proofs.Instructions.Running.{of-nop, of-seq}

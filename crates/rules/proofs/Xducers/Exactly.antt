@@ -1,5 +1,5 @@
 -- `apply` on the streams of its operands makes exactly what the rules give.
-use Prim.Native.Nat.{ℕ, zero, suc, min}
+use Prim.Native.Nat.{ℕ, min}
 use mathlib.Core.Bool.{Bool, true, false, _&&_}
 use mathlib.Core.List.{List, [], _∷_, map}
 use mathlib.Core.Logic.{_↔_}
@@ -8,17 +8,15 @@ use mathlib.Core.Path.{_≡_, refl, sym, ap, _∙_, subst, transport}
 use borrow.Author.Tests.{eqb-true, eq-eqb}
 use lib.Dec.{eqb}
 use lib.IntN.{ℤ, pos}
-use lib.ListN.{length, replicate}
+use lib.ListN.{length}
 use Rattle.laws.proofs.Never.{never}
-use Rattle.laws.proofs.Tests.{both-true}
-use Rattle.snesl.specs.declared.code.StreamId.{StreamId}
 use Rattle.snesl.specs.declared.code.Transducer.{Transducer}
 use Rattle.snesl.specs.declared.code.Transducer.the-variants.{Const, ToFlags, Usum, MapTwoPlus, ScanPlus, Distr, SumPlus}
 use Rattle.snesl.specs.Streams.{Stream, ints, flags, units, Store, _!_}
 use Rattle.snesl.specs.Translation.{id}
 use Rattle.snesl.specs.Transducers as functions
-use Rattle.snesl.specs.Transducers.{Answer, made, unfit, negative, outside, unless, onInts, onFlags, lengthMisfit, firstOutside, exact, firstNegative, unary, pluses, misfit, spread, scans, sums, countF, alone, eachF, eachT, apply, operands}
-use Rattle.rules.specs.Xducers.{Kind, ofInts, ofFlags, ofUnits, Xducer, const, toFlags, usum, mapTwoPlus, scanPlus, distr, sumPlus, takes, gives, Loops, xducer, Fetches, fetches-none, fetches-more}
+use Rattle.snesl.specs.Transducers.{Answer, made, unfit, negative, outside, unless, onInts, onFlags, lengthMisfit, firstOutside, exact, firstNegative, pluses, misfit, scans, sums, alone, eachF, eachT, apply, operands}
+use Rattle.rules.specs.Xducers.{Kind, ofInts, ofFlags, Xducer, const, toFlags, usum, mapTwoPlus, scanPlus, distr, sumPlus, takes, gives, Loops, xducer, Fetches, fetches-none, fetches-more}
 use Rattle.rules.proofs.Xducers.Loops.{kind, loop-kinds, is-ints, is-flags, is-units}
 use Rattle.rules.proofs.Xducers.Itemwise as items
 use Rattle.rules.proofs.Xducers.Segmentwise as segments

@@ -1,18 +1,17 @@
 -- Const, ToFlags and MapTwo: a block takes one item of each input.
 use Prim.Native.Nat.{ℕ, zero, suc}
-use mathlib.Core.Bool.{Bool, true, false, _&&_}
+use mathlib.Core.Bool.{Bool, true, false}
 use mathlib.Core.List.{List, [], _∷_, _++_, map}
 use mathlib.Core.Option.{Option, some, none}
 use mathlib.Core.Path.{_≡_, refl, sym, ap, _∙_, subst, transport}
 use native.Mathlib.Omega.{arith}
-use lib.Dec.{eqb}
 use lib.IntN.{ℤ, pos, negsuc, _+ℤ_}
 use lib.ListN.{length, replicate}
 use Rattle.laws.proofs.Never.{never}
 use Rattle.snesl.specs.Values.{inRange}
-use Rattle.snesl.specs.Streams.{Stream, ints, flags, units}
-use Rattle.snesl.specs.Transducers.{Answer, made, unfit, negative, outside, unless, firstOutside, exact, firstNegative, unary, pluses, lengthMisfit}
-use Rattle.rules.specs.Xducers.{empty, Xducer, const, toFlags, mapTwoPlus, Joined, joined-ints, joined-flags, joined-units, JoinedAll, joined-none, joined-more, Unary, unary-none, unary-more, Block, block-const, block-toFlags, block-mapTwo, Loops, x-loop, x-term}
+use Rattle.snesl.specs.Streams.{ints, flags}
+use Rattle.snesl.specs.Transducers.{firstOutside, firstNegative, unary, pluses}
+use Rattle.rules.specs.Xducers.{const, toFlags, mapTwoPlus, joined-ints, joined-flags, joined-none, joined-more, Unary, unary-none, unary-more, block-const, block-toFlags, block-mapTwo, Loops, x-loop, x-term}
 
 pub ints-same : {xs ys : List ℤ} → ints xs ≡ ints ys → xs ≡ ys
 ints-same q = cc

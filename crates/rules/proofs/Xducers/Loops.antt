@@ -1,12 +1,12 @@
 -- What holds of every transducer's rules: their streams have its kinds, and a derivation for n + 1 units is a block and one for n units.
-use Prim.Native.Nat.{ℕ, zero, suc, _+_}
+use Prim.Native.Nat.{ℕ, suc, _+_}
 use mathlib.Core.Bool.{Bool}
 use mathlib.Core.List.{List, [], _∷_, _++_, map}
-use mathlib.Core.Path.{_≡_, refl, sym, ap, _∙_}
+use mathlib.Core.Path.{_≡_, refl, ap, _∙_}
 use lib.IntN.{ℤ}
 use Rattle.laws.proofs.Never.{never}
 use Rattle.snesl.specs.Streams.{Stream, ints, flags, units}
-use Rattle.rules.specs.Xducers.{Kind, ofInts, ofFlags, ofUnits, empty, Xducer, takes, gives, Joined, joined-ints, joined-flags, joined-units, JoinedAll, joined-none, joined-more, Block, block-const, block-toFlags, block-mapTwo, block-usum-F, block-usum-T, block-scan-F, block-scan-T, block-distr-F, block-distr-T, block-sum, Loops, x-loop, x-term}
+use Rattle.rules.specs.Xducers.{Kind, ofInts, ofFlags, ofUnits, empty, Xducer, takes, gives, Joined, joined-ints, joined-flags, joined-units, JoinedAll, joined-none, joined-more, Block, Loops, x-loop, x-term}
 
 abbrev pub kind : Stream → Kind
 kind (ints zs) = ofInts

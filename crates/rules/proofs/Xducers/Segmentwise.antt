@@ -3,14 +3,14 @@ use Prim.Native.Nat.{ℕ, zero, suc, _+_}
 use native.Mathlib.Omega.{arith}
 use mathlib.Core.Bool.{Bool, true, false}
 use mathlib.Core.List.{List, [], _∷_, _++_, map}
-use mathlib.Core.Option.{Option, some, none}
-use mathlib.Core.Path.{_≡_, refl, sym, ap, _∙_, subst, transport}
+use mathlib.Core.Option.{some, none}
+use mathlib.Core.Path.{_≡_, refl, sym, ap, _∙_, subst}
 use lib.IntN.{ℤ, pos, _+ℤ_}
 use Rattle.laws.proofs.Never.{never}
 use Rattle.snesl.specs.Values.{inRange}
 use Rattle.snesl.specs.Streams.{Stream, ints, flags, units}
-use Rattle.snesl.specs.Transducers.{Feed, alone, eachF, eachT, takes, fed, misfit, countF, spread, scans, sums, firstOutside}
-use Rattle.rules.specs.Xducers.{Xducer, usum, scanPlus, distr, sumPlus, Joined, joined-ints, joined-flags, joined-units, JoinedAll, joined-none, joined-more, Summed, summed-F, summed-T, Block, block-usum-F, block-usum-T, block-scan-F, block-scan-T, block-distr-F, block-distr-T, block-sum, Loops, x-loop, x-term}
+use Rattle.snesl.specs.Transducers.{Feed, alone, eachF, eachT, misfit, countF, spread, scans, sums, firstOutside}
+use Rattle.rules.specs.Xducers.{Xducer, usum, scanPlus, distr, sumPlus, joined-ints, joined-flags, joined-units, joined-none, joined-more, Summed, summed-F, summed-T, Block, block-usum-F, block-usum-T, block-scan-F, block-scan-T, block-distr-F, block-distr-T, block-sum, Loops, x-loop, x-term}
 use Rattle.rules.proofs.Xducers.Loops.{Parted, parted, whole}
 use Rattle.rules.proofs.Xducers.Itemwise.{ints-same, flags-same, first-same, tail-same, inside-first, first-inside}
 
