@@ -3,3 +3,4 @@ pub mod Stores
 pub mod Running
 pub mod Deriving
 pub mod Deterministic
+pub mod Needed

@@ -44,6 +44,7 @@ use Rattle.rules.proofs.Xducers.Exactly as Xducers
 use Rattle.rules.proofs.Instructions.Running as Running
 use Rattle.rules.proofs.Instructions.Deriving as Deriving
 use Rattle.rules.proofs.Instructions.Deterministic as Determined
+use Rattle.rules.proofs.Instructions.Needed as Needed
 use Rattle.rules.proofs.Translation.Deterministic as Deterministic
 use Rattle.rules.proofs.Translation.Derived as Translation
 use Rattle.rules.proofs.Correctness as Correctness
@@ -142,6 +143,18 @@ pub run-implies-the-rules : (p : Program) (s n : ℕ) (m m′ : State) (ids : Li
     → Agree ids σ (m .store)
     → Derived p s n ids σ m′
 run-implies-the-rules = Deriving.run-derives
+
+-- Well-formed code alone is not enough: code that uses a stream which its WithCtrl does not put out (not scoped), and a WithCtrl that is skipped although a stream
+-- that it takes in is not empty (not proper), are well-formed, run, and have no derivation.
+pub scoped-is-needed : WellFormed 1 Needed.hidden
+    × ((m′ : State) × (run boundless Needed.hidden 1 Needed.one-unit ≡ went m′))
+    × ((σ′ : Stores) → Runs (written 1 Needed.hidden) (Needed.mapping Needed.one-unit) 1 σ′ → ⊥)
+scoped-is-needed = (Needed.hidden-is-well-formed, Needed.hidden-runs, Needed.hidden-has-no-derivation)
+
+pub proper-is-needed : WellFormed 2 Needed.improper
+    × ((m′ : State) × (run boundless Needed.improper 1 Needed.no-units ≡ went m′))
+    × ((σ′ : Stores) → Runs (written 2 Needed.improper) (Needed.mapping Needed.no-units) 1 σ′ → ⊥)
+proper-is-needed = (Needed.improper-is-well-formed, Needed.improper-runs, Needed.improper-has-no-derivation)
 
 -- 002, Theorem 1.9: code has at most one store at its end, id by id, whether it is well-formed or not.
 pub theorem-1-9 : {p : Svcode} {σ σ′ σ″ : Stores} {c : ℕ} → Runs p σ c σ′ → Runs p σ c σ″ → (u : ℕ) → σ′ u ≡ σ″ u
