@@ -9,7 +9,7 @@ use lib.IntN.{ℤ, pos, _+ℤ_}
 use lib.ListN.{length, take, drop, replicate, length-drop}
 use Rattle.laws.proofs.Never.{never}
 use Rattle.snesl.specs.Transducers.{Feed, alone, eachF, eachT, takes, fed, misfit, countF, spread, scans, sums}
-use Rattle.flags.specs.Segments.{leading, wholes}
+use Rattle.flags.specs.Segments.{leading, wholes, totalFrom, running}
 use Rattle.flags.proofs.Clauses as clause
 
 -- what a segment of e F's takes of the stream beside it
@@ -17,15 +17,6 @@ abbrev pub taken : Feed → ℕ → ℕ
 taken alone e = 0
 taken eachF e = e
 taken eachT e = 1
-
--- a total that goes on, and the totals before each item
-unfoldable pub totalFrom : ℤ → List ℤ → ℤ
-totalFrom t [] = t
-totalFrom t (x ∷ xs) = totalFrom (t +ℤ x) xs
-
-unfoldable pub running : ℤ → List ℤ → List ℤ
-running t [] = []
-running t (x ∷ xs) = t ∷ running (t +ℤ x) xs
 
 same-some : {a b : ℕ} → _≡_ {A = Option ℕ} (some a) (some b) → a ≡ b
 same-some e = cc

@@ -3,6 +3,7 @@ use Prim.Native.Nat.{ℕ, zero, suc}
 use mathlib.Core.Bool.{Bool, true, false}
 use mathlib.Core.List.{List, [], _∷_}
 use mathlib.Core.Option.{Option, some, none}
+use lib.IntN.{ℤ, _+ℤ_}
 
 module _ {A : Type 0} (flag : A → Option Bool) where
   -- how many F's stand in front
@@ -16,3 +17,12 @@ module _ {A : Type 0} (flag : A → Option Bool) where
   wholes k true [] = none
   wholes k within (b ∷ bs) =
       elim (flag b) [ none ↦ none | some c ↦ elim c [ false ↦ wholes k true bs | true ↦ wholes (suc k) false bs ] ]
+
+-- of a segment's items: a total that goes on, and the totals before each of them
+unfoldable pub totalFrom : ℤ → List ℤ → ℤ
+totalFrom t [] = t
+totalFrom t (x ∷ xs) = totalFrom (t +ℤ x) xs
+
+unfoldable pub running : ℤ → List ℤ → List ℤ
+running t [] = []
+running t (x ∷ xs) = t ∷ running (t +ℤ x) xs

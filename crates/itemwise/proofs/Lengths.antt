@@ -6,32 +6,25 @@ use mathlib.Core.Option.{Option, some, none}
 use mathlib.Core.Path.{_≡_, refl, sym, _∙_, ap}
 use native.Mathlib.Numerals.{add-one}
 use native.Mathlib.Omega.{arith}
-use borrow.Author.Tests.{eqb-true, ltb-true}
-use lib.Dec.{eqb}
-use lib.IntN.{ℤ, pos, negsuc, _+ℤ_}
-use lib.ListN.{replicate}
-use lib.Signed.{ltZ}
+use borrow.Author.Tests.{eqb-true, le-ltb, ltb-true}
+use lib.Dec.{T, eqb}
+use lib.IntN.{ℤ, pos, negsuc, natAbs, _+ℤ_}
+use lib.ListN.{length, replicate}
+use lib.Signed.{ltZ, nonNeg}
 use Rattle.laws.proofs.Never.{never}
 use Rattle.snesl.specs.Streams.{bit}
 use Rattle.snesl.specs.Transducers.{lengthMisfit, pluses, unary, firstNegative}
 use Rattle.streams.specs.Walks.{told}
+use Rattle.streams.proofs.Ending.{told-nowhere, told-at}
 use Rattle.streams.specs.declared.fit.Misfit.{Misfit}
 use Rattle.streams.specs.declared.fit.Misfit.the-variants.{Nowhere, At}
 
-told-nowhere : (m : Option ℕ) → told m ≡ Nowhere → m ≡ none
-told-nowhere none e = refl
-told-nowhere (some k) e = never (cc)
-
-told-at : (m : Option ℕ) (k : ℕ) → told m ≡ At k → m ≡ some k
-told-at none k e = never (cc)
-told-at (some j) k e = cc
-
 module _ (n l m : ℕ) {r : Misfit} (q : r ≡ told (lengthMisfit n l m)) where
   pub uneven : (k : ℕ) → r ≡ At k → lengthMisfit n l m ≡ some k
-  uneven k e = told-at (lengthMisfit n l m) k (sym q ∙ e)
+  uneven k e = told-at (lengthMisfit n l m) k q e
 
   pub fit : r ≡ Nowhere → lengthMisfit n l m ≡ none
-  fit e = told-nowhere (lengthMisfit n l m) (sym q ∙ e)
+  fit e = told-nowhere (lengthMisfit n l m) q e
 
   pub even : r ≡ Nowhere → (l ≡ n) × (m ≡ n)
   even e = go (eqb l n) (eqb m n) refl refl (fit e)
@@ -53,6 +46,14 @@ pub pluses-end : (k : ℕ) (ys : List ℤ) → pluses k [] ys ≡ []
 unfolding pluses
 pluses-end k ys = refl
 
+pub pluses-long : (n k : ℕ) (xs ys : List ℤ) → length xs ≡ n → length ys ≡ n → length (pluses k xs ys) ≡ n
+unfolding pluses
+pluses-long n k [] ys p q = p
+pluses-long n k (x ∷ xs) [] p q = q
+pluses-long n k (x ∷ xs) (y ∷ ys) p q =
+    let e : length xs ≡ length ys = omega arith in
+    ap suc (pluses-long (length xs) (suc k) xs ys refl (sym e)) ∙ p
+
 -- ---- ToFlags
 
 pub negative-here : (k : ℕ) (z : ℤ) (zs : List ℤ) → ltZ z (pos 0) ≡ true → firstNegative k (z ∷ zs) ≡ some k
@@ -69,14 +70,32 @@ pub negative-none : (k : ℕ) → firstNegative k [] ≡ none
 unfolding firstNegative
 negative-none k = refl
 
-bits : (m : ℕ) (us : List Bool) → map bit (replicate m false ++ true ∷ us) ≡ replicate m (pos 0) ++ pos 1 ∷ [] ++ map bit us
-bits zero us = refl
-bits (suc m) us = ap (λ l. pos 0 ∷ l) (bits m us)
-
-pub unary-next : (m : ℕ) (zs : List ℤ) → map bit (unary (pos m ∷ zs)) ≡ replicate m (pos 0) ++ pos 1 ∷ [] ++ map bit (unary zs)
+pub unary-next : (m : ℕ) (zs : List ℤ) → map bit (unary (pos m ∷ zs)) ≡ map bit (replicate m false ++ true ∷ []) ++ map bit (unary zs)
 unfolding unary
-unary-next m zs = bits m (unary zs)
+unary-next m zs = go m
+  where
+    go : (k : ℕ) → map bit (replicate k false ++ true ∷ unary zs) ≡ map bit (replicate k false ++ true ∷ []) ++ map bit (unary zs)
+    go zero = refl
+    go (suc k) = ap (λ l. pos 0 ∷ l) (go k)
 
-pub unary-end : map bit (unary []) ≡ []
+pub unary-long : (m : ℕ) (zs : List ℤ) → length (unary (pos m ∷ zs)) ≡ m + 1 + length (unary zs)
+unfolding unary
+unary-long m zs = go m
+  where
+    go : (k : ℕ) → length (replicate k false ++ true ∷ unary zs) ≡ k + 1 + length (unary zs)
+    go zero = omega arith
+    go (suc k) = ap suc (go k) ∙ omega arith
+
+pub unary-end : unary [] ≡ []
 unfolding unary
 unary-end = refl
+
+-- a number of them that is not negative
+pub nonnegative : (z : ℤ) → ltZ z (pos 0) ≡ false → (pos (natAbs z) ≡ z) × T (nonNeg z)
+nonnegative (pos m) e = (refl, tt)
+nonnegative (negsuc m) e = never (cc)
+
+pub first-not : (k : ℕ) (z : ℤ) (zs : List ℤ) → firstNegative k (z ∷ zs) ≡ none → ltZ z (pos 0) ≡ false
+unfolding firstNegative
+first-not k (pos m) zs e = le-ltb m 0 (omega arith)
+first-not k (negsuc m) zs e = never (cc)

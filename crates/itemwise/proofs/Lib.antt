@@ -1,2 +1,3 @@
--- What both share: one item for each unit.
+-- What both share: one item for each unit; the exact sum of two.
 pub mod Lengths
+pub mod Pairs

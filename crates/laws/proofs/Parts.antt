@@ -7,8 +7,8 @@ use native.Mathlib.Numerals.{add-one}
 use native.Mathlib.Decide.{decLe}
 use native.Mathlib.Nat.{add-zero, zero-add, suc-add}
 use native.Mathlib.Omega.{arith}
-use lib.ListN.{length, getD, take, drop, set, replicate, length-take, length-drop, length-replicate, drop-of-length-le}
-use lib.Seq.{drop-cons, getD-take, getD-drop, take-all, take-nil, take-take, take-set-le, sets, sets-eq}
+use lib.ListN.{length, getD, take, drop, set, replicate, length-take, length-drop, length-replicate, drop-of-length-le, take-append-drop}
+use lib.Seq.{drop-append-le, drop-cons, drop-drop, drop-set-lt, getD-take, getD-drop, take-all, take-nil, take-take, take-set-le, sets, sets-eq}
 use Rattle.laws.specs.Parts.{part, written, cleared}
 
 module _ {A : Type 0} where
@@ -34,14 +34,37 @@ module _ {A : Type 0} where
       let short : length (part at n l) ≤ n = omega arith in
       drop-of-length-le (part at n l) short
 
-  -- two buffers that agree before `out`
-  pub same-below : (out : ℕ) (new old : List A) (i : ℕ) (d : A) → take out new ≡ take out old → i < out → getD new i d ≡ getD old i d
-  same-below out new old i d e h = sym (getD-take out new i d h) ∙ ap (λ l. getD l i d) e ∙ getD-take out old i d h
+  -- a walk that has come to the end
+  pub part-over : (at n i : ℕ) (l : List A) → at + n ≤ length l → i ≤ n → n ≤ i → drop i (part at n l) ≡ []
+  part-over at n i l h p q = let e : i ≡ n = omega arith in ap (λ m. drop m (part at n l)) e ∙ part-end at n l h
+
+  -- what the buffer has from there on
+  pub part-behind : (at n i : ℕ) (l : List A) → at + n ≤ length l → i ≤ n → drop (at + i) l ≡ drop i (part at n l) ++ drop (at + n) l
+  unfolding part
+  part-behind at n i l h p =
+      let long : length (take n (drop at l)) ≡ n = simp (length-take, length-drop) (omega arith) in
+      sym (drop-drop i at l)
+      ∙ ap (drop i) (sym (take-append-drop n (drop at l)))
+      ∙ drop-append-le i (take n (drop at l)) (drop n (drop at l)) (omega arith)
+      ∙ ap (λ r. drop i (take n (drop at l)) ++ r) (drop-drop n at l)
 
   take-drop : (at n : ℕ) (l : List A) → take n (drop at l) ≡ drop at (take (at + n) l)
   take-drop zero n l = rw zero-add
   take-drop (suc a) n [] = rw (suc-add, take-nil)
   take-drop (suc a) n (x ∷ l) = rw suc-add (take-drop a n l)
+
+  -- a part of a part
+  pub part-part : (at n i m : ℕ) (l : List A) → i + m ≤ n → take m (drop i (part at n l)) ≡ part (at + i) m l
+  unfolding part
+  part-part at n i m l h =
+      take-drop i m (take n (drop at l))
+      ∙ ap (drop i) (take-take (i + m) n (drop at l) h)
+      ∙ sym (take-drop i m (drop at l))
+      ∙ ap (take m) (drop-drop i at l)
+
+  -- two buffers that agree before `out`
+  pub same-below : (out : ℕ) (new old : List A) (i : ℕ) (d : A) → take out new ≡ take out old → i < out → getD new i d ≡ getD old i d
+  same-below out new old i d e h = sym (getD-take out new i d h) ∙ ap (λ l. getD l i d) e ∙ getD-take out old i d h
 
   pub same-part : (out : ℕ) (new old : List A) (at n : ℕ) → take out new ≡ take out old → at + n ≤ out → part at n new ≡ part at n old
   unfolding part
@@ -61,6 +84,10 @@ module _ {A : Type 0} where
   pub take-sets : (vs l : List A) (n i : ℕ) → n ≤ i → take n (sets l i vs) ≡ take n l
   take-sets [] l n i h = refl
   take-sets (v ∷ vs) l n i h = take-sets vs (set l i v) n (suc i) (omega arith) ∙ take-set-le n l i v h
+
+  pub drop-sets : (vs l : List A) (n i : ℕ) → i + length vs ≤ n → drop n (sets l i vs) ≡ drop n l
+  drop-sets [] l n i h = refl
+  drop-sets (v ∷ vs) l n i h = drop-sets vs (set l i v) n (suc i) (omega arith) ∙ drop-set-lt n l i v (omega arith)
 
   pub sets-written : (out : ℕ) (w l : List A) → out + length w ≤ length l → sets l out w ≡ written out w l
   unfolding written

@@ -3,15 +3,14 @@ use Prim.Native.Nat.{ℕ, suc, _+_, _-_, _≤_, _<_, _^_}
 use mathlib.Core.Path.{_≡_, refl, _∙_, ap}
 use mathlib.Core.Bool.{Bool, true, false, cond}
 use native.Mathlib.Omega.{arith}
+use borrow.Author.Tests.{ltb-true}
 use lib.Dec.{ltb}
 use lib.IntN.{ℤ, pos, negsuc, subℕ, _+ℤ_}
 use lib.Signed.{mag}
 use mir.Facts.{toZ-ofZ}
 use mir.Syntax.{w32, w64}
 use mir.Val.{SFits, toZ, ofZ}
-use Rattle.laws.specs.declared.range.Sum.the-variants.{Fits, Out}
-use Rattle.laws.specs.Range.{narrowed}
-use Rattle.laws.proofs.Never.{never}
+use Rattle.laws.specs.Range.{fitting, heldOf}
 
 mag-sub : (a b : ℕ) → mag (subℕ a b) ≤ a + b
 mag-sub a b = go (ltb a b)
@@ -38,21 +37,18 @@ wide x h = let s : SFits w64 x = record { sfits = omega arith } in ap (λ y. toZ
 pub fits-wide : (x : ℤ) → mag x < 2 ^ 31 → SFits w64 (toZ w32 (ofZ w32 x))
 fits-wide x h = rw (read x h) (record { sfits = omega arith })
 
--- ---- what `narrow` answered
+-- ---- a number held to 32 bits
 
-narrow-cases : (t : Bool) (z : ℤ) → ltb (mag z) 2147483648 ≡ t → narrowed z ≡ elim t [ true ↦ Fits z | false ↦ Out ]
-narrow-cases t z e = rw (narrowed, e)
+pub held-inside : (z : ℤ) → fitting z ≡ true → heldOf z ≡ z
+held-inside z e = λ i. elim (e i) [ true ↦ z | false ↦ pos 0 ]
 
-pub narrow-fits : (z x : ℤ) → narrowed z ≡ Fits x → (x ≡ z) × (ltb (mag z) 2147483648 ≡ true)
-narrow-fits z x e = go (ltb (mag z) 2147483648) refl
+pub held-outside : (z : ℤ) → fitting z ≡ false → heldOf z ≡ pos 0
+held-outside z e = λ i. elim (e i) [ true ↦ z | false ↦ pos 0 ]
+
+-- what is stored of it is in range
+pub held-fits : (z : ℤ) → mag (heldOf z) < 2 ^ 31
+held-fits z = go (fitting z) refl
   where
-    go : (t : Bool) → ltb (mag z) 2147483648 ≡ t → (x ≡ z) × (ltb (mag z) 2147483648 ≡ true)
-    go true q = let f : narrowed z ≡ Fits z = narrow-cases true z q in (cc, q)
-    go false q = let f : narrowed z ≡ Out = narrow-cases false z q in never (cc)
-
-pub narrow-out : (z : ℤ) → narrowed z ≡ Out → ltb (mag z) 2147483648 ≡ false
-narrow-out z e = go (ltb (mag z) 2147483648) refl
-  where
-    go : (t : Bool) → ltb (mag z) 2147483648 ≡ t → ltb (mag z) 2147483648 ≡ false
-    go true q = let f : narrowed z ≡ Fits z = narrow-cases true z q in never (cc)
-    go false q = q
+    go : (b : Bool) → fitting z ≡ b → mag (heldOf z) < 2 ^ 31
+    go true e = rw (held-inside z e) (omega (arith, ltb-true (mag z) 2147483648 e))
+    go false e = rw (held-outside z e) (omega arith)

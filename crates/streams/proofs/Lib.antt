@@ -1,4 +1,5 @@
+pub mod Ending
+pub mod Filling
 pub mod Turns
-pub mod Running
 pub mod Reading
 pub mod Store

@@ -1,26 +1,21 @@
 -- The stream buffer as a store: its content up to `room` is the streams one after another. Where a stream stands, that snesl's transducers on the store answer what the
--- calls on those parts of the buffer do, and that an output which was made is the store's next stream.
-use Prim.Native.Nat.{ℕ, zero, suc, _+_, _-_, _≤_}
-use mathlib.Core.Bool.{Bool, true, false}
-use mathlib.Core.List.{List, [], _∷_, _++_, append-assoc, append-nil}
+-- calls on those parts of the buffer do.
+use Prim.Native.Nat.{ℕ, zero, suc, _+_, _≤_}
+use mathlib.Core.Bool.{Bool}
+use mathlib.Core.List.{List, [], _∷_, _++_, append-nil}
 use mathlib.Core.Option.{some}
 use mathlib.Core.Path.{_≡_, refl, sym, _∙_, ap}
 use native.Mathlib.Omega.{arith}
-use borrow.Author.Tests.{leb-true}
-use lib.Dec.{leb}
 use lib.IntN.{ℤ, pos}
 use lib.ListN.{length, take, drop, length-append}
 use lib.Seq.{take-append-seam, drop-append-add}
-use Rattle.laws.specs.Parts.{part, written, cleared}
+use Rattle.laws.specs.Parts.{part}
 use Rattle.laws.proofs.Never.{never}
 use Rattle.laws.proofs.Parts.{same-part}
 use Rattle.snesl.specs.declared.code.StreamId.{StreamId}
 use Rattle.snesl.specs.declared.code.Transducer.the-variants.{Const, ToFlags, Usum, MapTwoPlus, ScanPlus, Distr, SumPlus}
-use Rattle.snesl.specs.Streams.{Stream, ints, flags, units, len, elements, Store, _!_, contents, room}
-use Rattle.snesl.specs.Transducers.{Answer, made, unfit, unless, exact, eachF, eachT, alone, flagOf, apply, onInts, onFlags, constant, toFlags, usum, mapTwoPlus, scanPlus, distr, sumPlus}
-use Rattle.streams.specs.Answers.{Answers, answered, after}
-use Rattle.streams.specs.declared.output.Output.{Output}
-use Rattle.streams.specs.declared.output.Output.the-variants.{Made, NoRoom}
+use Rattle.snesl.specs.Streams.{Stream, ints, flags, units, elements, Store, _!_, contents, room}
+use Rattle.snesl.specs.Transducers.{made, unfit, unless, exact, eachF, eachT, alone, flagOf, apply, onInts, onFlags, constant, toFlags, usum, mapTwoPlus, scanPlus, distr, sumPlus}
 use Rattle.streams.proofs.Reading.{on-bits}
 
 -- ---- where a stream stands
@@ -69,48 +64,6 @@ stands {buf} {σ} h i a e =
       within = s .within;
       content = same-part (room σ) buf (contents σ) (place σ i) (length (elements a)) (h .content ∙ sym t) (s .within) ∙ s .content;
     }
-
--- ---- the next stream
-
-contents-next : (σ : Store) (s : Stream) → contents (σ ++ s ∷ []) ≡ contents σ ++ elements s
-unfolding contents
-contents-next [] s = append-nil (elements s)
-contents-next (a ∷ σ) s = ap (λ l. elements a ++ l) (contents-next σ s) ∙ sym (append-assoc (elements a) (contents σ) (elements s))
-
-has-room : (r : Output) (m k : ℕ) (t : Bool) → r ≡ elim t [ true ↦ Made k | false ↦ NoRoom ] → r ≡ Made m → (t ≡ true) × (m ≡ k)
-has-room r m k true e p = (refl, cc)
-has-room r m k false e p = never (cc)
-
--- an output that was made at the end of a store: so many elements were told, and the buffer holds the store with one more stream
-pub next : {buf new : List ℤ} {σ : Store} {s : Stream} {a : Answer} {r : Output} {m : ℕ} → Holds buf σ → Answers (room σ) buf a r new → a ≡ made s → r ≡ Made m →
-    (m ≡ len s) × Holds new (σ ++ s ∷ [])
-unfolding written
-next {buf} {new} {σ} {s} {a} {r} {m} h w p q =
-    let told = has-room r m (len s) (leb (length (elements s)) (length buf - room σ)) (w .says ∙ ap (answered (length buf - room σ)) p) q in
-    let space : length (elements s) ≤ length buf - room σ = leb-true (length (elements s)) (length buf - room σ) (told .0) in
-    let whole : contents (σ ++ s ∷ []) ≡ contents σ ++ elements s = contents-next σ s in
-    let rest : List ℤ = drop (room σ + length (elements s)) buf in
-    let is : new ≡ (contents σ ++ elements s) ++ rest =
-    w .leaves
-    ∙ ap (after (room σ) buf) p
-    ∙ (λ i. elim (told .0 i) [ true ↦ written (room σ) (elements s) buf | false ↦ cleared (pos 0) (room σ) buf ])
-    ∙ ap (λ l. l ++ elements s ++ rest) (h .content) in
-    let total : length new ≡ length (contents σ ++ elements s) + length rest = ap length is ∙ length-append (contents σ ++ elements s) rest in
-    let grown : room (σ ++ s ∷ []) ≡ length (contents σ ++ elements s) = ap length whole in (
-      told .1,
-      record {
-        content =
-            (λ i. take (grown i) (is i)) ∙ take-append-seam (contents σ ++ elements s) rest ∙ sym whole;
-        fits = omega arith;
-      },
-    )
-
--- units take no room: a buffer holds the store with one more stream of them as it is
-pub next-units : {buf : List ℤ} {σ : Store} (n : ℕ) → Holds buf σ → Holds buf (σ ++ units n ∷ [])
-next-units {buf} {σ} n h =
-    let whole : contents (σ ++ units n ∷ []) ≡ contents σ = contents-next σ (units n) ∙ append-nil (contents σ) in
-    let grown : room (σ ++ units n ∷ []) ≡ room σ = ap length whole in
-    record { content = ap (λ k. take k buf) grown ∙ h .content ∙ sym whole; fits = omega (arith, h .fits) }
 
 -- ---- snesl's transducers on a store, by the elements that stand in the buffer
 

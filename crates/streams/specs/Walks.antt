@@ -1,60 +1,52 @@
--- What the private functions answer: the walks behind the transducers, and the small tests that they share.
-use Prim.Native.Nat.{ℕ, _+_, _-_, _≤_}
+-- What the functions behind the transducers answer: the small tests that they share.
+use Prim.Native.Nat.{ℕ}
 use mathlib.Core.Bool.{Bool, true, false, _&&_}
-use mathlib.Core.List.{List}
+use mathlib.Core.List.{List, [], _∷_}
 use mathlib.Core.Option.{Option, some, none}
-use mathlib.Core.Path.{_≡_}
-use lib.Dec.{leb}
-use lib.IntN.{ℤ, pos}
-use lib.ListN.{length, take}
-use lib.Seq.{sets}
-use Rattle.laws.specs.Parts.{cleared}
-use Rattle.snesl.specs.Streams.{Stream, elements}
-use Rattle.snesl.specs.Transducers.{Answer, made}
-use Rattle.streams.specs.Answers.{answered}
+use lib.IntN.{ℤ}
+use Rattle.snesl.specs.Values.{inRange}
+use Rattle.flags.specs.declared.reading.Flag.{Flag}
+use Rattle.flags.specs.declared.reading.Flag.the-variants as flag
 use Rattle.streams.specs.declared.fit.Misfit.{Misfit}
 use Rattle.streams.specs.declared.fit.Misfit.the-variants.{Nowhere, At}
 use Rattle.streams.specs.declared.fit.Turn.{Turn}
-use Rattle.streams.specs.declared.fit.Turn.the-variants as S
+use Rattle.streams.specs.declared.fit.Turn.the-variants.{On, Stop}
 use Rattle.streams.specs.declared.output.Output.{Output}
-use Rattle.streams.specs.declared.output.Output.the-variants.{Made, Unfit, Negative, Outside, NoRoom}
+use Rattle.streams.specs.declared.output.Output.the-variants.{Negative, Outside, NoRoom}
 
 abbrev pub told : Option ℕ → Misfit
 told none = Nowhere
 told (some k) = At k
-
-abbrev pub refused : Misfit → ℕ → Output
-refused Nowhere k = Outside k
-refused (At u) k = Unfit u
 
 -- where there is no room
 abbrev pub toldNegative : Option ℕ → Output
 toldNegative none = NoRoom
 toldNegative (some k) = Negative k
 
-abbrev pub counted : (room n : ℕ) → Output
-counted room n = elim (leb n room) [ true ↦ Made n | false ↦ NoRoom ]
+abbrev pub toldOutside : Option ℕ → Output
+toldOutside none = NoRoom
+toldOutside (some k) = Outside k
 
-abbrev pub pass : Bool → Turn → Turn
-pass true s = s
-pass false s = S.Misfit
+-- a flag that takes an item or not, where one is left or not
+abbrev pub taking : (takes left : Bool) (ended : ℕ) → Turn
+taking false left ended = On 0 ended
+taking true true ended = On 1 ended
+taking true false ended = Stop
 
--- a flag, if it is one, where a segment is due and the flag has what it takes
-abbrev pub steps : Option Bool → (due f t : Bool) → Turn
-steps none due f t = S.Misfit
-steps (some false) due f t = pass (due && f) S.False
-steps (some true) due f t = pass (due && t) S.True
+-- a flag, if it is one, where a segment is due or not
+abbrev pub steps : Flag → (due left f t : Bool) → Turn
+steps b false left f t = Stop
+steps flag.F true left f t = taking f left 0
+steps flag.T true left f t = taking t left 1
+steps flag.Neither true left f t = Stop
 
-abbrev pub settled : Output → (out : ℕ) → List ℤ → List ℤ
-settled (Made n) out l = l
-settled (Unfit k) out l = cleared (pos 0) out l
-settled (Negative k) out l = cleared (pos 0) out l
-settled (Outside k) out l = cleared (pos 0) out l
-settled NoRoom out l = cleared (pos 0) out l
+-- how many items so many F's and T's take
+abbrev pub wantedBy : (f t : Bool) (fs ts : ℕ) → ℕ
+wantedBy true t fs ts = fs
+wantedBy false true fs ts = ts
+wantedBy false false fs ts = 0
 
--- A walk at `out` answers r and leaves `mid` of `old`, where snesl's answer is a: the output is there if it has room; what stands before `out` is kept.
-pub record Walked (out : ℕ) (old : List ℤ) (a : Answer) (r : Output) (mid : List ℤ) : Type 0 where
-  pub says : r ≡ answered (length old - out) a
-  pub kept : take out mid ≡ take out old
-  pub same : length mid ≡ length old
-  pub wrote : (s : Stream) → a ≡ made s → out + length (elements s) ≤ length old → mid ≡ sets old out (elements s)
+-- whether every exact result is in range
+unfoldable pub allInside : List (ℕ × ℤ) → Bool
+allInside [] = true
+allInside (r ∷ rs) = inRange (r .1) && allInside rs

@@ -3,7 +3,6 @@ ghost use Prim.Native.Nat.{_≤_};
 ghost use lib.ListN.{length};
 ghost use Rattle.snesl.specs.Transducers as snesl;
 ghost use Rattle.streams.specs.Answers.{Answers};
-use crate::buffer::clear;
 use crate::buffer::fill;
 use crate::output::Output;
 
@@ -12,7 +11,6 @@ pub fn constant(buf: &mut [i32], out: usize, n: usize, z: i32) -> Output
     ensures { λ r. ⌜ Answers out (now (buf .entry)) (snesl.constant z n) r (now (buf .exit)) ⌝ }
 {
     if buf.len() - out < n {
-        clear(buf, out);
         return Output::NoRoom;
     }
     fill(buf, out, out + n, z);

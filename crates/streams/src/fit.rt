@@ -1,12 +1,17 @@
-// Whether streams fit each other, which comes before all else that a transducer answers.
+// Whether streams fit each other, which comes before all else that a transducer answers, and before anything is written.
 ghost use mathlib.Core.Path.{_≡_};
+ghost use mathlib.Core.Bool.{false, true};
 ghost use mathlib.Core.List.{List};
-ghost use Prim.Native.Nat.{_+_, _-_, _≤_, min};
+ghost use Prim.Native.Nat.{_+_, _≤_, min};
 ghost use lib.IntN.{ℤ};
-ghost use lib.ListN.{length, drop};
+ghost use lib.ListN.{length};
 ghost use Rattle.laws.specs.Parts.{part};
-ghost use Rattle.snesl.specs.Transducers.{eachF, flagOf, lengthMisfit, misfit};
-ghost use Rattle.streams.specs.Walks.{steps, told};
+ghost use Rattle.snesl.specs.Transducers.{Feed, takes, flagOf, lengthMisfit, misfit};
+ghost use Rattle.streams.specs.Walks.{steps, taking, told, wantedBy};
+use flags::flag_at;
+use flags::reading::Flag;
+use flags::reading::Shape;
+use flags::segments;
 
 // The first element at which streams don't fit, if there is one.
 pub enum Misfit {
@@ -14,11 +19,10 @@ pub enum Misfit {
     At(usize),
 }
 
-// What a flag does to a walk: go on within the segment, go on to the next one, or stop.
+// What a flag does to a walk: it takes so many items and ends so many segments, or it doesn't fit.
 pub enum Turn {
-    False,
-    True,
-    Misfit,
+    On(usize, usize),
+    Stop,
 }
 
 fn lesser(a: usize, b: usize) -> usize
@@ -39,61 +43,91 @@ pub fn lengths(n: usize, l: usize, m: usize) -> Misfit
     Misfit::At(lesser(n, lesser(l, m)))
 }
 
-// The flag z, where a segment is still due if `due`, an F has what it takes if `f`, and a T if `t`.
-pub fn step(z: i32, due: bool, f: bool, t: bool) -> Turn
-    ensures { λ r. ⌜ r ≡ steps (flagOf z) due f t ⌝ }
+// How many items so many F's and T's take.
+fn wanted(f: bool, t: bool, fs: usize, ts: usize) -> usize
+    ensures { λ r. ⌜ r ≡ wantedBy f t fs ts ⌝ }
 {
-    if due {
-        if z == 0 {
-            if f {
-                return Turn::False;
-            }
-            return Turn::Misfit;
-        }
-        if z == 1 {
-            if t {
-                return Turn::True;
-            }
-            return Turn::Misfit;
-        }
+    if f {
+        return fs;
     }
-    Turn::Misfit
+    if t {
+        return ts;
+    }
+    0
 }
 
-// The flags from `start` on, of `len` that stand at `at`: each F takes an item, of which `left` are left, and `done` segments of n are done.
-pub fn from(
+// Flags under n units, and beside them so many items, of which an F takes one if `f` and a T if `t`. Streams that fit are told by their counts; only
+// where they don't is the element looked for.
+pub fn fits(buf: &[i32], n: usize, at: usize, len: usize, items: usize, f: bool, t: bool) -> Misfit
+    requires { ⌜ at + len ≤ length (now buf) ⌝ }
+    ensures { λ r. ⌜ ((feed : Feed) → takes feed false ≡ f → takes feed true ≡ t → (xs : List ℤ) → length xs ≡ items → r ≡ told (misfit flagOf feed 0 n (part at len (now (buf .entry))) xs)) ⌝ }
+{
+    if let Shape::Whole(m) = segments(buf, at, len) {
+        if m == n {
+            if wanted(f, t, len - n, n) == items {
+                return Misfit::Nowhere;
+            }
+        }
+    }
+    first_misfit(buf, n, at, len, items, f, t)
+}
+
+fn take(takes: bool, left: bool, ended: usize) -> Turn
+    ensures { λ r. ⌜ r ≡ taking takes left ended ⌝ }
+{
+    if takes {
+        if left {
+            return Turn::On(1, ended);
+        }
+        return Turn::Stop;
+    }
+    Turn::On(0, ended)
+}
+
+// One flag, where a segment is still due if `due` and an item is left if `left`.
+fn step(flag: Flag, due: bool, left: bool, f: bool, t: bool) -> Turn
+    ensures { λ r. ⌜ r ≡ steps flag due left f t ⌝ }
+{
+    if due {
+        match flag {
+            Flag::F => return take(f, left, 0),
+            Flag::T => return take(t, left, 1),
+            Flag::Neither => return Turn::Stop,
+        }
+    }
+    Turn::Stop
+}
+
+// The same, flag by flag: j items are taken and k segments done.
+fn first_misfit(
     buf: &[i32],
     n: usize,
     at: usize,
     len: usize,
-    start: usize,
-    left: usize,
-    done: usize,
+    items: usize,
+    f: bool,
+    t: bool,
 ) -> Misfit
-    requires { ⌜ (at + len ≤ length (now buf)) × (start ≤ len) × (done ≤ n) ⌝ }
-    ensures { λ r. ⌜ ((xs : List ℤ) → length xs ≡ left → r ≡ told (misfit flagOf eachF done (n - done) (drop start (part at len (now (buf .entry)))) xs)) ⌝ }
+    requires { ⌜ at + len ≤ length (now buf) ⌝ }
+    ensures { λ r. ⌜ ((feed : Feed) → takes feed false ≡ f → takes feed true ≡ t → (xs : List ℤ) → length xs ≡ items → r ≡ told (misfit flagOf feed 0 n (part at len (now (buf .entry))) xs)) ⌝ }
 {
-    let mut i = start;
+    let mut i = 0;
     let mut j = 0;
-    let mut k = done;
+    let mut k = 0;
     while i < len {
-        let z = buf[at + i];
-        match step(z, k < n, j < left, true) {
-            Turn::False => {
+        match step(flag_at(buf, at + i), k < n, j < items, f, t) {
+            Turn::On(taken, ended) => {
                 i += 1;
-                j += 1;
+                j += taken;
+                k += ended;
             }
-            Turn::True => {
-                i += 1;
-                k += 1;
-            }
-            Turn::Misfit => return Misfit::At(k),
+            Turn::Stop => return Misfit::At(k),
         }
     }
     if k < n {
         return Misfit::At(k);
     }
-    if j < left {
+    if j < items {
         return Misfit::At(k);
     }
     Misfit::Nowhere

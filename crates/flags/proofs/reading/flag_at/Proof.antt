@@ -7,8 +7,6 @@ use Rattle.flags.specs.Flags.{flagFor}
 use Rattle.flags.proofs.Stored.{zero-flag, one-flag, no-flag}
 use Rattle.flags.proofs.reading.flag_at.Statement.{statement}
 use Rattle.flags.proofs.reading.flag_at.Tie as tie
-use Rattle.flags.proofs.reading.flag_at.Reads as reads
-use Rattle.flags.proofs.reading.flag_at.Lts as lts
 
 mul-z : tie.Need-mul-z
 mul-z c = omega arith

@@ -17,8 +17,6 @@ use Rattle.flags.proofs.Clauses as clause
 use Rattle.flags.proofs.Stored.{zero-flag, other-flag}
 use Rattle.flags.proofs.reading.next_end.Statement.{statement}
 use Rattle.flags.proofs.reading.next_end.Tie as tie
-use Rattle.flags.proofs.reading.next_end.Reads as reads
-use Rattle.flags.proofs.reading.next_end.Lts as lts
 
 record Head (buf : List ℤ) (at from i : ℕ) : Type 0 where
   within : leading flagOf (drop (at + i) buf) < length (drop (at + i) buf)

@@ -21,8 +21,6 @@ use Rattle.flags.proofs.Clauses as clause
 use Rattle.flags.proofs.Stored.{zero-flag, one-flag, no-flag}
 use Rattle.flags.proofs.reading.segments.Statement.{statement}
 use Rattle.flags.proofs.reading.segments.Tie as tie
-use Rattle.flags.proofs.reading.segments.Reads as reads
-use Rattle.flags.proofs.reading.segments.Lts as lts
 
 -- what is told of flags, so far clean or not
 abbrev told : (clean : Bool) → Option ℕ → Option ℕ

@@ -12,8 +12,6 @@ use Rattle.laws.proofs.Emits.{Emits}
 use Rattle.snesl.specs.Streams.{bit}
 use Rattle.flags.proofs.writing.put_segment.Statement.{statement}
 use Rattle.flags.proofs.writing.put_segment.Tie as tie
-use Rattle.flags.proofs.writing.put_segment.Reads as reads
-use Rattle.flags.proofs.writing.put_segment.Lts as lts
 
 -- what is still to come
 abbrev rest : ℕ → List ℤ

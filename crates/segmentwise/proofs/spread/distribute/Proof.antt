@@ -2,109 +2,57 @@
 mod Turn
 use Prim.Native.Nat.{_-_}
 use native.Mathlib.Omega.{arith}
-use borrow.Author.Needs.{needs}
-use Turn.{Head, begin, ready, turn-false, turn-true, stop, stop-due, stop-left, finish}
+use Turn.{Loop, begin, next-ends, item, gap, fits-in, turn, done, bounds}
 use Rattle.segmentwise.proofs.spread.distribute.Statement.{statement}
 use Rattle.segmentwise.proofs.spread.distribute.Tie as tie
 
 abbrev Inv-loop : tie.InvT-loop
-Inv-loop buf₀ out n flags-at flags-len at len i₀ k₀ made₀ buf i k made = Head buf₀ out n flags-at flags-len at len buf i k made
+Inv-loop buf₀ out n flags-at at i₀ k₀ to₀ buf i k to = Loop buf₀ out n flags-at at buf i k to
 
 abbrev μ-loop : tie.MeasureT-loop
-μ-loop buf₀ out n flags-at flags-len at len i₀ k₀ made₀ buf i k made = flags-len - i
+μ-loop buf₀ out n flags-at at i₀ k₀ to₀ buf i k to = n - k
 
 loop-holds : tie.Need-loop-holds Inv-loop μ-loop
 loop-holds c = begin (c .pre)
 
-add-z : tie.Need-add-z Inv-loop μ-loop
-add-z c = omega arith
-
-mul-z : tie.Need-mul-z Inv-loop μ-loop
-mul-z c = omega arith
-
-slice-copy-out-z : tie.Need-slice-copy-out-z Inv-loop μ-loop
-slice-copy-out-z c = omega arith
-
-step-requires : tie.Need-step-requires Inv-loop μ-loop
-step-requires c κs = tt
-
-enum-told : tie.Need-enum-told Inv-loop μ-loop
-enum-told c = search needs
+next-end-requires : tie.Need-next-end-requires Inv-loop μ-loop
+next-end-requires c κs = next-ends (c .before .before .loop .inv) (c .before .loop-test .taken)
 
 add-x : tie.Need-add-x Inv-loop μ-loop
-add-x c = omega (arith, ready (c .before .before .before .before .before .loop .inv) (c .before .before .before .before .loop-test .taken) (c .before .before .before .z .given) (c .before .before .step .ensures) (c .enum-told .given .1))
+add-x c = omega (arith, item (c .before .before .before .loop .inv) (c .before .before .loop-test .taken))
 
 mul-x : tie.Need-mul-x Inv-loop μ-loop
-mul-x c = omega (arith, ready (c .before .before .before .before .before .loop .inv) (c .before .before .before .before .loop-test .taken) (c .before .before .before .z .given) (c .before .before .step .ensures) (c .enum-told .given .1))
+mul-x c = omega (arith, item (c .before .before .before .loop .inv) (c .before .before .loop-test .taken))
 
 slice-copy-out-x : tie.Need-slice-copy-out-x Inv-loop μ-loop
-slice-copy-out-x c = omega (arith, ready (c .before .before .before .before .before .loop .inv) (c .before .before .before .before .loop-test .taken) (c .before .before .before .z .given) (c .before .before .step .ensures) (c .enum-told .given .1))
+slice-copy-out-x c = item (c .before .before .before .loop .inv) (c .before .before .loop-test .taken)
 
-add-put : tie.Need-add-put Inv-loop μ-loop
-add-put c = omega arith
+sub-next : tie.Need-sub-next Inv-loop μ-loop
+sub-next c = gap (c .before .before .before .before .loop .inv) (c .before .before .before .loop-test .taken) (c .before .next-end .ensures)
 
-put-requires : tie.Need-put-requires Inv-loop μ-loop
-put-requires c κs = tt
+add-next : tie.Need-add-next Inv-loop μ-loop
+add-next c = omega (arith, fits-in (c .before .before .before .before .loop .inv) (c .before .before .before .loop-test .taken) (c .before .next-end .ensures))
+
+fill-requires : tie.Need-fill-requires Inv-loop μ-loop
+fill-requires c κs = fits-in (c .before .before .before .before .before .loop .inv) (c .before .before .before .before .loop-test .taken) (c .before .before .next-end .ensures)
 
 add-i : tie.Need-add-i Inv-loop μ-loop
-add-i c = omega arith
+add-i c = omega (arith, bounds (c .before .before .before .before .before .before .before .loop .inv) (c .before .before .before .before .before .before .loop-test .taken) (c .before .before .before .before .next-end .ensures))
 
-add-made : tie.Need-add-made Inv-loop μ-loop
-add-made c = omega arith
+add-k : tie.Need-add-k Inv-loop μ-loop
+add-k c = omega arith
 
 loop-less : tie.Need-loop-less Inv-loop μ-loop
 loop-less c = omega arith
 
 loop-again : tie.Need-loop-again Inv-loop μ-loop
-loop-again c = turn-false (c .before .before .before .before .before .before .before .before .before .loop .inv) (c .before .before .before .before .before .before .before .before .loop-test .taken) (c .before .before .before .before .before .before .before .z .given) (c .before .before .before .before .before .before .step .ensures) (c .before .before .before .before .enum-told .given .1) (c .before .before .before .x .given) (c .before .put .ensures)
-
-enum-told-2 : tie.Need-enum-told-2 Inv-loop μ-loop
-enum-told-2 c = search needs
-
-add-i-2 : tie.Need-add-i-2 Inv-loop μ-loop
-add-i-2 c = omega arith
-
-add-k : tie.Need-add-k Inv-loop μ-loop
-add-k c = omega (arith, turn-true (c .before .before .before .before .before .loop .inv) (c .before .before .before .before .loop-test .taken) (c .before .before .before .z .given) (c .before .before .step .ensures) (c .enum-told2 .given .1) .segments)
-
-loop-less-2 : tie.Need-loop-less-2 Inv-loop μ-loop
-loop-less-2 c = omega arith
-
-loop-again-2 : tie.Need-loop-again-2 Inv-loop μ-loop
-loop-again-2 c = turn-true (c .before .before .before .before .before .loop .inv) (c .before .before .before .before .loop-test .taken) (c .before .before .before .z .given) (c .before .before .step .ensures) (c .enum-told2 .given .1)
-
-enum-told-3 : tie.Need-enum-told-3 Inv-loop μ-loop
-enum-told-3 c = search needs
+loop-again c = turn (c .before .before .before .before .before .before .before .loop .inv) (c .before .before .before .before .before .before .loop-test .taken) (c .before .before .before .before .next-end .ensures) (c .before .before .before .x .given) (c .before .fill .ensures)
 
 same-length : tie.Need-same-length Inv-loop μ-loop
-same-length c = c .before .before .before .before .before .loop .inv .same
+same-length c = c .before .loop .inv .same
 
 returns : tie.Need-returns Inv-loop μ-loop
-returns c = stop (c .before .before .before .before .before .loop .inv) (c .before .before .before .before .loop-test .taken) (c .before .before .before .z .given) (c .before .before .step .ensures) (c .enum-told3 .given .1)
-
-same-length-2 : tie.Need-same-length-2 Inv-loop μ-loop
-same-length-2 c = c .before .before .loop .inv .same
-
-returns-2 : tie.Need-returns-2 Inv-loop μ-loop
-returns-2 c = stop-due (c .before .before .loop .inv) (c .before .loop-test .left) (c .if1 .taken)
-
-same-length-3 : tie.Need-same-length-3 Inv-loop μ-loop
-same-length-3 c = c .before .before .before .loop .inv .same
-
-returns-3 : tie.Need-returns-3 Inv-loop μ-loop
-returns-3 c = stop-left (c .before .before .before .loop .inv) (c .before .before .loop-test .left) (c .if2 .taken)
-
-sub-count : tie.Need-sub-count Inv-loop μ-loop
-sub-count c = omega arith
-
-count-requires : tie.Need-count-requires Inv-loop μ-loop
-count-requires c κs = tt
-
-same-length-4 : tie.Need-same-length-4 Inv-loop μ-loop
-same-length-4 c = c .before .before .before .before .loop .inv .same
-
-returns-4 : tie.Need-returns-4 Inv-loop μ-loop
-returns-4 c = finish (c .before .before .before .before .loop .inv) (c .before .before .before .loop-test .left) (c .before .before .if1 .left) (c .before .if2 .left) _ (c .count .ensures)
+returns c = done (c .before .loop .inv) (c .loop-test .left)
 
 pub distribute-spec : {M : Type 1} → statement M
 distribute-spec =
@@ -113,33 +61,16 @@ distribute-spec =
     Inv-loop
     μ-loop
     loop-holds
-    add-z
-    mul-z
-    slice-copy-out-z
-    step-requires
-    enum-told
+    next-end-requires
     add-x
     mul-x
     slice-copy-out-x
-    add-put
-    put-requires
+    sub-next
+    add-next
+    fill-requires
     add-i
-    add-made
+    add-k
     loop-less
     loop-again
-    enum-told-2
-    add-i-2
-    add-k
-    loop-less-2
-    loop-again-2
-    enum-told-3
     same-length
-    returns
-    same-length-2
-    returns-2
-    same-length-3
-    returns-3
-    sub-count
-    count-requires
-    same-length-4
-    returns-4)
+    returns)

@@ -2,141 +2,64 @@
 mod Turn
 use Prim.Native.Nat.{_-_}
 use native.Mathlib.Omega.{arith}
-use borrow.Author.Needs.{needs}
-use mir.Syntax.{w64}
-use mir.Val.{toZ}
-use Turn.{Head, begin, cast, ready, sum-fits, turn-false, turn-true, stop, stop-outside, stop-due, stop-left, finish}
+use borrow.Author.Needs.{sfits-of}
+use Turn.{Loop, begin, next-ends, place, gap, items, bounds, turn, done}
 use Rattle.segmentwise.proofs.sums.sum.Statement.{statement}
 use Rattle.segmentwise.proofs.sums.sum.Tie as tie
 
 abbrev Inv-loop : tie.InvT-loop
-Inv-loop buf₀ out n flags-at flags-len at len i₀ j₀ k₀ total₀ buf i j k total = Head buf₀ out n flags-at flags-len at len buf i j k (toZ w64 total)
+Inv-loop buf₀ out n flags-at at i₀ j₀ k₀ inside₀ buf i j k inside = Loop buf₀ out n flags-at at buf i j k inside
 
 abbrev μ-loop : tie.MeasureT-loop
-μ-loop buf₀ out n flags-at flags-len at len i₀ j₀ k₀ total₀ buf i j k total = flags-len - i
+μ-loop buf₀ out n flags-at at i₀ j₀ k₀ inside₀ buf i j k inside = n - k
 
 loop-holds : tie.Need-loop-holds Inv-loop μ-loop
 loop-holds c = begin (c .pre)
 
-add-z : tie.Need-add-z Inv-loop μ-loop
-add-z c = omega arith
+next-end-requires : tie.Need-next-end-requires Inv-loop μ-loop
+next-end-requires c κs = next-ends (c .before .before .loop .inv) (c .before .loop-test .taken)
 
-mul-z : tie.Need-mul-z Inv-loop μ-loop
-mul-z c = omega arith
+sub-next : tie.Need-sub-next Inv-loop μ-loop
+sub-next c = gap (c .before .before .before .loop .inv) (c .before .before .loop-test .taken) (c .next-end .ensures)
 
-slice-copy-out-z : tie.Need-slice-copy-out-z Inv-loop μ-loop
-slice-copy-out-z c = omega arith
+add-next : tie.Need-add-next Inv-loop μ-loop
+add-next c = omega (arith, items (c .before .before .before .loop .inv) (c .before .before .loop-test .taken) (c .next-end .ensures))
 
-step-requires : tie.Need-step-requires Inv-loop μ-loop
-step-requires c κs = tt
+total-requires : tie.Need-total-requires Inv-loop μ-loop
+total-requires c κs = items (c .before .before .before .before .loop .inv) (c .before .before .before .loop-test .taken) (c .before .next-end .ensures)
 
-enum-told : tie.Need-enum-told Inv-loop μ-loop
-enum-told c = search needs
+in-range-requires : tie.Need-in-range-requires Inv-loop μ-loop
+in-range-requires c κs = tt
 
-add-x : tie.Need-add-x Inv-loop μ-loop
-add-x c = omega (arith, ready (c .before .before .before .before .before .loop .inv) (c .before .before .before .before .loop-test .taken) (c .before .before .before .z .given) (c .before .before .step .ensures) (c .enum-told .given .1))
+held-requires : tie.Need-held-requires Inv-loop μ-loop
+held-requires c κs = tt
 
-mul-x : tie.Need-mul-x Inv-loop μ-loop
-mul-x c = omega (arith, ready (c .before .before .before .before .before .loop .inv) (c .before .before .before .before .loop-test .taken) (c .before .before .before .z .given) (c .before .before .step .ensures) (c .enum-told .given .1))
+add-t16 : tie.Need-add-t16 Inv-loop μ-loop
+add-t16 c = omega (arith, place (c .before .before .before .before .before .before .before .loop .inv) (c .before .before .before .before .before .before .loop-test .taken))
 
-slice-copy-out-x : tie.Need-slice-copy-out-x Inv-loop μ-loop
-slice-copy-out-x c = omega (arith, ready (c .before .before .before .before .before .loop .inv) (c .before .before .before .before .loop-test .taken) (c .before .before .before .z .given) (c .before .before .step .ensures) (c .enum-told .given .1))
+mul-t20 : tie.Need-mul-t20 Inv-loop μ-loop
+mul-t20 c = omega (arith, place (c .before .before .before .before .before .before .before .loop .inv) (c .before .before .before .before .before .before .loop-test .taken))
 
-cast-total : tie.Need-cast-total Inv-loop μ-loop
-cast-total c = cast (c .before .before .before .before .before .before .loop .inv) (c .before .before .before .before .before .loop-test .taken) (c .before .before .before .before .z .given) (c .before .before .before .step .ensures) (c .before .enum-told .given .1) (c .x .given)
-
-add-total : tie.Need-add-total Inv-loop μ-loop
-add-total c = sum-fits (c .before .before .before .before .before .before .loop .inv) (c .before .before .before .before .before .loop-test .taken) (c .before .before .before .before .z .given) (c .before .before .before .step .ensures) (c .before .enum-told .given .1) (c .x .given)
+slice-set-from-buf : tie.Need-slice-set-from-buf Inv-loop μ-loop
+slice-set-from-buf c = place (c .before .before .before .before .before .before .before .loop .inv) (c .before .before .before .before .before .before .loop-test .taken)
 
 add-i : tie.Need-add-i Inv-loop μ-loop
-add-i c = omega arith
+add-i c = omega (arith, bounds (c .before .before .before .before .before .before .before .loop .inv) (c .before .before .before .before .before .before .loop-test .taken) (c .before .before .before .before .next-end .ensures))
 
-add-j : tie.Need-add-j Inv-loop μ-loop
-add-j c = omega (arith, ready (c .before .before .before .before .before .before .loop .inv) (c .before .before .before .before .before .loop-test .taken) (c .before .before .before .before .z .given) (c .before .before .before .step .ensures) (c .before .enum-told .given .1))
+add-k : tie.Need-add-k Inv-loop μ-loop
+add-k c = omega arith
 
 loop-less : tie.Need-loop-less Inv-loop μ-loop
 loop-less c = omega arith
 
 loop-again : tie.Need-loop-again Inv-loop μ-loop
-loop-again c = turn-false (c .before .before .before .before .before .before .loop .inv) (c .before .before .before .before .before .loop-test .taken) (c .before .before .before .before .z .given) (c .before .before .before .step .ensures) (c .before .enum-told .given .1) (c .x .given)
-
-enum-told-2 : tie.Need-enum-told-2 Inv-loop μ-loop
-enum-told-2 c = search needs
-
-narrow-requires : tie.Need-narrow-requires Inv-loop μ-loop
-narrow-requires c κs = tt
-
-enum-known-v : tie.Need-enum-known-v Inv-loop μ-loop
-enum-known-v c = search needs
-
-add-put : tie.Need-add-put Inv-loop μ-loop
-add-put c = omega arith
-
-put-requires : tie.Need-put-requires Inv-loop μ-loop
-put-requires c κs = tt
-
-add-i-2 : tie.Need-add-i-2 Inv-loop μ-loop
-add-i-2 c = omega arith
-
-add-k : tie.Need-add-k Inv-loop μ-loop
-add-k c = omega arith
-
-loop-less-2 : tie.Need-loop-less-2 Inv-loop μ-loop
-loop-less-2 c = omega arith
-
-loop-again-2 : tie.Need-loop-again-2 Inv-loop μ-loop
-loop-again-2 c = turn-true (c .before .before .before .before .before .before .before .before .before .before .before .before .loop .inv) (c .before .before .before .before .before .before .before .before .before .before .before .loop-test .taken) (c .before .before .before .before .before .before .before .before .before .before .z .given) (c .before .before .before .before .before .before .before .before .before .step .ensures) (c .before .before .before .before .before .before .before .enum-told2 .given .1) (c .before .before .before .before .before .before .narrow .ensures) _ (c .before .before .before .before .v .given .1) (c .before .put .ensures)
-
-enum-told-3 : tie.Need-enum-told-3 Inv-loop μ-loop
-enum-told-3 c = search needs
-
-sub-from : tie.Need-sub-from Inv-loop μ-loop
-sub-from c = omega arith
-
-from-requires : tie.Need-from-requires Inv-loop μ-loop
-from-requires c κs = omega arith
-
-refuse-requires : tie.Need-refuse-requires Inv-loop μ-loop
-refuse-requires c κs = tt
+loop-again c = turn (c .before .before .before .before .before .before .before .loop .inv) (c .before .before .before .before .before .before .loop-test .taken) (c .before .before .before .before .next-end .ensures) _ _ (c .before .before .total .ensures) (sfits-of (c .before .before .total .ok)) (c .before .in-range .ensures) (c .held .ensures)
 
 same-length : tie.Need-same-length Inv-loop μ-loop
-same-length c = c .before .before .before .before .before .before .before .before .before .before .before .loop .inv .same
+same-length c = c .before .loop .inv .same
 
 returns : tie.Need-returns Inv-loop μ-loop
-returns c = stop-outside (c .before .before .before .before .before .before .before .before .before .before .before .loop .inv) (c .before .before .before .before .before .before .before .before .before .before .loop-test .taken) (c .before .before .before .before .before .before .before .before .before .z .given) (c .before .before .before .before .before .before .before .before .step .ensures) (c .before .before .before .before .before .before .enum-told2 .given .1) (c .before .before .before .before .before .narrow .ensures) (c .before .before .before .enum-told3 .given .1) (c .before .from .ensures) (c .refuse .ensures)
-
-enum-told-4 : tie.Need-enum-told-4 Inv-loop μ-loop
-enum-told-4 c = search needs
-
-same-length-2 : tie.Need-same-length-2 Inv-loop μ-loop
-same-length-2 c = c .before .before .before .before .before .loop .inv .same
-
-returns-2 : tie.Need-returns-2 Inv-loop μ-loop
-returns-2 c = stop (c .before .before .before .before .before .loop .inv) (c .before .before .before .before .loop-test .taken) (c .before .before .before .z .given) (c .before .before .step .ensures) (c .enum-told4 .given .1)
-
-same-length-3 : tie.Need-same-length-3 Inv-loop μ-loop
-same-length-3 c = c .before .before .loop .inv .same
-
-returns-3 : tie.Need-returns-3 Inv-loop μ-loop
-returns-3 c = stop-due (c .before .before .loop .inv) (c .before .loop-test .left) (c .if1 .taken)
-
-same-length-4 : tie.Need-same-length-4 Inv-loop μ-loop
-same-length-4 c = c .before .before .before .loop .inv .same
-
-returns-4 : tie.Need-returns-4 Inv-loop μ-loop
-returns-4 c = stop-left (c .before .before .before .loop .inv) (c .before .before .loop-test .left) (c .if2 .taken)
-
-sub-count : tie.Need-sub-count Inv-loop μ-loop
-sub-count c = omega arith
-
-count-requires : tie.Need-count-requires Inv-loop μ-loop
-count-requires c κs = tt
-
-same-length-5 : tie.Need-same-length-5 Inv-loop μ-loop
-same-length-5 c = c .before .before .before .before .loop .inv .same
-
-returns-5 : tie.Need-returns-5 Inv-loop μ-loop
-returns-5 c = finish (c .before .before .before .before .loop .inv) (c .before .before .before .loop-test .left) (c .before .before .if1 .left) (c .before .if2 .left) _ (c .count .ensures)
+returns c = done (c .before .loop .inv) (c .loop-test .left)
 
 pub sum-spec : {M : Type 1} → statement M
 sum-spec =
@@ -145,43 +68,18 @@ sum-spec =
     Inv-loop
     μ-loop
     loop-holds
-    add-z
-    mul-z
-    slice-copy-out-z
-    step-requires
-    enum-told
-    add-x
-    mul-x
-    slice-copy-out-x
-    cast-total
-    add-total
+    next-end-requires
+    sub-next
+    add-next
+    total-requires
+    in-range-requires
+    held-requires
+    add-t16
+    mul-t20
+    slice-set-from-buf
     add-i
-    add-j
+    add-k
     loop-less
     loop-again
-    enum-told-2
-    narrow-requires
-    enum-known-v
-    add-put
-    put-requires
-    add-i-2
-    add-k
-    loop-less-2
-    loop-again-2
-    enum-told-3
-    sub-from
-    from-requires
-    refuse-requires
     same-length
-    returns
-    enum-told-4
-    same-length-2
-    returns-2
-    same-length-3
-    returns-3
-    same-length-4
-    returns-4
-    sub-count
-    count-requires
-    same-length-5
-    returns-5)
+    returns)

@@ -1,97 +1,63 @@
--- `units::usum`: the walk of Turn.antt.
-mod Turn
-use Prim.Native.Nat.{_-_}
+-- `units::usum`: of flags that fit, all but n are F's.
+use Prim.Native.Nat.{ℕ, _+_, _-_, _≤_}
+use mathlib.Core.List.{List, []}
+use mathlib.Core.Option.{Option, some, none}
+use mathlib.Core.Path.{_≡_, refl, sym, _∙_, ap}
 use native.Mathlib.Omega.{arith}
 use borrow.Author.Needs.{needs}
-use Turn.{Head, begin, turn-false, turn-true, stop, stop-due, done}
+use lib.IntN.{ℤ}
+use lib.ListN.{length}
+use Rattle.laws.specs.Parts.{part}
+use Rattle.laws.proofs.Parts.{length-part}
+use Rattle.snesl.specs.Streams.{units}
+use Rattle.snesl.specs.Transducers.{alone, flagOf, misfit, countF, made, unfit, unless, usum}
+use Rattle.flags.proofs.Fronts.{fits-count}
+use Rattle.streams.specs.Answers.{answered}
+use Rattle.streams.specs.Walks.{told}
+use Rattle.streams.specs.declared.fit.Misfit.{Misfit}
+use Rattle.streams.specs.declared.fit.Misfit.the-variants.{Nowhere, At}
+use Rattle.streams.specs.declared.output.Output.{Output}
+use Rattle.streams.specs.declared.output.Output.the-variants.{Made, Unfit}
+use Rattle.streams.proofs.Ending.{told-nowhere, told-at}
 use Rattle.streams.proofs.units.usum.Statement.{statement}
 use Rattle.streams.proofs.units.usum.Tie as tie
 
-abbrev Inv-loop : tie.InvT-loop
-Inv-loop buf n at len i₀ k₀ i k = Head buf n at len i k
+abbrev answer : List ℤ → Option ℕ → Output
+answer bs o = answered 0 (unless o unfit (made (units (countF flagOf bs))))
 
-abbrev μ-loop : tie.MeasureT-loop
-μ-loop buf n at len i₀ k₀ i k = len - i
+unfits : (n k : ℕ) (bs : List ℤ) {r : Misfit} → r ≡ told (misfit flagOf {B = ℤ} alone 0 n bs []) → r ≡ At k → Unfit k ≡ answered 0 (usum flagOf n bs)
+unfits n k bs p q = sym (ap (answer bs) (told-at (misfit flagOf {B = ℤ} alone 0 n bs []) k p q))
 
-loop-holds : tie.Need-loop-holds Inv-loop μ-loop
-loop-holds c = begin (c .pre)
+module _ (buf : List ℤ) (n at len : ℕ) (within : at + len ≤ length buf) {r : Misfit} (p : r ≡ told (misfit flagOf {B = ℤ} alone 0 n (part at len buf) [])) (q : r ≡ Nowhere) where
+  fit : misfit flagOf {B = ℤ} alone 0 n (part at len buf) [] ≡ none
+  fit = told-nowhere (misfit flagOf {B = ℤ} alone 0 n (part at len buf) []) p q
 
-add-z : tie.Need-add-z Inv-loop μ-loop
-add-z c = omega arith
+  all : countF flagOf (part at len buf) + n ≡ len
+  all = fits-count flagOf alone n 0 (part at len buf) [] fit ∙ length-part at len buf within
 
-mul-z : tie.Need-mul-z Inv-loop μ-loop
-mul-z c = omega arith
+  fewer : n ≤ len
+  fewer = omega (arith, all)
 
-shared-slice-copy-out-z : tie.Need-shared-slice-copy-out-z Inv-loop μ-loop
-shared-slice-copy-out-z c = omega arith
+  counts : Made (len - n) ≡ answered 0 (usum flagOf n (part at len buf))
+  counts = let e : len - n ≡ countF flagOf (part at len buf) = omega (arith, all) in ap Made e ∙ sym (ap (answer (part at len buf)) fit)
 
-step-requires : tie.Need-step-requires Inv-loop μ-loop
-step-requires c κs = tt
+fits-requires : tie.Need-fits-requires
+fits-requires c κs = search needs
 
-enum-told : tie.Need-enum-told Inv-loop μ-loop
+enum-known-misfit : tie.Need-enum-known-misfit
+enum-known-misfit c = search needs
+
+returns : tie.Need-returns
+returns c = unfits _ _ (part (c .before .before .before .before .args .at) (c .before .before .before .before .args .len) (c .before .before .before .before .args .buf .now)) (c .before .before .before .fits2 .ensures alone refl refl [] refl) (c .before .misfit .given .1)
+
+enum-told : tie.Need-enum-told
 enum-told c = search needs
 
-add-i : tie.Need-add-i Inv-loop μ-loop
-add-i c = omega arith
+sub-t7 : tie.Need-sub-t7
+sub-t7 c = fewer (c .before .before .before .args .buf .now) (c .before .before .before .args .n) (c .before .before .before .args .at) (c .before .before .before .args .len) (c .before .before .before .pre) (c .before .before .fits2 .ensures alone refl refl [] refl) (c .enum-told .given .1)
 
-loop-less : tie.Need-loop-less Inv-loop μ-loop
-loop-less c = omega arith
-
-loop-again : tie.Need-loop-again Inv-loop μ-loop
-loop-again c = turn-false (c .before .before .before .before .before .loop .inv) (c .before .before .before .before .loop-test .taken) (c .before .before .before .z .given) (c .before .before .step .ensures) (c .enum-told .given .1)
-
-enum-told-2 : tie.Need-enum-told-2 Inv-loop μ-loop
-enum-told-2 c = search needs
-
-add-i-2 : tie.Need-add-i-2 Inv-loop μ-loop
-add-i-2 c = omega arith
-
-add-k : tie.Need-add-k Inv-loop μ-loop
-add-k c = omega (arith, turn-true (c .before .before .before .before .before .loop .inv) (c .before .before .before .before .loop-test .taken) (c .before .before .before .z .given) (c .before .before .step .ensures) (c .enum-told2 .given .1) .segments)
-
-loop-less-2 : tie.Need-loop-less-2 Inv-loop μ-loop
-loop-less-2 c = omega arith
-
-loop-again-2 : tie.Need-loop-again-2 Inv-loop μ-loop
-loop-again-2 c = turn-true (c .before .before .before .before .before .loop .inv) (c .before .before .before .before .loop-test .taken) (c .before .before .before .z .given) (c .before .before .step .ensures) (c .enum-told2 .given .1)
-
-enum-told-3 : tie.Need-enum-told-3 Inv-loop μ-loop
-enum-told-3 c = search needs
-
-returns : tie.Need-returns Inv-loop μ-loop
-returns c = stop (c .before .before .before .before .before .loop .inv) (c .before .before .before .before .loop-test .taken) (c .before .before .before .z .given) (c .before .before .step .ensures) (c .enum-told3 .given .1)
-
-returns-2 : tie.Need-returns-2 Inv-loop μ-loop
-returns-2 c = stop-due (c .before .before .loop .inv) (c .before .loop-test .left) (c .if1 .taken)
-
-sub-t15 : tie.Need-sub-t15 Inv-loop μ-loop
-sub-t15 c = omega arith
-
-returns-3 : tie.Need-returns-3 Inv-loop μ-loop
-returns-3 c = done (c .before .before .loop .inv) (c .before .loop-test .left) (c .if1 .left)
+returns-2 : tie.Need-returns-2
+returns-2 c = counts (c .before .before .before .args .buf .now) (c .before .before .before .args .n) (c .before .before .before .args .at) (c .before .before .before .args .len) (c .before .before .before .pre) (c .before .before .fits2 .ensures alone refl refl [] refl) (c .enum-told .given .1)
 
 pub usum-spec : {M : Type 1} → statement M
-usum-spec =
-    tie.close
-    (tie.spec
-    Inv-loop
-    μ-loop
-    loop-holds
-    add-z
-    mul-z
-    shared-slice-copy-out-z
-    step-requires
-    enum-told
-    add-i
-    loop-less
-    loop-again
-    enum-told-2
-    add-i-2
-    add-k
-    loop-less-2
-    loop-again-2
-    enum-told-3
-    returns
-    returns-2
-    sub-t15
-    returns-3)
+usum-spec = tie.close (tie.spec fits-requires enum-known-misfit returns enum-told sub-t7 returns-2)

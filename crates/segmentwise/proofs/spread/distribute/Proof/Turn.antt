@@ -1,152 +1,169 @@
 -- What holds at the head of `spread::distribute`'s loop, and one law for each way on from there.
-use Prim.Native.Nat.{ℕ, _+_, _-_, _≤_, _<_, _^_}
-use mathlib.Core.List.{List, [], _∷_}
+use Prim.Native.Nat.{ℕ, suc, _+_, _-_, _≤_, _<_, _^_}
+use mathlib.Core.List.{List, [], _∷_, _++_}
 use mathlib.Core.Option.{none}
 use mathlib.Core.Path.{_≡_, refl, sym, _∙_, ap}
 use native.Mathlib.Omega.{arith}
-use borrow.Author.Tests.{ltb-true}
-use lib.Dec.{ltb}
 use lib.IntN.{ℤ, pos}
-use lib.ListN.{length, drop, getD, set, length-set, length-drop}
+use lib.ListN.{length, drop, getD, replicate, length-append, length-replicate}
+use lib.Seq.{sets, drop-drop, length-sets}
 use lib.Signed.{mag}
 use mir.Syntax.{w32}
 use mir.Val.{toZ, ofZ}
 use Rattle.laws.specs.Parts.{part}
-use Rattle.laws.proofs.Parts.{length-part, part-end}
+use Rattle.laws.proofs.Emits as E
+use Rattle.laws.proofs.Emits.{Emits}
+use Rattle.laws.proofs.Parts.{length-part}
 use Rattle.laws.proofs.Whole.{read}
-use Rattle.snesl.specs.Streams.{ints}
-use Rattle.snesl.specs.Transducers.{eachT, flagOf, misfit, spread, outside, distr}
-use Rattle.streams.specs.Walks.{Walked, steps, counted}
-use Rattle.streams.specs.declared.fit.Turn.{Turn}
-use Rattle.streams.specs.declared.fit.Turn.the-variants as S
-use Rattle.streams.specs.declared.output.Output.{Output}
-use Rattle.streams.specs.declared.output.Output.the-variants.{Unfit}
-use Rattle.streams.proofs.Running as R
-use Rattle.streams.proofs.Running.{Running, Operands}
-use Rattle.streams.proofs.Turns.{stepped, steps-false, steps-true, misfit-false, misfit-true, stop-eachT, end-due, end-left, end-fits, spread-false, spread-true, spread-end}
+use Rattle.snesl.specs.Transducers.{eachT, flagOf, misfit, spread}
+use Rattle.flags.specs.Segments.{leading}
+use Rattle.flags.proofs.Clauses.{spread-end}
+use Rattle.flags.proofs.Fronts.{front-spread}
+use Rattle.segmentwise.specs.Segmented.{Spreads}
+use Rattle.segmentwise.proofs.Segment.{Segment, segment, finished}
 
-pub record Head (old : List ℤ) (out n fat flen at len : ℕ) (buf : List ℤ) (i k done : ℕ) : Type 0 where
-  pub operands : Operands old out fat flen at len
-  pub same : length buf ≡ length old
+pub record Head (old : List ℤ) (out n fat flen at len : ℕ) (buf : List ℤ) (i k to : ℕ) : Type 0 where
+  pub spreads : Spreads old out n fat flen at len
   pub flags : i ≤ flen
   pub segments : k ≤ n
   pub items : k ≤ len
-  pub few : done ≤ i
-  pub run : Running (distr flagOf n (part fat flen old) (part at len old))
-      (misfit flagOf eachT k (n - k) (drop i (part fat flen old)) (drop k (part at len old))) none outside
-      (ints (spread flagOf (part fat flen old) (part at len old))) old buf out
-      (spread flagOf (drop i (part fat flen old)) (drop k (part at len old))) done
+  pub from : out ≤ to
+  pub fits : misfit flagOf eachT k (n - k) (drop i (part fat flen old)) (drop k (part at len old)) ≡ none
+  pub emits : Emits old buf out (spread flagOf (part fat flen old) (part at len old)) (spread flagOf (drop i (part fat flen old)) (drop k (part at len old))) (to - out)
 
-pub begin : {old : List ℤ} {out n fat flen at len : ℕ} → (fat + flen ≤ out) × (at + len ≤ out) × (out ≤ length old) →
-    Head old out n fat flen at len old 0 0 0
-begin {old} {out} {n} {fat} {flen} {at} {len} p =
-    let e : n ≡ n - 0 = omega arith in
+-- of whichever lengths the streams are
+pub record Loop (old : List ℤ) (out n fat at : ℕ) (buf : List ℤ) (i k to : ℕ) : Type 0 where
+  pub given : (flen len : ℕ) × Spreads old out n fat flen at len
+  pub heads : (flen len : ℕ) → Spreads old out n fat flen at len → Head old out n fat flen at len buf i k to
+  pub same : length buf ≡ length old
+
+pub begin : {old : List ℤ} {out n fat at : ℕ} → (flen len : ℕ) × Spreads old out n fat flen at len → Loop old out n fat at old 0 0 out
+begin {old} {out} {n} {fat} {at} p =
     record {
-      operands = record { flags = p .0; items = p .1; room = p .2 };
+      given = p;
+      heads = λ flen len s.
+          let e : out - out ≡ 0 = omega arith in
+          let f : n - 0 ≡ n = omega arith in
+          record {
+            spreads = s;
+            flags = omega arith;
+            segments = omega arith;
+            items = omega arith;
+            from = omega arith;
+            fits = ap (λ m. misfit flagOf eachT 0 m (part fat flen old) (part at len old)) f ∙ s .operands .fits;
+            emits = E.recount E.start (sym e);
+          };
       same = refl;
-      flags = omega arith;
-      segments = omega arith;
-      items = omega arith;
-      few = omega arith;
-      run =
-          R.again (R.start _ (misfit flagOf eachT 0 n (part fat flen old) (part at len old)) none outside (ints (spread flagOf (part fat flen old) (part at len old))) old out refl)
-          (ap (λ m. misfit flagOf eachT 0 m (part fat flen old) (part at len old)) e) refl refl;
     }
 
-module _ {old : List ℤ} {out n fat flen at len : ℕ} {buf : List ℤ} {i k done : ℕ} (a : Head old out n fat flen at len buf i k done) where
-  -- the items that are left
-  left : k + length (drop k (part at len old)) ≡ len
-  left =
-      let o = a .operands in
-      let l : length (part at len old) ≡ len = length-part at len old (omega arith) in
-      let m : length (drop k (part at len old)) ≡ length (part at len old) - k = length-drop k (part at len old) in
-      omega (arith, a .items)
+module _ {old : List ℤ} {out n fat flen at len : ℕ} {buf : List ℤ} {i k to : ℕ} (a : Head old out n fat flen at len buf i k to) where
+  long : length buf ≡ length old
+  long = E.same-length (a .emits)
 
-  module _ (lt : i < flen) (h : mag (getD buf (fat + i) (pos 0)) < 2 ^ 31) {r : Turn}
-      (q : r ≡ steps (flagOf (toZ w32 (ofZ w32 (getD buf (fat + i) (pos 0))))) (ltb k n) (ltb k len) (ltb k len)) where
-    next : drop i (part fat flen old) ≡ getD buf (fat + i) (pos 0) ∷ drop (i + 1) (part fat flen old)
-    next = R.next (a .run) fat flen i (a .operands .flags) (a .operands .room) lt
+  items-long : length (part at len old) ≡ len
+  items-long = let o = a .spreads .operands in length-part at len old (omega (arith, o .items, o .room))
 
-    item : k < len → drop k (part at len old) ≡ getD buf (at + k) (pos 0) ∷ drop (k + 1) (part at len old)
-    item = R.next (a .run) at len k (a .operands .items) (a .operands .room)
+  module _ (lt : k < n) where
+    here : Segment eachT buf (part fat flen old) (part at len old) fat i k k n
+    here =
+        let o = a .spreads .operands in
+        segment eachT buf fat flen (part fat flen old) (part at len old) i k k n (E.operand (a .emits) fat flen (o .flags))
+        (omega (arith, o .flags, o .room, long)) (a .flags) (omega (arith, items-long, a .items)) lt (a .fits)
 
-    step : {x : Turn} → r ≡ x → steps (flagOf (getD buf (fat + i) (pos 0))) (ltb k n) (ltb k len) (ltb k len) ≡ x
-    step = stepped (getD buf (fat + i) (pos 0)) (ltb k n) (ltb k len) (ltb k len) h q
+    item-there : k < len
+    item-there = omega (arith, here .items, items-long)
 
-    -- an F has an item to read
-    pub ready : r ≡ S.False → k < len
-    ready e = ltb-true k len (steps-false (flagOf (getD buf (fat + i) (pos 0))) (ltb k n) (ltb k len) (ltb k len) (step e) .2)
+    flags-long : length (part fat flen old) ≡ flen
+    flags-long = let o = a .spreads .operands in length-part fat flen old (omega (arith, o .flags, o .room))
 
-    pub turn-false : r ≡ S.False → mag (getD buf (at + k) (pos 0)) < 2 ^ 31 → {new : List ℤ} →
-        new ≡ set buf (out + done) (toZ w32 (ofZ w32 (getD buf (at + k) (pos 0)))) → Head old out n fat flen at len new (i + 1) k (done + 1)
-    turn-false e hx {new} p =
-        let s = steps-false (flagOf (getD buf (fat + i) (pos 0))) (ltb k n) (ltb k len) (ltb k len) (step e) in
-        let due : k < n = ltb-true k n (s .1) in
-        let x : drop k (part at len old) ≡ getD buf (at + k) (pos 0) ∷ drop (k + 1) (part at len old) = item (ready e) in
-        let stored : new ≡ set buf (out + done) (getD buf (at + k) (pos 0)) = p ∙ ap (set buf (out + done)) (read _ hx) in
+    next-item : drop k (part at len old) ≡ getD buf (at + k) (pos 0) ∷ drop (k + 1) (part at len old)
+    next-item = let o = a .spreads .operands in E.fed (a .emits) at len k (pos 0) (o .items) (o .room) item-there
+
+    to-come : spread flagOf (drop i (part fat flen old)) (drop k (part at len old))
+        ≡ replicate (here .count) (getD buf (at + k) (pos 0)) ++ spread flagOf (drop (i + here .count + 1) (part fat flen old)) (drop (k + 1) (part at len old))
+    to-come =
+        let e : i + suc (here .count) ≡ i + here .count + 1 = omega arith in
+        ap (spread flagOf (drop i (part fat flen old))) next-item
+        ∙ front-spread flagOf (here .front) (getD buf (at + k) (pos 0)) (drop (k + 1) (part at len old))
+        ∙ ap (λ bs. replicate (here .count) (getD buf (at + k) (pos 0)) ++ spread flagOf bs (drop (k + 1) (part at len old)))
+        (drop-drop (suc (here .count)) i (part fat flen old) ∙ ap (λ m. drop m (part fat flen old)) e)
+
+    enough : to + here .count ≤ length buf
+    enough =
+        let all : length (spread flagOf (part fat flen old) (part at len old)) ≡ to - out + length (spread flagOf (drop i (part fat flen old)) (drop k (part at len old))) =
+        E.long (a .emits) in
+        let more : length (spread flagOf (drop i (part fat flen old)) (drop k (part at len old)))
+        ≡ length (replicate (here .count) (getD buf (at + k) (pos 0))) + length (spread flagOf (drop (i + here .count + 1) (part fat flen old)) (drop (k + 1) (part at len old))) =
+        ap length to-come ∙ length-append (replicate (here .count) (getD buf (at + k) (pos 0))) _ in
+        let rep : length (replicate (here .count) (getD buf (at + k) (pos 0))) ≡ here .count = length-replicate (here .count) (getD buf (at + k) (pos 0)) in
+        omega (arith, a .spreads .free, a .from, long)
+
+    onwards : {new : List ℤ} → mag (getD buf (at + k) (pos 0)) < 2 ^ 31 →
+        new ≡ sets buf to (replicate (to + (i + here .count - i) - to) (toZ w32 (ofZ w32 (getD buf (at + k) (pos 0))))) →
+        Head old out n fat flen at len new (i + here .count + 1) (k + 1) (to + (i + here .count - i))
+    onwards {new} h w =
+        let from : out ≤ to = a .from in
+        let m : to + (i + here .count - i) - to ≡ here .count = omega arith in
+        let there : to ≡ out + (to - out) = omega arith in
+        let l : length (replicate (here .count) (getD buf (at + k) (pos 0))) ≡ here .count = length-replicate (here .count) (getD buf (at + k) (pos 0)) in
+        let made : to - out + length (replicate (here .count) (getD buf (at + k) (pos 0))) ≡ to + (i + here .count - i) - out = omega arith in
         record {
-          operands = a .operands;
-          same = ap length stored ∙ length-set buf (out + done) (getD buf (at + k) (pos 0)) ∙ a .same;
-          flags = omega arith;
-          segments = a .segments;
-          items = a .items;
-          few = omega (arith, a .few);
-          run =
-              R.put (a .run) (getD buf (at + k) (pos 0)) stored
-              (ap (λ bs. misfit flagOf eachT k (n - k) bs (drop k (part at len old))) next ∙ misfit-false flagOf eachT k n _ _ _ due (s .0) refl)
-              refl
-              ((λ j. spread flagOf (next j) (x j))
-              ∙ spread-false flagOf _ _ _ _ (s .0)
-              ∙ ap (λ xs. getD buf (at + k) (pos 0) ∷ spread flagOf (drop (i + 1) (part fat flen old)) xs) (sym x));
-        }
-
-    pub turn-true : r ≡ S.True → Head old out n fat flen at len buf (i + 1) (k + 1) done
-    turn-true e =
-        let s = steps-true (flagOf (getD buf (fat + i) (pos 0))) (ltb k n) (ltb k len) (ltb k len) (step e) in
-        let due : k < n = ltb-true k n (s .1) in
-        let there : k < len = ltb-true k len (s .2) in
-        let x : drop k (part at len old) ≡ getD buf (at + k) (pos 0) ∷ drop (k + 1) (part at len old) = item there in
-        record {
-          operands = a .operands;
-          same = a .same;
-          flags = omega arith;
+          spreads = a .spreads;
+          flags = omega (arith, here .flags, flags-long);
           segments = omega arith;
-          items = omega arith;
-          few = omega (arith, a .few);
-          run =
-              R.again (a .run)
-              ((λ j. misfit flagOf eachT k (n - k) (next j) (x j)) ∙ misfit-true flagOf eachT k n _ _ _ due (s .0) refl)
-              refl
-              ((λ j. spread flagOf (next j) (x j)) ∙ spread-true flagOf _ _ _ _ (s .0));
+          items = omega (arith, item-there);
+          from = omega arith;
+          fits = here .rest;
+          emits =
+              E.recount
+              (E.puts (a .emits) (replicate (here .count) (getD buf (at + k) (pos 0)))
+              (w ∙ (λ q. sets buf (there q) (replicate (m q) (read (getD buf (at + k) (pos 0)) h q))))
+              to-come)
+              made;
         }
 
-    pub stop : r ≡ S.Misfit → Walked out old (distr flagOf n (part fat flen old) (part at len old)) (Unfit k) buf
-    stop e =
-        R.stop-unfit (a .run) k
-        (ap (λ bs. misfit flagOf eachT k (n - k) bs (drop k (part at len old))) next ∙ stop-eachT flagOf k n k len _ _ _ left (step e))
+  over : n ≤ k → buf ≡ sets old out (spread flagOf (part fat flen old) (part at len old))
+  over end =
+      E.all (a .emits)
+      (ap (λ bs. spread flagOf bs (drop k (part at len old))) (finished eachT (drop i (part fat flen old)) (drop k (part at len old)) k n end (a .fits))
+      ∙ spread-end flagOf (drop k (part at len old))) .1
 
-  module _ (end : flen ≤ i) where
-    over : drop i (part fat flen old) ≡ []
-    over =
-        let o = a .operands in
-        let e : i ≡ flen = omega (arith, a .flags) in
-        ap (λ m. drop m (part fat flen old)) e ∙ part-end fat flen old (omega arith)
+module _ {old : List ℤ} {out n fat at : ℕ} {buf : List ℤ} {i k to : ℕ} (a : Loop old out n fat at buf i k to) where
+  some-head : Head old out n fat (a .given .0) at (a .given .1) buf i k to
+  some-head = a .heads (a .given .0) (a .given .1) (a .given .2)
 
-    pub stop-due : k < n → Walked out old (distr flagOf n (part fat flen old) (part at len old)) (Unfit k) buf
-    stop-due h =
-        R.stop-unfit (a .run) k (ap (λ bs. misfit flagOf eachT k (n - k) bs (drop k (part at len old))) over ∙ end-due flagOf eachT k n _ h)
+  module _ (lt : k < n) where
+    pub next-ends : leading flagOf (drop (fat + i) buf) < length (drop (fat + i) buf)
+    next-ends = here some-head lt .within
 
-    pub stop-left : k < len → Walked out old (distr flagOf n (part fat flen old) (part at len old)) (Unfit k) buf
-    stop-left h =
-        R.stop-unfit (a .run) k
-        (ap (λ bs. misfit flagOf eachT k (n - k) bs (drop k (part at len old))) over ∙ end-left flagOf eachT k n _ (omega (arith, left)))
+    pub item : at + k < length buf
+    item = let o = a .given .2 .operands in omega (arith, item-there some-head lt, o .items, o .room, a .same)
 
-    pub finish : n ≤ k → len ≤ k → (o : Output) → o ≡ counted (length buf - out) done →
-        Walked out old (distr flagOf n (part fat flen old) (part at len old)) o buf
-    finish h g o e =
-        R.finish (a .run) o
-        (ap (λ bs. misfit flagOf eachT k (n - k) bs (drop k (part at len old))) over ∙ end-fits flagOf eachT k n _ h (omega (arith, left)))
-        refl
-        (ap (λ bs. spread flagOf bs (drop k (part at len old))) over ∙ spread-end flagOf _)
-        refl
-        (e ∙ ap (λ m. counted (m - out) done) (a .same))
+    module _ {end : ℕ} (e : end ≡ i + leading flagOf (drop (fat + i) buf)) where
+      is : end ≡ i + here some-head lt .count
+      is = e ∙ ap (λ m. i + m) (here some-head lt .ends)
+
+      pub gap : i ≤ end
+      gap = omega (arith, is)
+
+      pub fits-in : to + (end - i) ≤ length buf
+      fits-in = omega (arith, is, enough some-head lt)
+
+      pub bounds : end < length buf
+      bounds = let o = a .given .2 .operands in omega (arith, is, here some-head lt .flags, flags-long some-head lt, o .flags, o .room, a .same)
+
+      pub turn : mag (getD buf (at + k) (pos 0)) < 2 ^ 31 → {new : List ℤ} →
+          new ≡ sets buf to (replicate (to + (end - i) - to) (toZ w32 (ofZ w32 (getD buf (at + k) (pos 0))))) →
+          Loop old out n fat at new (end + 1) (k + 1) (to + (end - i))
+      turn h {new} w =
+          record {
+            given = a .given;
+            heads = λ flen len s.
+                let head = a .heads flen len s in
+                let same : end ≡ i + here head lt .count = e ∙ ap (λ m. i + m) (here head lt .ends) in
+                rw same (onwards head lt h (rw same at w));
+            same = ap length w ∙ length-sets buf to (replicate (to + (end - i) - to) (toZ w32 (ofZ w32 (getD buf (at + k) (pos 0))))) ∙ a .same;
+          }
+
+  pub done : n ≤ k → (flen len : ℕ) → Spreads old out n fat flen at len → buf ≡ sets old out (spread flagOf (part fat flen old) (part at len old))
+  done end flen len s = over (a .heads flen len s) end

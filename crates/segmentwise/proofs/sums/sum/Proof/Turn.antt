@@ -1,205 +1,115 @@
--- What holds at the head of `sums::sum`'s loop, and one law for each way on from there. The running total t has no more than j items, so it
--- fits 64 bits.
-use Prim.Native.Nat.{ℕ, _+_, _-_, _*_, _≤_, _<_, _^_}
-use mathlib.Core.Bool.{true}
+-- What holds at the head of `sums::sum`'s loop, and one law for each way on from there.
+use Prim.Native.Nat.{ℕ, suc, _+_, _-_, _≤_, _<_}
+use mathlib.Core.Bool.{Bool, true, _&&_}
 use mathlib.Core.List.{List, [], _∷_}
-use mathlib.Core.Path.{_≡_, refl, sym, _∙_, ap}
+use mathlib.Core.Path.{_≡_, refl, sym, _∙_, ap, transport}
 use native.Mathlib.Omega.{arith}
-use borrow.Author.Tests.{ltb-true}
-use lib.Dec.{ltb}
-use lib.IntN.{ℤ, pos, _+ℤ_}
-use lib.ListN.{length, drop, getD, set, length-set, length-drop}
-use lib.Signed.{mag}
+use lib.IntN.{ℤ, pos}
+use lib.ListN.{length, drop, set, length-set}
 use mir.Facts.{toZ-ofZ}
 use mir.Syntax.{w32, w64}
 use mir.Val.{SFits, toZ, ofZ}
-use Rattle.laws.specs.declared.range.Sum.{Sum}
-use Rattle.laws.specs.declared.range.Sum.the-variants.{Fits, Out}
 use Rattle.laws.specs.Parts.{part}
-use Rattle.laws.specs.Range.{narrowed}
-use Rattle.laws.proofs.Emits as E
-use Rattle.laws.proofs.Parts.{length-part, part-end}
-use Rattle.laws.proofs.Whole.{mag-sum, read, wide, fits-wide, narrow-fits, narrow-out}
-use Rattle.snesl.specs.Streams.{ints}
-use Rattle.snesl.specs.Transducers.{eachF, flagOf, misfit, sums, firstOutside, outside, sumPlus}
+use Rattle.laws.specs.Range.{fitting, heldOf}
+use Rattle.laws.proofs.Whole.{held-inside, held-fits, read}
+use Rattle.snesl.specs.Transducers.{flagOf, sums}
+use Rattle.flags.specs.Segments.{leading, totalFrom}
 use Rattle.streams.specs.Answers.{widestBuffer}
-use Rattle.streams.specs.Walks.{Walked, steps, counted, told, refused}
-use Rattle.streams.specs.declared.fit.Misfit.{Misfit}
-use Rattle.streams.specs.declared.fit.Turn.{Turn}
-use Rattle.streams.specs.declared.fit.Turn.the-variants as S
-use Rattle.streams.specs.declared.output.Output.{Output}
-use Rattle.streams.specs.declared.output.Output.the-variants.{Unfit}
-use Rattle.streams.proofs.Running as R
-use Rattle.streams.proofs.Running.{Running, Operands}
-use Rattle.streams.proofs.Turns.{stepped, steps-false, steps-true, misfit-false, misfit-true, stop-eachF, end-due, end-left, end-fits, sums-false, sums-true, sums-end, outside-not, outside-here, outside-none, values}
+use Rattle.streams.specs.Fills.{Fills}
+use Rattle.streams.proofs.Filling as F
+use Rattle.streams.proofs.Filling.{Filling}
+use Rattle.segmentwise.specs.Segmented.{Fitting}
+use Rattle.segmentwise.proofs.Summing as S
+use Rattle.segmentwise.proofs.Summing.{Reached, here}
 
-pub record Head (old : List ℤ) (out n fat flen at len : ℕ) (buf : List ℤ) (i j k : ℕ) (t : ℤ) : Type 0 where
-  pub operands : Operands old out fat flen at len
-  pub most : length old ≤ widestBuffer
+pub record Head (old : List ℤ) (out n fat flen at len : ℕ) (buf : List ℤ) (i j k : ℕ) (inside : Bool) : Type 0 where
+  pub reached : Reached old out n fat flen at len buf i j k
+  pub filling : Filling (sums flagOf 0 (pos 0) (part fat flen old) (part at len old)) old buf out
+      (sums flagOf k (pos 0) (drop i (part fat flen old)) (drop (j - at) (part at len old))) inside k
+
+-- of whichever lengths the streams are
+pub record Loop (old : List ℤ) (out n fat at : ℕ) (buf : List ℤ) (i j k : ℕ) (inside : Bool) : Type 0 where
+  pub given : (flen len : ℕ) × Fitting old out n fat flen at len
+  pub free : out + n ≤ length old
+  pub heads : (flen len : ℕ) → Fitting old out n fat flen at len → Head old out n fat flen at len buf i j k inside
   pub same : length buf ≡ length old
-  pub flags : i ≤ flen
-  pub items : j ≤ len
-  pub segments : k ≤ n
-  pub few : k ≤ i
-  pub size : mag t ≤ j * 2147483648
-  pub run : Running (sumPlus flagOf n (part fat flen old) (part at len old))
-      (misfit flagOf eachF k (n - k) (drop i (part fat flen old)) (drop j (part at len old)))
-      (firstOutside (sums flagOf k t (drop i (part fat flen old)) (drop j (part at len old)))) outside
-      (ints (values (sums flagOf 0 (pos 0) (part fat flen old) (part at len old)))) old buf out
-      (values (sums flagOf k t (drop i (part fat flen old)) (drop j (part at len old)))) k
 
-pub begin : {old : List ℤ} {out n fat flen at len : ℕ} →
-    (fat + flen ≤ out) × (at + len ≤ out) × (out ≤ length old) × (length old ≤ widestBuffer) → Head old out n fat flen at len old 0 0 0 (pos 0)
-begin {old} {out} {n} {fat} {flen} {at} {len} p =
-    let e : n ≡ n - 0 = omega arith in
+pub begin : {old : List ℤ} {out n fat at : ℕ} → ((flen len : ℕ) × Fitting old out n fat flen at len) × (out + n ≤ length old) → Loop old out n fat at old 0 at 0 true
+begin {old} {out} {n} {fat} {at} p =
     record {
-      operands = record { flags = p .0; items = p .1; room = p .2 };
-      most = p .3;
+      given = p .0;
+      free = p .1;
+      heads = λ flen len f.
+          let e : at - at ≡ 0 = omega arith in
+          record {
+            reached = S.start f;
+            filling =
+                F.again (F.start (sums flagOf 0 (pos 0) (part fat flen old) (part at len old)) old out)
+                (ap (λ m. sums flagOf 0 (pos 0) (part fat flen old) (drop m (part at len old))) (sym e));
+          };
       same = refl;
-      flags = omega arith;
-      items = omega arith;
-      segments = omega arith;
-      few = omega arith;
-      size = omega arith;
-      run =
-          R.again (R.start _ (misfit flagOf eachF 0 n (part fat flen old) (part at len old)) (firstOutside (sums flagOf 0 (pos 0) (part fat flen old) (part at len old)))
-          outside (ints (values (sums flagOf 0 (pos 0) (part fat flen old) (part at len old)))) old out refl)
-          (ap (λ m. misfit flagOf eachF 0 m (part fat flen old) (part at len old)) e) refl refl;
     }
 
-module _ {old : List ℤ} {out n fat flen at len : ℕ} {buf : List ℤ} {i j k : ℕ} {t : ℤ} (a : Head old out n fat flen at len buf i j k t) where
-  -- the items that are left
-  left : j + length (drop j (part at len old)) ≡ len
-  left =
-      let o = a .operands in
-      let l : length (part at len old) ≡ len = length-part at len old (omega arith) in
-      let m : length (drop j (part at len old)) ≡ length (part at len old) - j = length-drop j (part at len old) in
-      omega (arith, a .items)
+-- one more total, of the segment that ends at i + c
+next : {old : List ℤ} {out n fat flen at len : ℕ} {buf : List ℤ} {i j k : ℕ} {inside : Bool} (a : Head old out n fat flen at len buf i j k inside) (lt : k < n)
+    (t v : ℤ) {b : Bool} → t ≡ totalFrom (pos 0) (part j (here (a .reached) lt .count) buf) → b ≡ fitting t → v ≡ heldOf t →
+    Head old out n fat flen at len (set buf (out + k) v) (i + here (a .reached) lt .count + 1) (j + here (a .reached) lt .count) (k + 1) (inside && b)
+next {old} {out} {n} {fat} {flen} {at} {len} {buf} {i} {j} {k} {inside} a lt t v e p q =
+    let total : sums flagOf k (pos 0) (drop i (part fat flen old)) (drop (j - at) (part at len old))
+    ≡ (k, t) ∷ sums flagOf (k + 1) (pos 0) (drop (i + here (a .reached) lt .count + 1) (part fat flen old)) (drop (j + here (a .reached) lt .count - at) (part at len old)) =
+    S.total-here (a .reached) lt
+    ∙ ap (λ z. (k, z) ∷ sums flagOf (k + 1) (pos 0) (drop (i + here (a .reached) lt .count + 1) (part fat flen old)) (drop (j + here (a .reached) lt .count - at) (part at len old))) (sym e) in
+    let filling = F.put (a .filling) k t v total (λ f. q ∙ held-inside t f) refl p in
+    record { reached = S.onwards (a .reached) lt (F.below filling) (F.same-length filling); filling = filling }
 
-  module _ (lt : i < flen) (h : mag (getD buf (fat + i) (pos 0)) < 2 ^ 31) {r : Turn}
-      (q : r ≡ steps (flagOf (toZ w32 (ofZ w32 (getD buf (fat + i) (pos 0))))) (ltb k n) (ltb j len) true) where
-    next : drop i (part fat flen old) ≡ getD buf (fat + i) (pos 0) ∷ drop (i + 1) (part fat flen old)
-    next = R.next (a .run) fat flen i (a .operands .flags) (a .operands .room) lt
+module _ {old : List ℤ} {out n fat at : ℕ} {buf : List ℤ} {i j k : ℕ} {inside : Bool} (a : Loop old out n fat at buf i j k inside) where
+  some-head : Reached old out n fat (a .given .0) at (a .given .1) buf i j k
+  some-head = a .heads (a .given .0) (a .given .1) (a .given .2) .reached
 
-    step : {x : Turn} → r ≡ x → steps (flagOf (getD buf (fat + i) (pos 0))) (ltb k n) (ltb j len) true ≡ x
-    step = stepped (getD buf (fat + i) (pos 0)) (ltb k n) (ltb j len) true h q
+  module _ (lt : k < n) where
+    pub next-ends : leading flagOf (drop (fat + i) buf) < length (drop (fat + i) buf)
+    next-ends = here some-head lt .within
 
-    -- an F has an item to read
-    pub ready : r ≡ S.False → j < len
-    ready e = ltb-true j len (steps-false (flagOf (getD buf (fat + i) (pos 0))) (ltb k n) (ltb j len) true (step e) .2)
+    pub place : out + k < length buf
+    place = omega (arith, a .free, a .same)
 
-    module _ (e : r ≡ S.False) (hx : mag (getD buf (at + j) (pos 0)) < 2 ^ 31) where
-      pub cast : SFits w64 (toZ w32 (ofZ w32 (getD buf (at + j) (pos 0))))
-      cast = fits-wide (getD buf (at + j) (pos 0)) hx
+    module _ {end : ℕ} (e : end ≡ i + leading flagOf (drop (fat + i) buf)) where
+      is : end ≡ i + here some-head lt .count
+      is = e ∙ ap (λ m. i + m) (here some-head lt .ends)
 
-      larger : mag (t +ℤ getD buf (at + j) (pos 0)) ≤ (j + 1) * 2147483648
-      larger = omega (arith, mag-sum t (getD buf (at + j) (pos 0)), a .size)
+      pub gap : i ≤ end
+      gap = omega (arith, is)
 
-      fits : SFits w64 (t +ℤ getD buf (at + j) (pos 0))
-      fits = let o = a .operands in record { sfits = omega (arith, larger, ready e, a .most) }
+      pub items : (j ≤ j + (end - i)) × (j + (end - i) ≤ length buf) × (length buf ≤ widestBuffer)
+      items =
+          let o = a .given .2 .operands in
+          let f = a .given .2 .few in
+          omega (arith, is, S.items-left some-head lt, o .items, o .room, a .same)
 
-      pub sum-fits : SFits w64 (t +ℤ toZ w64 (ofZ w64 (toZ w32 (ofZ w32 (getD buf (at + j) (pos 0))))))
-      sum-fits = rw (wide (getD buf (at + j) (pos 0)) hx) fits
+      pub bounds : end < length buf
+      bounds = let o = a .given .2 .operands in omega (arith, is, S.flags-left some-head lt, o .flags, o .room, a .same)
 
-      pub turn-false : Head old out n fat flen at len buf (i + 1) (j + 1) k
-          (toZ w64 (ofZ w64 (t +ℤ toZ w64 (ofZ w64 (toZ w32 (ofZ w32 (getD buf (at + j) (pos 0))))))))
-      turn-false =
-          let s = steps-false (flagOf (getD buf (fat + i) (pos 0))) (ltb k n) (ltb j len) true (step e) in
-          let due : k < n = ltb-true k n (s .1) in
-          let there : j < len = ready e in
-          let x : drop j (part at len old) ≡ getD buf (at + j) (pos 0) ∷ drop (j + 1) (part at len old) =
-          R.next (a .run) at len j (a .operands .items) (a .operands .room) there in
-          let same-sums : sums flagOf k t (drop i (part fat flen old)) (drop j (part at len old))
-          ≡ sums flagOf k (t +ℤ getD buf (at + j) (pos 0)) (drop (i + 1) (part fat flen old)) (drop (j + 1) (part at len old)) =
-          (λ m. sums flagOf k t (next m) (x m)) ∙ sums-false flagOf _ _ k t _ _ (s .0) in
-          rw (wide (getD buf (at + j) (pos 0)) hx, toZ-ofZ fits)
-          (record {
-            operands = a .operands;
-            most = a .most;
-            same = a .same;
-            flags = omega arith;
-            items = omega arith;
-            segments = a .segments;
-            few = omega (arith, a .few);
-            size = larger;
-            run =
-                R.again (a .run)
-                ((λ m. misfit flagOf eachF k (n - k) (next m) (x m)) ∙ misfit-false flagOf eachF k n _ _ _ due (s .0) refl)
-                (ap firstOutside same-sums)
-                (ap values same-sums);
-          })
-
-    module _ (e : r ≡ S.True) {s : Sum} (narrow : s ≡ narrowed t) where
-      told-true : sums flagOf k t (drop i (part fat flen old)) (drop j (part at len old))
-          ≡ (k, t) ∷ sums flagOf (k + 1) (pos 0) (drop (i + 1) (part fat flen old)) (drop j (part at len old))
-      told-true =
-          let s = steps-true (flagOf (getD buf (fat + i) (pos 0))) (ltb k n) (ltb j len) true (step e) in
-          ap (λ bs. sums flagOf k t bs (drop j (part at len old))) next ∙ sums-true flagOf _ _ k t _ (s .0)
-
-      pub turn-true : (v : ℤ) → s ≡ Fits v → {new : List ℤ} → new ≡ set buf (out + k) (toZ w32 (ofZ w32 v)) →
-          Head old out n fat flen at len new (i + 1) j (k + 1) (pos 0)
-      turn-true v p {new} stored =
-          let s = steps-true (flagOf (getD buf (fat + i) (pos 0))) (ltb k n) (ltb j len) true (step e) in
-          let due : k < n = ltb-true k n (s .1) in
-          let inside = narrow-fits t v (sym narrow ∙ p) in
-          let small : mag t < 2147483648 = ltb-true (mag t) 2147483648 (inside .1) in
-          let stores : new ≡ set buf (out + k) t = stored ∙ ap (λ y. set buf (out + k) (toZ w32 (ofZ w32 y))) (inside .0) ∙ ap (set buf (out + k)) (read t (omega arith)) in
+      pub turn : (t v : ℤ) {b : Bool} → t ≡ totalFrom (pos 0) (part j (j + (end - i) - j) buf) → SFits w64 t → b ≡ fitting (toZ w64 (ofZ w64 t)) →
+          v ≡ heldOf (toZ w64 (ofZ w64 t)) → Loop old out n fat at (set buf (out + k) (toZ w32 (ofZ w32 v))) (end + 1) (j + (end - i)) (k + 1) (inside && b)
+      turn t v {b} total ok p q =
+          let held : toZ w32 (ofZ w32 v) ≡ heldOf t = ap (λ y. toZ w32 (ofZ w32 y)) (q ∙ ap heldOf (toZ-ofZ ok)) ∙ read (heldOf t) (held-fits t) in
           record {
-            operands = a .operands;
-            most = a .most;
-            same = ap length stores ∙ length-set buf (out + k) t ∙ a .same;
-            flags = omega arith;
-            items = a .items;
-            segments = omega arith;
-            few = omega (arith, a .few);
-            size = omega arith;
-            run =
-                R.put (a .run) t stores
-                (ap (λ bs. misfit flagOf eachF k (n - k) bs (drop j (part at len old))) next ∙ misfit-true flagOf eachF k n _ _ _ due (s .0) refl)
-                (ap firstOutside told-true ∙ outside-not k t _ (inside .1))
-                (ap values told-true);
+            given = a .given;
+            free = a .free;
+            heads = λ flen len f.
+                let head = a .heads flen len f in
+                let same : end ≡ i + here (head .reached) lt .count = e ∙ ap (λ m. i + m) (here (head .reached) lt .ends) in
+                let m1 : j + (end - i) - j ≡ here (head .reached) lt .count = omega arith in
+                let m2 : i + here (head .reached) lt .count + 1 ≡ end + 1 = omega arith in
+                let m3 : j + here (head .reached) lt .count ≡ j + (end - i) = omega arith in
+                let h = next head lt t (toZ w32 (ofZ w32 v)) (total ∙ ap (λ c. totalFrom (pos 0) (part j c buf)) m1) (p ∙ ap fitting (toZ-ofZ ok)) held in
+                transport (λ x. Head old out n fat flen at len (set buf (out + k) (toZ w32 (ofZ w32 v))) (m2 x) (m3 x) (k + 1) (inside && b)) h;
+            same = length-set buf (out + k) (toZ w32 (ofZ w32 v)) ∙ a .same;
           }
 
-      pub stop-outside : s ≡ Out → {m : Misfit} →
-          ((xs : List ℤ) → length xs ≡ len - j → m ≡ told (misfit flagOf eachF k (n - k) (drop i (part fat flen buf)) xs)) →
-          {o : Output} → o ≡ refused m k → Walked out old (sumPlus flagOf n (part fat flen old) (part at len old)) o buf
-      stop-outside p {m} rest {o} y =
-          R.stop-outside (a .run) k o refl
-          (ap firstOutside told-true ∙ outside-here k t _ (narrow-out t (sym narrow ∙ p)))
-          (y
-          ∙ ap (λ x. refused x k)
-          (rest (drop j (part at len old)) (omega (arith, left))
-          ∙ ap (λ bs. told (misfit flagOf eachF k (n - k) (drop i bs) (drop j (part at len old)))) (E.operand (a .run .emits) fat flen (a .operands .flags))))
-
-    pub stop : r ≡ S.Misfit → Walked out old (sumPlus flagOf n (part fat flen old) (part at len old)) (Unfit k) buf
-    stop e =
-        R.stop-unfit (a .run) k
-        (ap (λ bs. misfit flagOf eachF k (n - k) bs (drop j (part at len old))) next ∙ stop-eachF flagOf k n j len _ _ _ left (step e))
-
-  module _ (end : flen ≤ i) where
-    over : drop i (part fat flen old) ≡ []
-    over =
-        let o = a .operands in
-        let e : i ≡ flen = omega (arith, a .flags) in
-        ap (λ m. drop m (part fat flen old)) e ∙ part-end fat flen old (omega arith)
-
-    pub stop-due : k < n → Walked out old (sumPlus flagOf n (part fat flen old) (part at len old)) (Unfit k) buf
-    stop-due h =
-        R.stop-unfit (a .run) k (ap (λ bs. misfit flagOf eachF k (n - k) bs (drop j (part at len old))) over ∙ end-due flagOf eachF k n _ h)
-
-    pub stop-left : j < len → Walked out old (sumPlus flagOf n (part fat flen old) (part at len old)) (Unfit k) buf
-    stop-left h =
-        R.stop-unfit (a .run) k
-        (ap (λ bs. misfit flagOf eachF k (n - k) bs (drop j (part at len old))) over ∙ end-left flagOf eachF k n _ (omega (arith, left)))
-
-    pub finish : n ≤ k → len ≤ j → (o : Output) → o ≡ counted (length buf - out) k →
-        Walked out old (sumPlus flagOf n (part fat flen old) (part at len old)) o buf
-    finish h g o e =
-        let none-left : sums flagOf k t (drop i (part fat flen old)) (drop j (part at len old)) ≡ [] =
-        ap (λ bs. sums flagOf k t bs (drop j (part at len old))) over ∙ sums-end flagOf k t _ in
-        R.finish (a .run) o
-        (ap (λ bs. misfit flagOf eachF k (n - k) bs (drop j (part at len old))) over ∙ end-fits flagOf eachF k n _ h (omega (arith, left)))
-        (ap firstOutside none-left ∙ outside-none)
-        (ap values none-left)
-        refl
-        (e ∙ ap (λ m. counted (m - out) k) (a .same))
+  pub done : n ≤ k → (flen len : ℕ) → Fitting old out n fat flen at len → Fills (sums flagOf 0 (pos 0) (part fat flen old) (part at len old)) out n old inside buf
+  done end flen len f =
+      let h = a .heads flen len f in
+      let all : k ≡ n = omega (arith, h .reached .segments) in
+      let o = F.over (h .filling) (S.over (h .reached) end) in
+      record { says = o .0; long = o .1 ∙ all; wrote = o .2; before = F.below (h .filling); behind = F.behind (h .filling) n (h .reached .segments) }
