@@ -8,13 +8,13 @@ use borrow.Author.Tests.{le-leb}
 use mathlib.Core.List.{List, [], _++_, append-nil}
 use mathlib.Core.Path.{_≡_, refl, sym, _∙_, ap, ap₂, subst}
 use native.Mathlib.Omega.{arith}
-use lib.IntN.{ℤ, pos}
+use lib.IntN.{ℤ}
 use mir.Facts.{toZ-ofZ}
 use mir.Syntax.{w32}
 use mir.Val.{SFits, toZ, ofZ}
 use lib.ListN.{length, take, drop, take-append-drop}
 use Rattle.laws.proofs.Never.{never}
-use Rattle.laws.specs.Parts.{part, written, cleared}
+use Rattle.laws.specs.Parts.{part, written}
 use Rattle.snesl.specs.declared.code.StreamId.{StreamId}
 use Rattle.snesl.specs.declared.code.Transducer.{Transducer}
 use Rattle.snesl.specs.declared.code.Transducer.the-variants.{Const, ToFlags, Usum, MapTwoPlus, ScanPlus, Distr, SumPlus}
@@ -36,10 +36,10 @@ transduced {out} {old} {new} {r} {x} {y} e a =
       wrote =
           λ s q h.
           a .leaves
-          ∙ (ap (after out old) (sym e ∙ q)
+          ∙ (ap (after out old new) (sym e ∙ q)
           ∙ (λ i. elim (le-leb (length (elements s)) (length old - out) h i) [
             | true ↦ written out (elements s) old
-            | false ↦ cleared (pos 0) out old
+            | false ↦ old
           ]));
     }
 

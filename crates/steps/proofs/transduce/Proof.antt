@@ -68,13 +68,13 @@ same-length-4 : tie.Need-same-length-4
 same-length-4 c = search needs
 
 returns-4 : tie.Need-returns-4
-returns-4 c = λ σ a. map-two-plus-answers a _ _ _ (c .before .before .before .enum-told3 .given .1) (c .before .map-two-plus .ensures)
+returns-4 c = λ σ a. map-two-plus-answers a _ _ _ (c .before .before .before .enum-told3 .given .1) (c .before .map-two-plus .ensures .0)
 
 same-length-5 : tie.Need-same-length-5
 same-length-5 c = search needs
 
 returns-5 : tie.Need-returns-5
-returns-5 c = λ σ a. scan-plus-answers a _ _ _ _ (c .before .before .before .before .t2 .given .1) (record { sfits = c .before .before .before .known-told2 .given .0 .1 }) (c .before .scan-plus .ensures)
+returns-5 c = λ σ a. scan-plus-answers a _ _ _ _ (c .before .before .before .before .t2 .given .1) (record { sfits = c .before .before .before .known-told2 .given .0 .1 }) (c .before .scan-plus .ensures .0)
 
 same-length-6 : tie.Need-same-length-6
 same-length-6 c = search needs
@@ -86,7 +86,7 @@ same-length-7 : tie.Need-same-length-7
 same-length-7 c = search needs
 
 returns-7 : tie.Need-returns-7
-returns-7 c = λ σ a. sum-plus-answers a _ _ _ (c .before .before .before .enum-told5 .given .1) (c .before .sum-plus .ensures)
+returns-7 c = λ σ a. sum-plus-answers a _ _ _ (c .before .before .before .enum-told5 .given .1) (c .before .sum-plus .ensures .0)
 
 pub transduce-spec : {M : Type 1} → statement M
 transduce-spec =

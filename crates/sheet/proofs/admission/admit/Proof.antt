@@ -1,7 +1,7 @@
 -- Each refusal is the first that the definitions meet.
 use mathlib.Core.Path.{sym, _∙_}
 use borrow.Author.Needs.{needs}
-use Rattle.sheet.proofs.Admitting.{refused-read, job-found, front-found, refused-typed, refused-valued, admitted}
+use Rattle.sheet.proofs.Admitting.{refused-read, kept-read, job-found, front-found, refused-typed, kept-typed, refused-valued, tallied-all, admitted}
 use Rattle.sheet.proofs.admission.admit.Statement.{statement}
 use Rattle.sheet.proofs.admission.admit.Tie as tie
 
@@ -15,7 +15,11 @@ enum-known-found : tie.Need-enum-known-found
 enum-known-found c = search needs
 
 check-front-requires : tie.Need-check-front-requires
-check-front-requires c κs = front-found (c .before .before .before .before .before .before .args .job .now) (job-found (c .before .before .before .before .before .before .args .job .now) (c .before .before .found .given .0 .0) (sym (c .before .before .found .given .1) ∙ c .before .before .before .before .read-job .ensures))
+check-front-requires c κs =
+    let at-found = c .before .before in
+    let at-read-job = at-found .before .before in
+    let at-start = at-read-job .before .before .before in
+    front-found (at-start .args .job .now) (job-found (at-start .args .job .now) (at-found .found .given .0 .0) (sym (at-found .found .given .1) ∙ at-read-job .read-job .ensures))
 
 enum-known-refusal-2 : tie.Need-enum-known-refusal-2
 enum-known-refusal-2 c = search needs
@@ -23,8 +27,12 @@ enum-known-refusal-2 c = search needs
 enum-told : tie.Need-enum-told
 enum-told c = search needs
 
-texts-hold-requires : tie.Need-texts-hold-requires
-texts-hold-requires c κs = (job-found (c .before .before .before .before .before .before .before .before .before .args .job .now) (c .before .before .before .before .before .found .given .0 .0) (sym (c .before .before .before .before .before .found .given .1) ∙ c .before .before .before .before .before .before .before .read-job .ensures))
+measure-texts-requires : tie.Need-measure-texts-requires
+measure-texts-requires c κs =
+    let at-found = c .before .before .before .before .before .before in
+    let at-read-job = at-found .before .before in
+    let at-start = at-read-job .before .before .before in
+    (job-found (at-start .args .job .now) (at-found .found .given .0 .0) (sym (at-found .found .given .1) ∙ at-read-job .read-job .ensures), at-start .pre)
 
 enum-told-2 : tie.Need-enum-told-2
 enum-told-2 c = search needs
@@ -33,16 +41,56 @@ enum-known-place : tie.Need-enum-known-place
 enum-known-place c = search needs
 
 returns : tie.Need-returns
-returns c = refused-read (c .before .before .before .before .before .args .job .now) (c .before .refusal .given .0 .0) (sym (c .before .refusal .given .1) ∙ c .before .before .before .read-job .ensures)
+returns c =
+    let at-refusal = c .before in
+    let at-read-job = at-refusal .before .before in
+    let at-start = at-read-job .before .before .before in
+    let why = sym (at-refusal .refusal .given .1) ∙ at-read-job .read-job .ensures in
+    (refused-read (at-start .args .job .now) (at-refusal .refusal .given .0 .0) why, kept-read (at-start .args .job .now) (at-refusal .refusal .given .0 .0) why (at-start .args .counts .now))
 
 returns-2 : tie.Need-returns-2
-returns-2 c = refused-typed (c .before .before .before .before .before .before .before .before .before .before .args .job .now) (job-found (c .before .before .before .before .before .before .before .before .before .before .args .job .now) (c .before .before .before .before .before .before .found .given .0 .0) (sym (c .before .before .before .before .before .before .found .given .1) ∙ c .before .before .before .before .before .before .before .before .read-job .ensures)) (c .before .refusal2 .given .0 .0) (sym (c .before .refusal2 .given .1) ∙ c .before .before .before .check-front .ensures)
+returns-2 c =
+    let at-refusal2 = c .before in
+    let at-check-front = at-refusal2 .before .before in
+    let at-found = at-check-front .before .before .before in
+    let at-read-job = at-found .before .before in
+    let at-start = at-read-job .before .before .before in
+    let found = job-found (at-start .args .job .now) (at-found .found .given .0 .0) (sym (at-found .found .given .1) ∙ at-read-job .read-job .ensures) in
+    let why = sym (at-refusal2 .refusal2 .given .1) ∙ at-check-front .check-front .ensures in
+    (refused-typed (at-start .args .job .now) found (at-refusal2 .refusal2 .given .0 .0) why, kept-typed (at-start .args .job .now) found (at-refusal2 .refusal2 .given .0 .0) why (at-start .args .counts .now))
+
+same-length : tie.Need-same-length
+same-length c = search needs
 
 returns-3 : tie.Need-returns-3
-returns-3 c = admitted (c .before .before .before .before .before .before .before .before .before .before .before .before .args .job .now) (job-found (c .before .before .before .before .before .before .before .before .before .before .before .before .args .job .now) (c .before .before .before .before .before .before .before .before .found .given .0 .0) (sym (c .before .before .before .before .before .before .before .before .found .given .1) ∙ c .before .before .before .before .before .before .before .before .before .before .read-job .ensures)) (c .before .before .before .enum-told .given .0 .0) (c .before .before .before .enum-told .given .0 .1 .0) (sym (c .before .before .before .enum-told .given .1) ∙ c .before .before .before .before .before .check-front .ensures) (sym (c .enum-told2 .given .1) ∙ c .before .before .texts-hold .ensures (job-found (c .before .before .before .before .before .before .before .before .before .before .before .before .args .job .now) (c .before .before .before .before .before .before .before .before .found .given .0 .0) (sym (c .before .before .before .before .before .before .before .before .found .given .1) ∙ c .before .before .before .before .before .before .before .before .before .before .read-job .ensures)))
+returns-3 c =
+    let at-measure-texts = c .before .before .before .before in
+    let at-enum-told = at-measure-texts .before .before in
+    let at-check-front = at-enum-told .before .before in
+    let at-found = at-check-front .before .before .before in
+    let at-read-job = at-found .before .before in
+    let at-start = at-read-job .before .before .before in
+    let found = job-found (at-start .args .job .now) (at-found .found .given .0 .0) (sym (at-found .found .given .1) ∙ at-read-job .read-job .ensures) in (
+      admitted (at-start .args .job .now) found (at-enum-told .enum-told .given .0 .0) (sym (at-enum-told .enum-told .given .1) ∙ at-check-front .check-front .ensures) (sym (c .enum-told2 .given .1) ∙ at-measure-texts .measure-texts .ensures .0 found),
+      at-measure-texts .measure-texts .ensures .1 found ∙ tallied-all (at-start .args .job .now) found (at-enum-told .enum-told .given .0 .0) (sym (at-enum-told .enum-told .given .1) ∙ at-check-front .check-front .ensures) (at-start .args .counts .now),
+    )
+
+same-length-2 : tie.Need-same-length-2
+same-length-2 c = search needs
 
 returns-4 : tie.Need-returns-4
-returns-4 c = refused-valued (c .before .before .before .before .before .before .before .before .before .before .before .before .before .args .job .now) (job-found (c .before .before .before .before .before .before .before .before .before .before .before .before .before .args .job .now) (c .before .before .before .before .before .before .before .before .before .found .given .0 .0) (sym (c .before .before .before .before .before .before .before .before .before .found .given .1) ∙ c .before .before .before .before .before .before .before .before .before .before .before .read-job .ensures)) (c .before .before .before .before .enum-told .given .0 .0) (c .before .before .before .before .enum-told .given .0 .1 .0) (sym (c .before .before .before .before .enum-told .given .1) ∙ c .before .before .before .before .before .before .check-front .ensures) (c .before .place .given .0 .0) (sym (c .before .place .given .1) ∙ c .before .before .before .texts-hold .ensures (job-found (c .before .before .before .before .before .before .before .before .before .before .before .before .before .args .job .now) (c .before .before .before .before .before .before .before .before .before .found .given .0 .0) (sym (c .before .before .before .before .before .before .before .before .before .found .given .1) ∙ c .before .before .before .before .before .before .before .before .before .before .before .read-job .ensures)))
+returns-4 c =
+    let at-place = c .before in
+    let at-measure-texts = at-place .before .before .before .before in
+    let at-enum-told = at-measure-texts .before .before in
+    let at-check-front = at-enum-told .before .before in
+    let at-found = at-check-front .before .before .before in
+    let at-read-job = at-found .before .before in
+    let at-start = at-read-job .before .before .before in
+    let found = job-found (at-start .args .job .now) (at-found .found .given .0 .0) (sym (at-found .found .given .1) ∙ at-read-job .read-job .ensures) in (
+      refused-valued (at-start .args .job .now) found (at-enum-told .enum-told .given .0 .0) (sym (at-enum-told .enum-told .given .1) ∙ at-check-front .check-front .ensures) (at-place .place .given .0 .0) (sym (at-place .place .given .1) ∙ at-measure-texts .measure-texts .ensures .0 found),
+      at-measure-texts .measure-texts .ensures .1 found ∙ tallied-all (at-start .args .job .now) found (at-enum-told .enum-told .given .0 .0) (sym (at-enum-told .enum-told .given .1) ∙ at-check-front .check-front .ensures) (at-start .args .counts .now),
+    )
 
 pub admit-spec : {M : Type 1} → statement M
 admit-spec =
@@ -54,10 +102,12 @@ admit-spec =
     check-front-requires
     enum-known-refusal-2
     enum-told
-    texts-hold-requires
+    measure-texts-requires
     enum-told-2
     enum-known-place
     returns
     returns-2
+    same-length
     returns-3
+    same-length-2
     returns-4)
