@@ -199,276 +199,276 @@ module _ {t : List ℕ} {k sp : ℕ} {env : List ℕ} {buf : List ℤ} {state te
 
       module _ {buf₁ : List ℤ} {state₁ text₁ : List ℕ} {r₁ : Executed}
           (p₁ : Instructed (stepped (length buf) n (Usum (id (getD env₁ (sp - 3) 0))) (g .scene .machine)) (Usum (id (getD env₁ (sp - 3) 0))) (g .scene .machine) (g .scene .sink) buf buf₁ state₁ text₁ r₁) where
-       own : Instructed (stepped (length buf) n (Usum (id flagsId)) (g .scene .machine)) (Usum (id flagsId)) (g .scene .machine) (g .scene .sink) buf buf₁ state₁ text₁ r₁
-       own = subst (λ i. Instructed (stepped (length buf) n (Usum (id i)) (g .scene .machine)) (Usum (id i)) (g .scene .machine) (g .scene .sink) buf buf₁ state₁ text₁ r₁) named p₁
+        own : Instructed (stepped (length buf) n (Usum (id flagsId)) (g .scene .machine)) (Usum (id flagsId)) (g .scene .machine) (g .scene .sink) buf buf₁ state₁ text₁ r₁
+        own = subst (λ i. Instructed (stepped (length buf) n (Usum (id i)) (g .scene .machine)) (Usum (id i)) (g .scene .machine) (g .scene .sink) buf buf₁ state₁ text₁ r₁) named p₁
 
-       pub usum-stopped : {env′ : List ℕ} {q : Refusal} → r₁ ≡ Stopped q → Enters g n env′ buf₁ state₁ text₁ (entered.Stopped q)
-       usum-stopped {q = q} f =
-          enters-stopped (stopping-as start-code (onward-stop (walked (length buf) n (distrs flagsId us (g .scene .trees) done ⨾ control)) (stopping (length buf) n (Usum (id flagsId)) own q f)))
+        pub usum-stopped : {env′ : List ℕ} {q : Refusal} → r₁ ≡ Stopped q → Enters g n env′ buf₁ state₁ text₁ (entered.Stopped q)
+        usum-stopped {q = q} f =
+            enters-stopped (stopping-as start-code (onward-stop (walked (length buf) n (distrs flagsId us (g .scene .trees) done ⨾ control)) (stopping (length buf) n (Usum (id flagsId)) own q f)))
 
-       module _ {i : ℕ} (e₁ : r₁ ≡ Made i) (long : length buf₁ ≡ length buf) where
-        pub u : Making (length buf) n (Usum (id (outer (lookup (g .pointer) (g .scene .trees))))) (g .scene .machine) (g .scene .sink) buf buf₁ state₁ text₁ i
-        u = making (length buf) n (Usum (id flagsId)) own i e₁
+        module _ {i : ℕ} (e₁ : r₁ ≡ Made i) (long : length buf₁ ≡ length buf) where
+          pub u : Making (length buf) n (Usum (id (outer (lookup (g .pointer) (g .scene .trees))))) (g .scene .machine) (g .scene .sink) buf buf₁ state₁ text₁ i
+          u = making (length buf) n (Usum (id flagsId)) own i e₁
 
-        pub units-stored : u .after .store ≡ store ++ units i ∷ []
-        units-stored =
-            let o = units-of (u .added-to .stream) (u .added-to .kind) in
-            u .added-to .store ∙ ap (λ a. store ++ a ∷ []) (o .1 ∙ ap units (sym (u .long ∙ ap len (o .1))))
+          pub units-stored : u .after .store ≡ store ++ units i ∷ []
+          units-stored =
+              let o = units-of (u .added-to .stream) (u .added-to .kind) in
+              u .added-to .store ∙ ap (λ a. store ++ a ∷ []) (o .1 ∙ ap units (sym (u .long ∙ ap len (o .1))))
 
-        units-quiet : n ≡ 0 → i ≡ 0
-        units-quiet z = u .long ∙ ap len (u .added-to .quiet z)
+          units-quiet : n ≡ 0 → i ≡ 0
+          units-quiet z = u .long ∙ ap len (u .added-to .quiet z)
 
-        pub units-next : length (u .after .store) ≡ suc (length store)
-        units-next = ap length units-stored ∙ (length-append store (units i ∷ []) ∙ omega arith)
+          pub units-next : length (u .after .store) ≡ suc (length store)
+          units-next = ap length units-stored ∙ (length-append store (units i ∷ []) ∙ omega arith)
 
-        pub still-placed : PlacedAt (u .after .store) env₁ Flags (outer (lookup (g .pointer) (g .scene .trees))) (sp - 3)
-        still-placed = placed-later (units i ∷ []) flags-placed units-stored refl
+          pub still-placed : PlacedAt (u .after .store) env₁ Flags (outer (lookup (g .pointer) (g .scene .trees))) (sp - 3)
+          still-placed = placed-later (units i ∷ []) flags-placed units-stored refl
 
-        abbrev pub scene₁ : Scene env₁ sp buf₁ state₁ text₁
-        scene₁ =
-            later (g .scene) (u .after) (units i ∷ []) units-stored (u .held) same-above same-long
-            (defined (length (g .scene .machine .store)) (Usum (id (outer (lookup (g .pointer) (g .scene .trees))))) (g .scene .sink)) (u .sunk)
-            (like-defined (g .scene .sink) (length (g .scene .machine .store)) (Usum (id (outer (lookup (g .pointer) (g .scene .trees))))))
+          abbrev pub scene₁ : Scene env₁ sp buf₁ state₁ text₁
+          scene₁ =
+              later (g .scene) (u .after) (units i ∷ []) units-stored (u .held) same-above same-long
+              (defined (length (g .scene .machine .store)) (Usum (id (outer (lookup (g .pointer) (g .scene .trees))))) (g .scene .sink)) (u .sunk)
+              (like-defined (g .scene .sink) (length (g .scene .machine .store)) (Usum (id (outer (lookup (g .pointer) (g .scene .trees))))))
 
-        abbrev pub distributing : Distributing t (k + 5) (byteAt t (k + 4)) (sp - 3 - 5 * byteAt t (k + 4)) sp env₁ buf₁ state₁ text₁
-        distributing =
-            record {
-              scene = scene₁;
-              flags = outer (lookup (g .pointer) (g .scene .trees));
-              list = g .list;
-              lists = g .lists;
-              placed = still-placed;
-              bytes = g .bytes;
-              space = omega (arith, g .space, g .most);
-              few = omega (arith, g .few, g .bytes, units-next);
-            }
+          abbrev pub distributing : Distributing t (k + 5) (byteAt t (k + 4)) (sp - 3 - 5 * byteAt t (k + 4)) sp env₁ buf₁ state₁ text₁
+          distributing =
+              record {
+                scene = scene₁;
+                flags = outer (lookup (g .pointer) (g .scene .trees));
+                list = g .list;
+                lists = g .lists;
+                placed = still-placed;
+                bytes = g .bytes;
+                space = omega (arith, g .space, g .most);
+                few = omega (arith, g .few, g .bytes, units-next);
+              }
 
-        distrs-code : walked (length buf) n (code (terms.each (g .pointer) us (g .body)) (g .scene .trees) (length store)) (g .scene .machine)
-            ≡ onward (walked (length buf₁) n (distrs flagsId us (g .scene .trees) done) (u .after)) (walked (length buf) n control)
-        distrs-code =
-            start-code
-            ∙ (onward-as (walked (length buf) n (distrs flagsId us (g .scene .trees) done ⨾ control)) (u .went-to)
-            ∙ (walked-seq (length buf) n (distrs flagsId us (g .scene .trees) done) control (u .after)
-            ∙ ap (λ c. onward (walked c n (distrs flagsId us (g .scene .trees) done) (u .after)) (walked (length buf) n control)) (sym long)))
+          distrs-code : walked (length buf) n (code (terms.each (g .pointer) us (g .body)) (g .scene .trees) (length store)) (g .scene .machine)
+              ≡ onward (walked (length buf₁) n (distrs flagsId us (g .scene .trees) done) (u .after)) (walked (length buf) n control)
+          distrs-code =
+              start-code
+              ∙ (onward-as (walked (length buf) n (distrs flagsId us (g .scene .trees) done ⨾ control)) (u .went-to)
+              ∙ (walked-seq (length buf) n (distrs flagsId us (g .scene .trees) done) control (u .after)
+              ∙ ap (λ c. onward (walked c n (distrs flagsId us (g .scene .trees) done) (u .after)) (walked (length buf) n control)) (sym long)))
 
-        module _ {env₂ : List ℕ} {buf₂ : List ℤ} {state₂ text₂ : List ℕ} {r : Listed}
-            (d : Distributed scene₁ (outer (lookup (g .pointer) (g .scene .trees))) (g .list) n (sp - 3 - 5 * byteAt t (k + 4)) env₂ buf₂ state₂ text₂ r) where
-          pub distr-stopped : {q : Refusal} → r ≡ listed.Stopped q → Enters g n env₂ buf₂ state₂ text₂ (entered.Stopped q)
-          distr-stopped {q} f = enters-stopped (stopping-as distrs-code (onward-stop (walked (length buf) n control) (listed-stopping d q f)))
+          module _ {env₂ : List ℕ} {buf₂ : List ℤ} {state₂ text₂ : List ℕ} {r : Listed}
+              (d : Distributed scene₁ (outer (lookup (g .pointer) (g .scene .trees))) (g .list) n (sp - 3 - 5 * byteAt t (k + 4)) env₂ buf₂ state₂ text₂ r) where
+            pub distr-stopped : {q : Refusal} → r ≡ listed.Stopped q → Enters g n env₂ buf₂ state₂ text₂ (entered.Stopped q)
+            distr-stopped {q} f = enters-stopped (stopping-as distrs-code (onward-stop (walked (length buf) n control) (listed-stopping d q f)))
 
-          -- inside
-          module _ (f : r ≡ listed.Bound) (long₂ : length env₂ ≡ length env₁) {env₃ : List ℕ} {sp′ : ℕ}
-              (at : sp′ ≡ sp - 3 - 5 * byteAt t (k + 4) - treeSize (getD env (p + 1) 0 - 1) - 2)
-              (w₃ : env₃ ≡ written (sp - 3 - 5 * byteAt t (k + 4) - treeSize (getD env (p + 1) 0 - 1) - 2) (byteAt t (k + 2) ∷ (getD env (p + 1) 0 - 1) ∷ [])
-              (written (sp - 3 - 5 * byteAt t (k + 4) - treeSize (getD env (p + 1) 0 - 1)) (part (p + 2) (treeSize (getD env (p + 1) 0 - 1)) env₂) env₂)) where
-            end : Ended d
-            end = ended d f
+            -- inside
+            module _ (f : r ≡ listed.Bound) (long₂ : length env₂ ≡ length env₁) {env₃ : List ℕ} {sp′ : ℕ}
+                (at : sp′ ≡ sp - 3 - 5 * byteAt t (k + 4) - treeSize (getD env (p + 1) 0 - 1) - 2)
+                (w₃ : env₃ ≡ written (sp - 3 - 5 * byteAt t (k + 4) - treeSize (getD env (p + 1) 0 - 1) - 2) (byteAt t (k + 2) ∷ (getD env (p + 1) 0 - 1) ∷ [])
+                (written (sp - 3 - 5 * byteAt t (k + 4) - treeSize (getD env (p + 1) 0 - 1)) (part (p + 2) (treeSize (getD env (p + 1) 0 - 1)) env₂) env₂)) where
+              end : Ended d
+              end = ended d f
 
-            gr : Grown (u .after) (distrs flagsId us (g .scene .trees) done) (end .after)
-            gr = walked-grown (length buf₁) n (distrs flagsId us (g .scene .trees) done) (u .after) (end .after) (end .went-to)
+              gr : Grown (u .after) (distrs flagsId us (g .scene .trees) done) (end .after)
+              gr = walked-grown (length buf₁) n (distrs flagsId us (g .scene .trees) done) (u .after) (end .after) (end .went-to)
 
-            abbrev all-streams : Store
-            all-streams = units i ∷ gr .streams
+              abbrev all-streams : Store
+              all-streams = units i ∷ gr .streams
 
-            stored : end .after .store ≡ store ++ all-streams
-            stored = gr .store ∙ (ap (λ σ. σ ++ gr .streams) units-stored ∙ append-assoc store (units i ∷ []) (gr .streams))
+              stored : end .after .store ≡ store ++ all-streams
+              stored = gr .store ∙ (ap (λ σ. σ ++ gr .streams) units-stored ∙ append-assoc store (units i ∷ []) (gr .streams))
 
-            abbrev sink₂ : Sink
-            sink₂ = feed (length (u .after .store)) (distrs flagsId us (g .scene .trees) done) sink₁
+              abbrev sink₂ : Sink
+              sink₂ = feed (length (u .after .store)) (distrs flagsId us (g .scene .trees) done) sink₁
 
-            as-many : length us ≡ j
-            as-many = length-listed (g .scene .names) (variablesAt t (k + 5) j) (g .list) (g .lists) ∙ length-variables t (k + 5) j
+              as-many : length us ≡ j
+              as-many = length-listed (g .scene .names) (variablesAt t (k + 5) j) (g .list) (g .lists) ∙ length-variables t (k + 5) j
 
-            number : length (end .after .store) ≡ inside-at
-            unfolding count
-            number =
-                ap length stored
-                ∙ (length-append store all-streams ∙ omega (arith, gr .number, count-distrs flagsId us (g .scene .trees) done))
+              number : length (end .after .store) ≡ inside-at
+              unfolding count
+              number =
+                  ap length stored
+                  ∙ (length-append store all-streams ∙ omega (arith, gr .number, count-distrs flagsId us (g .scene .trees) done))
 
-            control-there : end .after .store ! length store ≡ some (units i)
-            control-there =
-                ap (λ σ. σ ! length store) (gr .store)
-                ∙ kept (u .after .store) (gr .streams) (length store) (units i) (ap (λ σ. σ ! length store) units-stored ∙ newest store (units i))
+              control-there : end .after .store ! length store ≡ some (units i)
+              control-there =
+                  ap (λ σ. σ ! length store) (gr .store)
+                  ∙ kept (u .after .store) (gr .streams) (length store) (units i) (ap (λ σ. σ ! length store) units-stored ∙ newest store (units i))
 
-            whole : walked (length buf) n (code (terms.each (g .pointer) us (g .body)) (g .scene .trees) (length store)) (g .scene .machine)
-                ≡ walked (length buf) i (code (g .body) (innerTrees g) (length (end .after .store))) (end .after)
-            whole =
-                distrs-code
-                ∙ (onward-as (walked (length buf) n control) (end .went-to)
-                ∙ (walked-with (length buf) n i _ (length store) _ (code (g .body) (innerTrees g) inside-at) done (end .after) control-there units-quiet
-                ∙ (onward-done (length buf) n (walked (length buf) i (code (g .body) (innerTrees g) inside-at) (end .after))
-                ∙ ap (λ a. walked (length buf) i (code (g .body) (innerTrees g) a) (end .after)) (sym number))))
+              whole : walked (length buf) n (code (terms.each (g .pointer) us (g .body)) (g .scene .trees) (length store)) (g .scene .machine)
+                  ≡ walked (length buf) i (code (g .body) (innerTrees g) (length (end .after .store))) (end .after)
+              whole =
+                  distrs-code
+                  ∙ (onward-as (walked (length buf) n control) (end .went-to)
+                  ∙ (walked-with (length buf) n i _ (length store) _ (code (g .body) (innerTrees g) inside-at) done (end .after) control-there units-quiet
+                  ∙ (onward-done (length buf) n (walked (length buf) i (code (g .body) (innerTrees g) inside-at) (end .after))
+                  ∙ ap (λ a. walked (length buf) i (code (g .body) (innerTrees g) a) (end .after)) (sym number))))
 
-            controlled-fed : feed (length (end .after .store)) control sink₂
-                ≡ closed (feed (length (end .after .store)) (code (g .body) (innerTrees g) (length (end .after .store))) (opens g (length (end .after .store)) sink₂))
-            unfolding feed
-            controlled-fed = ap (λ a. closed (feed (length (end .after .store)) (code (g .body) (innerTrees g) a) (opens g a sink₂))) (sym number)
+              controlled-fed : feed (length (end .after .store)) control sink₂
+                  ≡ closed (feed (length (end .after .store)) (code (g .body) (innerTrees g) (length (end .after .store))) (opens g (length (end .after .store)) sink₂))
+              unfolding feed
+              controlled-fed = ap (λ a. closed (feed (length (end .after .store)) (code (g .body) (innerTrees g) a) (opens g a sink₂))) (sym number)
 
-            fed : feed (length store) (code (terms.each (g .pointer) us (g .body)) (g .scene .trees) (length store)) (g .scene .sink)
-                ≡ closed (feed (length (end .after .store)) (code (g .body) (innerTrees g) (length (end .after .store))) (opens g (length (end .after .store)) sink₂))
-            unfolding code count
-            fed =
-                let one : length store + 1 ≡ length (u .after .store) = omega (arith, units-next) in
-                let up : length (u .after .store) + count (distrs flagsId us (g .scene .trees) done) ≡ length (end .after .store) =
-                omega (arith, number, units-next, count-distrs flagsId us (g .scene .trees) done) in
-                ap (λ p. feed (length store) (define (Usum (id flagsId)) p) (g .scene .sink)) (distrs-then flagsId us (g .scene .trees) control)
-                ∙ (define-fed (length store) (Usum (id flagsId)) (distrs flagsId us (g .scene .trees) done ⨾ control) (g .scene .sink)
-                ∙ (ap (λ s. feed s (distrs flagsId us (g .scene .trees) done ⨾ control) sink₁) one
-                ∙ (fed-then (length (u .after .store)) (distrs flagsId us (g .scene .trees) done) control sink₁
-                ∙ (ap (λ s. feed s control sink₂) up ∙ controlled-fed))))
+              fed : feed (length store) (code (terms.each (g .pointer) us (g .body)) (g .scene .trees) (length store)) (g .scene .sink)
+                  ≡ closed (feed (length (end .after .store)) (code (g .body) (innerTrees g) (length (end .after .store))) (opens g (length (end .after .store)) sink₂))
+              unfolding code count
+              fed =
+                  let one : length store + 1 ≡ length (u .after .store) = omega (arith, units-next) in
+                  let up : length (u .after .store) + count (distrs flagsId us (g .scene .trees) done) ≡ length (end .after .store) =
+                  omega (arith, number, units-next, count-distrs flagsId us (g .scene .trees) done) in
+                  ap (λ p. feed (length store) (define (Usum (id flagsId)) p) (g .scene .sink)) (distrs-then flagsId us (g .scene .trees) control)
+                  ∙ (define-fed (length store) (Usum (id flagsId)) (distrs flagsId us (g .scene .trees) done ⨾ control) (g .scene .sink)
+                  ∙ (ap (λ s. feed s (distrs flagsId us (g .scene .trees) done ⨾ control) sink₁) one
+                  ∙ (fed-then (length (u .after .store)) (distrs flagsId us (g .scene .trees) done) control sink₁
+                  ∙ (ap (λ s. feed s control sink₂) up ∙ controlled-fed))))
 
-            -- the words
-            abbrev base : ℕ
-            base = sp - 3 - 5 * j
+              -- the words
+              abbrev base : ℕ
+              base = sp - 3 - 5 * j
 
-            entries : List ℕ
-            entries = spelled (listedNames (g .list)) (places (end .after .store) (numbered (suc (length store)) us))
+              entries : List ℕ
+              entries = spelled (listedNames (g .list)) (places (end .after .store) (numbered (suc (length store)) us))
 
-            entries-long : length entries ≡ 5 * j
-            unfolding entries
-            entries-long = length-entries (g .list) (end .after .store) (suc (length store)) ∙ ap (λ l. 5 * l) as-many
+              entries-long : length entries ≡ 5 * j
+              unfolding entries
+              entries-long = length-entries (g .list) (end .after .store) (suc (length store)) ∙ ap (λ l. 5 * l) as-many
 
-            entries-written : env₂ ≡ written base entries env₁
-            unfolding entries
-            entries-written =
-                end .left .words
-                ∙ ap (λ a. written base (spelled (listedNames (g .list)) (places (end .after .store) (numbered a us))) env₁) units-next
+              entries-written : env₂ ≡ written base entries env₁
+              unfolding entries
+              entries-written =
+                  end .left .words
+                  ∙ ap (λ a. written base (spelled (listedNames (g .list)) (places (end .after .store) (numbered a us))) env₁) units-next
 
-            after-entries : base + length entries ≡ sp - 3
-            after-entries = omega (arith, entries-long, g .space, g .most)
+              after-entries : base + length entries ≡ sp - 3
+              after-entries = omega (arith, entries-long, g .space, g .most)
 
-            entries-fit : base + length entries ≤ length env₁
-            entries-fit = omega (arith, after-entries, same-long, g .scene .within)
+              entries-fit : base + length entries ≤ length env₁
+              entries-fit = omega (arith, after-entries, same-long, g .scene .within)
 
-            from-base : drop base env₂ ≡ entries ++ drop (sp - 3) env₁
-            from-base =
-                ap (drop base) entries-written
-                ∙ (from-written env₁ base entries entries-fit ∙ ap (λ a. entries ++ drop a env₁) after-entries)
+              from-base : drop base env₂ ≡ entries ++ drop (sp - 3) env₁
+              from-base =
+                  ap (drop base) entries-written
+                  ∙ (from-written env₁ base entries entries-fit ∙ ap (λ a. entries ++ drop a env₁) after-entries)
 
-            flags-still : drop (sp - 3) env₂ ≡ drop (sp - 3) env₁
-            flags-still =
-                ap (drop (sp - 3)) entries-written
-                ∙ drop-written env₁ base (sp - 3) entries (omega (arith, after-entries)) (omega (arith, same-long, g .scene .within))
+              flags-still : drop (sp - 3) env₂ ≡ drop (sp - 3) env₁
+              flags-still =
+                  ap (drop (sp - 3)) entries-written
+                  ∙ drop-written env₁ base (sp - 3) entries (omega (arith, after-entries)) (omega (arith, same-long, g .scene .within))
 
-            above-still : drop sp env₂ ≡ drop sp env
-            above-still = drop-above env₂ env₁ (sp - 3) sp flags-still (omega arith) ∙ same-above
+              above-still : drop sp env₂ ≡ drop sp env
+              above-still = drop-above env₂ env₁ (sp - 3) sp flags-still (omega arith) ∙ same-above
 
-            itemsTree : Tree ℕ (g .inside)
-            itemsTree = inner (lookup (g .pointer) (g .scene .trees))
+              itemsTree : Tree ℕ (g .inside)
+              itemsTree = inner (lookup (g .pointer) (g .scene .trees))
 
-            items-shapely : Shapely store (g .inside) itemsTree
-            unfolding itemsTree
-            items-shapely = inner-shapely (lookup-shapely (g .pointer) (g .scene .shaped))
+              items-shapely : Shapely store (g .inside) itemsTree
+              unfolding itemsTree
+              items-shapely = inner-shapely (lookup-shapely (g .pointer) (g .scene .shaped))
 
-            items : List ℕ
-            items = treeWords (mapTree (place (end .after .store)) itemsTree)
+              items : List ℕ
+              items = treeWords (mapTree (place (end .after .store)) itemsTree)
 
-            items-are : part (p + 2) (treeSize (g .inside)) env₂ ≡ items
-            unfolding items itemsTree
-            items-are =
-                part-drop env₂ env (p + 2) (treeSize (g .inside)) (drop-above env₂ env sp (p + 2) above-still (omega (arith, e .above)))
-                ∙ (items-words (g .scene) (g .pointer) e
-                ∙ ap treeWords (sym (ap (λ σ. mapTree (place σ) itemsTree) stored ∙ tree-kept store all-streams items-shapely)))
+              items-are : part (p + 2) (treeSize (g .inside)) env₂ ≡ items
+              unfolding items itemsTree
+              items-are =
+                  part-drop env₂ env (p + 2) (treeSize (g .inside)) (drop-above env₂ env sp (p + 2) above-still (omega (arith, e .above)))
+                  ∙ (items-words (g .scene) (g .pointer) e
+                  ∙ ap treeWords (sym (ap (λ σ. mapTree (place σ) itemsTree) stored ∙ tree-kept store all-streams items-shapely)))
 
-            items-long : length items ≡ treeSize (g .inside)
-            unfolding items
-            items-long = length-tree (mapTree (place (end .after .store)) itemsTree)
+              items-long : length items ≡ treeSize (g .inside)
+              unfolding items
+              items-long = length-tree (mapTree (place (end .after .store)) itemsTree)
 
-            abbrev itemsAt : ℕ
-            itemsAt = base - treeSize (g .inside)
+              abbrev itemsAt : ℕ
+              itemsAt = base - treeSize (g .inside)
 
-            room-below : treeSize (g .inside) + 2 + words (g .body) ≤ base
-            room-below = omega (arith, g .space, g .most, depth-most)
+              room-below : treeSize (g .inside) + 2 + words (g .body) ≤ base
+              room-below = omega (arith, g .space, g .most, depth-most)
 
-            base-within : base ≤ length env₂
-            base-within = omega (arith, long₂, same-long, g .scene .within)
+              base-within : base ≤ length env₂
+              base-within = omega (arith, long₂, same-long, g .scene .within)
 
-            env₂′ : List ℕ
-            env₂′ = written itemsAt items env₂
+              env₂′ : List ℕ
+              env₂′ = written itemsAt items env₂
 
-            bound-written : env₃ ≡ written (itemsAt - 2) (x .0 ∷ g .inside ∷ []) env₂′
-            unfolding env₂′
-            bound-written =
-                w₃
-                ∙ (ap (λ c. written (base - treeSize c - 2) (x .0 ∷ c ∷ []) (written (base - treeSize c) (part (p + 2) (treeSize c) env₂) env₂)) depth-is
-                ∙ ap (λ l. written (itemsAt - 2) (x .0 ∷ g .inside ∷ []) (written itemsAt l env₂)) items-are)
+              bound-written : env₃ ≡ written (itemsAt - 2) (x .0 ∷ g .inside ∷ []) env₂′
+              unfolding env₂′
+              bound-written =
+                  w₃
+                  ∙ (ap (λ c. written (base - treeSize c - 2) (x .0 ∷ c ∷ []) (written (base - treeSize c) (part (p + 2) (treeSize c) env₂) env₂)) depth-is
+                  ∙ ap (λ l. written (itemsAt - 2) (x .0 ∷ g .inside ∷ []) (written itemsAt l env₂)) items-are)
 
-            from-items : drop itemsAt env₂′ ≡ items ++ (entries ++ drop (sp - 3) env₁)
-            unfolding env₂′
-            from-items =
-                lowered env₂ base (treeSize (g .inside)) items items-long (omega (arith, room-below)) base-within ∙ ap (λ l. items ++ l) from-base
+              from-items : drop itemsAt env₂′ ≡ items ++ (entries ++ drop (sp - 3) env₁)
+              unfolding env₂′
+              from-items =
+                  lowered env₂ base (treeSize (g .inside)) items items-long (omega (arith, room-below)) base-within ∙ ap (λ l. items ++ l) from-base
 
-            items-fit : itemsAt + length items ≤ length env₂
-            items-fit = omega (arith, items-long, room-below, base-within)
+              items-fit : itemsAt + length items ≤ length env₂
+              items-fit = omega (arith, items-long, room-below, base-within)
 
-            long₂′ : length env₂′ ≡ length env₂
-            unfolding env₂′
-            long₂′ = length-written env₂ itemsAt items items-fit
+              long₂′ : length env₂′ ≡ length env₂
+              unfolding env₂′
+              long₂′ = length-written env₂ itemsAt items items-fit
 
-            two-up : itemsAt - 2 + 2 ≡ itemsAt
-            two-up = back-up base (treeSize (g .inside)) (omega (arith, room-below))
+              two-up : itemsAt - 2 + 2 ≡ itemsAt
+              two-up = back-up base (treeSize (g .inside)) (omega (arith, room-below))
 
-            name-fits : itemsAt - 2 + 2 ≤ length env₂′
-            name-fits = subst (λ a. a ≤ length env₂′) (sym two-up) (fits-below base (treeSize (g .inside)) (length env₂) (length env₂′) base-within long₂′)
+              name-fits : itemsAt - 2 + 2 ≤ length env₂′
+              name-fits = subst (λ a. a ≤ length env₂′) (sym two-up) (fits-below base (treeSize (g .inside)) (length env₂) (length env₂′) base-within long₂′)
 
-            place-is : sp′ ≡ itemsAt - 2
-            place-is = at ∙ ap (λ c. base - treeSize c - 2) depth-is
+              place-is : sp′ ≡ itemsAt - 2
+              place-is = at ∙ ap (λ c. base - treeSize c - 2) depth-is
 
-            spells-it : drop sp′ env₃ ≡ spelled (x ▹ listedNames (g .list)) (places (end .after .store) (innerTrees g)) ++ drop (sp - 3) env₁
-            unfolding items entries itemsTree places
-            spells-it =
-                ap (λ a. drop a env₃) place-is
-                ∙ (ap (drop (itemsAt - 2)) bound-written
-                ∙ bound env₂′ (itemsAt - 2) x (listedNames (g .list)) (mapTree (place (end .after .store)) (inner (lookup (g .pointer) (g .scene .trees))))
-                (places (end .after .store) (numbered (suc (length store)) us)) (drop (sp - 3) env₁) name-fits
-                (ap (λ a. drop a env₂′) two-up ∙ from-items))
+              spells-it : drop sp′ env₃ ≡ spelled (x ▹ listedNames (g .list)) (places (end .after .store) (innerTrees g)) ++ drop (sp - 3) env₁
+              unfolding items entries itemsTree places
+              spells-it =
+                  ap (λ a. drop a env₃) place-is
+                  ∙ (ap (drop (itemsAt - 2)) bound-written
+                  ∙ bound env₂′ (itemsAt - 2) x (listedNames (g .list)) (mapTree (place (end .after .store)) (inner (lookup (g .pointer) (g .scene .trees))))
+                  (places (end .after .store) (numbered (suc (length store)) us)) (drop (sp - 3) env₁) name-fits
+                  (ap (λ a. drop a env₂′) two-up ∙ from-items))
 
-            flags-there-still : drop (sp - 3) env₃ ≡ placeWords (place (end .after .store) flagsId) ++ drop sp env
-            unfolding env₂′
-            flags-there-still =
-                ap (drop (sp - 3)) bound-written
-                ∙ (drop-written env₂′ (itemsAt - 2) (sp - 3) (x .0 ∷ g .inside ∷ []) (subst (λ a. a ≤ sp - 3) (sym two-up) (sub-twice (sp - 3) (5 * j) (treeSize (g .inside)))) (omega (arith, long₂′, long₂, same-long, g .scene .within))
-                ∙ (drop-written env₂ itemsAt (sp - 3) items (omega (arith, items-long, room-below)) (omega (arith, long₂, same-long, g .scene .within))
-                ∙ (flags-still
-                ∙ (upper
-                ∙ ap (λ q. placeWords q ++ drop sp env)
-                (sym (ap (λ σ. place σ flagsId) stored ∙ place-kept store all-streams flagsId (flags (flags-stream .0)) (flags-stream .1)))))))
+              flags-there-still : drop (sp - 3) env₃ ≡ placeWords (place (end .after .store) flagsId) ++ drop sp env
+              unfolding env₂′
+              flags-there-still =
+                  ap (drop (sp - 3)) bound-written
+                  ∙ (drop-written env₂′ (itemsAt - 2) (sp - 3) (x .0 ∷ g .inside ∷ []) (subst (λ a. a ≤ sp - 3) (sym two-up) (sub-twice (sp - 3) (5 * j) (treeSize (g .inside)))) (omega (arith, long₂′, long₂, same-long, g .scene .within))
+                  ∙ (drop-written env₂ itemsAt (sp - 3) items (omega (arith, items-long, room-below)) (omega (arith, long₂, same-long, g .scene .within))
+                  ∙ (flags-still
+                  ∙ (upper
+                  ∙ ap (λ q. placeWords q ++ drop sp env)
+                  (sym (ap (λ σ. place σ flagsId) stored ∙ place-kept store all-streams flagsId (flags (flags-stream .0)) (flags-stream .1)))))))
 
-            inside-shaped : Shaped (end .after .store) (g .inside ∷ listedTypes us) (innerTrees g)
-            unfolding itemsTree
-            inside-shaped =
-                shaped-more (subst (λ σ. Shapely σ (g .inside) (inner (lookup (g .pointer) (g .scene .trees)))) (sym stored) (shapely-kept store all-streams items-shapely))
-                (subst (λ a. Shaped (end .after .store) (listedTypes us) (numbered a us)) units-next (end .left .shaped))
+              inside-shaped : Shaped (end .after .store) (g .inside ∷ listedTypes us) (innerTrees g)
+              unfolding itemsTree
+              inside-shaped =
+                  shaped-more (subst (λ σ. Shapely σ (g .inside) (inner (lookup (g .pointer) (g .scene .trees)))) (sym stored) (shapely-kept store all-streams items-shapely))
+                  (subst (λ a. Shaped (end .after .store) (listedTypes us) (numbered a us)) units-next (end .left .shaped))
 
-            pub inside : Inside g n sp′ i env₃ buf₂ state₂ text₂
-            inside =
-                record {
-                  after = end .after;
-                  sink = sink₂;
-                  streams = all-streams;
-                  rest = drop (sp - 3) env₁;
-                  whole = whole;
-                  fed = fed;
-                  store = stored;
-                  number = number;
-                  held = end .left .held;
-                  sunk = end .left .sunk;
-                  wide = wide-like (like-fed (length (u .after .store)) (distrs flagsId us (g .scene .trees) done) sink₁) (scene₁ .wide);
-                  kept = keeps-then (u .after .store) (gr .streams) (end .after .store) buf buf₁ buf₂ (u .kept) (end .left .kept) (gr .store);
-                  shaped = inside-shaped;
-                  spells = spells-it;
-                  flags = flags-there-still;
-                  space = subst (λ q. words (g .body) ≤ q) (sym place-is) (low-enough base (treeSize (g .inside)) (words (g .body)) room-below);
-                  below = subst (λ q. q + 3 ≤ sp) (sym place-is) (far-below sp (5 * j) (treeSize (g .inside)) (words (g .body)) room-below);
-                }
+              pub inside : Inside g n sp′ i env₃ buf₂ state₂ text₂
+              inside =
+                  record {
+                    after = end .after;
+                    sink = sink₂;
+                    streams = all-streams;
+                    rest = drop (sp - 3) env₁;
+                    whole = whole;
+                    fed = fed;
+                    store = stored;
+                    number = number;
+                    held = end .left .held;
+                    sunk = end .left .sunk;
+                    wide = wide-like (like-fed (length (u .after .store)) (distrs flagsId us (g .scene .trees) done) sink₁) (scene₁ .wide);
+                    kept = keeps-then (u .after .store) (gr .streams) (end .after .store) buf buf₁ buf₂ (u .kept) (end .left .kept) (gr .store);
+                    shaped = inside-shaped;
+                    spells = spells-it;
+                    flags = flags-there-still;
+                    space = subst (λ q. words (g .body) ≤ q) (sym place-is) (low-enough base (treeSize (g .inside)) (words (g .body)) room-below);
+                    below = subst (λ q. q + 3 ≤ sp) (sym place-is) (far-below sp (5 * j) (treeSize (g .inside)) (words (g .body)) room-below);
+                  }
 
-            pub enters-inside : Enters g n env₃ buf₂ state₂ text₂ (entered.Body sp′ i)
-            enters-inside =
-                record {
-                  goes-in =
-                      λ a b q.
-                      let same : sp′ ≡ a = cc in
-                      let too : i ≡ b = cc in
-                      subst (λ c. Inside g n c b env₃ buf₂ state₂ text₂) same (subst (λ c. Inside g n sp′ c env₃ buf₂ state₂ text₂) too inside);
-                  stops = λ q f. never (cc);
-                }
+              pub enters-inside : Enters g n env₃ buf₂ state₂ text₂ (entered.Body sp′ i)
+              enters-inside =
+                  record {
+                    goes-in =
+                        λ a b q.
+                        let same : sp′ ≡ a = cc in
+                        let too : i ≡ b = cc in
+                        subst (λ c. Inside g n c b env₃ buf₂ state₂ text₂) same (subst (λ c. Inside g n sp′ c env₃ buf₂ state₂ text₂) too inside);
+                    stops = λ q f. never (cc);
+                  }

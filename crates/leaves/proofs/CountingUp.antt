@@ -101,10 +101,15 @@ module _ {sp : ℕ} {env : List ℕ} {buf : List ℤ} {state text : List ℕ} {m
                     (λ q.
                     (zs : List ℤ) × (q .store ≡ m .store ++ ints zs ∷ []) × (Made made ≡ Made (length zs)) × Held q new state₃ × keeps (q .store) buf new
                     × Sunk (filling (length (m .store)) k) text₃ state₃ × (env′ ≡ written (sp - 3) (placeWords (place (q .store) (length (m .store)))) env))
-                    same
-                    (items one refl, items-stored one refl, ap Made (items-long one refl), held₃, one .kept,
-                    c _ (one .sunk) .sunk,
-                    w ∙ ap (λ l. written (sp - 3) l env) (pushed-words held₃ (m .store) (ints (items one refl)) (items-stored one refl) refl (items-long one refl)));
+                    same (
+                      items one refl,
+                      items-stored one refl,
+                      ap Made (items-long one refl),
+                      held₃,
+                      one .kept,
+                      c _ (one .sunk) .sunk,
+                      w ∙ ap (λ l. written (sp - 3) l env) (pushed-words held₃ (m .store) (ints (items one refl)) (items-stored one refl) refl (items-long one refl)),
+                    );
                 gave-up = λ why i f. sym e ∙ p .gave-up why i f;
               }
 
@@ -315,8 +320,16 @@ module _ (n : ℕ) {a sp : ℕ} {env : List ℕ} {buf : List ℤ} {state text : 
                     keeps-then (o .after .store) (ints (z .0) ∷ []) (m′ .store) buf₁ buf₂ buf₃ (o .behind) (b .2) stored in
                     let since-units : keeps (m′ .store) buf buf₃ =
                     keeps-then (counted .after .store) (ints (o .zs) ∷ ints (z .0) ∷ []) (m′ .store) buf buf₁ buf₃ (counted .kept) since-ones
-                    (stored ∙ (ap (λ σ. σ ++ ints (z .0) ∷ []) (o .store) ∙ append-assoc (counted .after .store) (ints (o .zs) ∷ []) (ints (z .0) ∷ []))) in
-                    (units i ∷ ints (o .zs) ∷ [], z .0, stored ∙ ap (λ σ. σ ++ ints (z .0) ∷ []) all-stored, refl, b .0, b .1, since-units,
-                    subst (λ x. Sunk x text₃ state₃) sink-is (b .3), flags-behind);
+                    (stored ∙ (ap (λ σ. σ ++ ints (z .0) ∷ []) (o .store) ∙ append-assoc (counted .after .store) (ints (o .zs) ∷ []) (ints (z .0) ∷ []))) in (
+                      units i ∷ ints (o .zs) ∷ [],
+                      z .0,
+                      stored ∙ ap (λ σ. σ ++ ints (z .0) ∷ []) all-stored,
+                      refl,
+                      b .0,
+                      b .1,
+                      since-units,
+                      subst (λ x. Sunk x text₃ state₃) sink-is (b .3),
+                      flags-behind,
+                    );
                 gave-up = λ why x e. p .gave-up why x (sym (then-scan long₂) ∙ e);
               }

@@ -68,9 +68,12 @@ module _ {t : Transducer} {at : Operands} {env : List ℕ} {buf : List ℤ} {sta
       record {
         went-on =
             λ m′ a q h.
-            let f = p .went-on m′ a q h in
-            (sym e ∙ f .0, held-told (f .1) (w .machine), f .2,
-            subst (λ j. Sunk j text₂ state₂) (ap (λ s. defined s t k) (next-id (g .executable .held))) (w .sunk));
+            let f = p .went-on m′ a q h in (
+              sym e ∙ f .0,
+              held-told (f .1) (w .machine),
+              f .2,
+              subst (λ j. Sunk j text₂ state₂) (ap (λ s. defined s t k) (next-id (g .executable .held))) (w .sunk),
+            );
         gave-up = λ why s q. sym e ∙ p .gave-up why s q;
       }
 

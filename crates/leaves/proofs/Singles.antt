@@ -166,7 +166,6 @@ module _ {f : Form} {sp : ℕ} {env : List ℕ} {buf : List ℤ} {state text : L
   pub sum-sought : {x : Variable} → f ≡ form.Sum x → Sought env sp x
   sum-sought e = let o = sum-of (g .named) e in sought (g .scene) (o .0) (o .1)
 
-
   pub plus-located : {x y : Variable} {p q : ℕ} → f ≡ form.Plus x y → ((s : Sought env sp x) → Entry env sp p (lookup (s .pointer) (s .trees)))
       → ((s : Sought env sp y) → Entry env sp q (lookup (s .pointer) (s .trees))) → Located g (record { first = p + 2; second = q + 2 })
   plus-located {p = p} {q = q} e h i =

@@ -124,10 +124,7 @@ fn choose(form: Form, at: Operands, env: &[u32]) -> Transducer
             StreamId(env[p] as usize),
             StreamId(env[q] as usize),
         ),
-        Form::Sum(_) => Transducer::SumPlus(
-            StreamId(env[p] as usize),
-            StreamId(env[q] as usize),
-        ),
+        Form::Sum(_) => Transducer::SumPlus(StreamId(env[p] as usize), StreamId(env[q] as usize)),
     }
 }
 

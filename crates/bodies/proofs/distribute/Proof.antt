@@ -62,8 +62,10 @@ loop-less : tie.Need-loop-less Inv-loop μ-loop
 loop-less c = omega (arith, c .before .before .before .before .before .before .before .before .before .before .before .before .before .before .before .loop-test .taken)
 
 loop-again : tie.Need-loop-again Inv-loop μ-loop
-loop-again c = ((λ g. rest-turn g _ (c .before .before .before .before .before .before .before .before .before .before .before .before .before .before .before .before .loop .inv .0 g) (c .before .before .before .before .before .before .before .before .before .before .before .before .before .before .before .loop-test .taken) (c .before .before .before .before .before .before .before .before .before .spread-one .ensures (spreading (c .before .before .before .before .before .before .before .before .before .before .before .before .before .before .before .before .loop .inv .0 g .left-over) (c .before .before .before .before .before .before .before .before .before .before .before .before .before .before .before .loop-test .taken))) (c .enum-told .given .1) (c .before .before .before .before .before .before .before .before .before .spread-one .kept .1 .1 .1 .1 .1 .0)),
-    lengths-then (c .before .before .before .before .before .before .before .before .before .before .before .before .before .before .before .before .loop .inv .1) (c .before .before .before .before .before .before .before .before .before .spread-one .kept .1 .1 .1 .1 .0) (c .before .before .before .before .before .before .before .before .before .spread-one .kept .1 .1 .1 .1 .1 .0) (c .before .before .before .before .before .before .before .before .before .spread-one .kept .1 .1 .1 .1 .1 .1 .0) (c .before .before .before .before .before .before .before .before .before .spread-one .kept .1 .1 .1 .1 .1 .1 .1 .0))
+loop-again c = (
+  (λ g. rest-turn g _ (c .before .before .before .before .before .before .before .before .before .before .before .before .before .before .before .before .loop .inv .0 g) (c .before .before .before .before .before .before .before .before .before .before .before .before .before .before .before .loop-test .taken) (c .before .before .before .before .before .before .before .before .before .spread-one .ensures (spreading (c .before .before .before .before .before .before .before .before .before .before .before .before .before .before .before .before .loop .inv .0 g .left-over) (c .before .before .before .before .before .before .before .before .before .before .before .before .before .before .before .loop-test .taken))) (c .enum-told .given .1) (c .before .before .before .before .before .before .before .before .before .spread-one .kept .1 .1 .1 .1 .1 .0)),
+  lengths-then (c .before .before .before .before .before .before .before .before .before .before .before .before .before .before .before .before .loop .inv .1) (c .before .before .before .before .before .before .before .before .before .spread-one .kept .1 .1 .1 .1 .0) (c .before .before .before .before .before .before .before .before .before .spread-one .kept .1 .1 .1 .1 .1 .0) (c .before .before .before .before .before .before .before .before .before .spread-one .kept .1 .1 .1 .1 .1 .1 .0) (c .before .before .before .before .before .before .before .before .before .spread-one .kept .1 .1 .1 .1 .1 .1 .1 .0),
+)
 
 enum-known-r : tie.Need-enum-known-r Inv-loop μ-loop
 enum-known-r c = search needs
