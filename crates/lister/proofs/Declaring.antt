@@ -21,9 +21,8 @@ use Rattle.environment.specs.Words.{treeWords, treeSize, spelled}
 use Rattle.environment.proofs.Finding.{length-tree}
 use Rattle.environment.proofs.Entries.{bound}
 use Rattle.environment.proofs.Stack.{from-written, length-written}
-use Rattle.bindings.specs.Bindings.{placesOf, placesIn}
 use Rattle.lister.specs.declared.inputs.Inputs.{Inputs}
-use Rattle.lister.specs.Inputs.{Declares, Enters}
+use Rattle.lister.specs.Inputs.{placesOf, placesIn, Declares, Enters}
 
 -- ---- the first input of some
 

@@ -2,6 +2,8 @@ pub mod Shallow
 pub mod Short
 pub mod Runs
 pub mod Declaring
+pub mod Bare
 pub mod Wholes
+pub mod Lining
 pub mod Listing
 pub mod Reporting

@@ -34,18 +34,17 @@ use Rattle.formula.specs.Reading.{formulaOf}
 use Rattle.checking.specs.declared.check.Checked.the-variants as checked
 use Rattle.checking.specs.Checks.{checkedOf, checkFront}
 use Rattle.checking.proofs.Entering.{few}
-use Rattle.lines.specs.Counting.{Countable}
-use Rattle.telling.specs.Telling.{Tellable}
 use Rattle.environment.specs.Words.{spelled}
-use Rattle.bindings.specs.Bindings.{placesIn}
-use Rattle.walker.specs.Walking.{words, Ready}
+use Rattle.sink.specs.Sinks.{far}
+use Rattle.leaves.specs.Places.{Shallow, shallow-none, shallow-more, Shaped, shaped-none}
+use Rattle.runner.proofs.Measures.{spans, shallow-type}
 use Rattle.lister.specs.declared.inputs.Inputs.{Inputs}
 use Rattle.lister.specs.declared.list.Listed.{Listed}
 use Rattle.lister.specs.declared.list.Listed.the-variants.{Length, Refused}
-use Rattle.lister.specs.Inputs.{Declares, Enters}
-use Rattle.lister.specs.Lists.{wholeText, fromStart, WholeReady, Found, listedAnswer, textAfter}
+use Rattle.lister.specs.Inputs.{placesIn, Declares, Enters}
+use Rattle.lister.specs.Lists.{wholeText, WholeReady, Found, listedAnswer, textAfter}
 use Rattle.lister.proofs.Declaring.{first-of}
-use Rattle.lister.proofs.Shallow.{Shallow, shallow-none, shallow-more, depth-within, words-within, ids-within}
+use Rattle.lister.proofs.Bare.{bareInputs, inputs-bare, inputs-long, inputs-shaped}
 use Rattle.lister.proofs.Short.{lines-short, result-short}
 
 -- ---- the inputs
@@ -56,7 +55,7 @@ inputs-shallow t (i ∷ is) n k {end} e s =
     let f = first-of t k (omega arith) n e in
     let same : i ≡ inputAt t k = cc (f .whole) in
     let rest : is ≡ f .rest = cc (f .whole) in
-    inputs-shallow t is (n - 1) (k + 4) (f .more ∙ ap (λ l. declared l end) (sym rest)) (shallow-more (subst (λ (j : Input). j .depth ≤ mostDepth) (sym same) (f .depth)) s)
+    inputs-shallow t is (n - 1) (k + 4) (f .more ∙ ap (λ l. declared l end) (sym rest)) (shallow-more {d = i .depth} (subst (λ (j : Input). j .depth ≤ mostDepth) (sym same) (f .depth)) s)
 
 starts-small : (t : List ℕ) (is : List Input) (n k : ℕ) {end : ℕ} → inputsAt n t k ≡ declared is end → inputStart (depths is) ≤ 9 * length is
 unfolding inputStart
@@ -135,8 +134,8 @@ module _ {t : List ℕ} {inputs k : ℕ} (g : Found t inputs k) where
   ids : start + size (g .term) < 4294967296
   ids =
       let a = starts-small t (g .all) mostInputs 0 (front-of .inputs) in
-      let b = ids-within (formed .formed) in
-      omega (arith, g .number, number-few, formed .within, formed .short)
+      let b = spans (formed .formed) in
+      omega (arith, g .number, number-few, formed .within, formed .short, b .sized)
 
   -- the text is counted
   module _ (bytes : (i : ℕ) → getD t i 0 < 256) where
@@ -147,15 +146,12 @@ module _ {t : List ℕ} {inputs k : ℕ} (g : Found t inputs k) where
 
     result-most : length (resultLine (tree (g .term) trees start)) ≤ 224
     result-most =
-        result-short (tree (g .term) trees start) (depth-within (formed .formed) shallow)
+        result-short (tree (g .term) trees start) (shallow-type (formed .formed) shallow)
         (λ u m. ⊎-elim (λ q. let l = below u q in let n = ids in omega arith) (λ q. let l = defined-next (g .term) trees start q in let n = ids in omega (arith, l .1)) (result-ids (g .term) trees start m))
 
-    counted : Countable 0 (wholeText (g .term) trees start)
+    counted : length (wholeText (g .term) trees start) ≤ far
     counted =
-        record { end = omega (arith, lines-most, result-most, length-append (linesOf start (code (g .term) trees start)) (resultLine (tree (g .term) trees start))) }
-
-    lines-counted : Countable 0 (linesOf start (code (g .term) trees start))
-    lines-counted = record { end = omega (arith, lines-most) }
+        omega (arith, lines-most, result-most, length-append (linesOf start (code (g .term) trees start)) (resultLine (tree (g .term) trees start)))
 
   pub declares : (env : List ℕ) → length env ≡ 4949 → Declares t inputs env
   declares env l =
@@ -185,34 +181,33 @@ module _ {t : List ℕ} {inputs k : ℕ} (g : Found t inputs k) where
     pub whole-ready : (env₂ : List ℕ) → drop (r .sp) env₂ ≡ drop (r .sp) env₁ → length env₂ ≡ length env₁ → WholeReady t k env₂ (r .sp) (r .id)
     whole-ready env₂ same long₂ =
         record {
-          ready =
-              record {
-                context = context (g .all);
-                names = turned ∅ (inputNames (g .all));
-                depth = g .depth;
-                term = g .term;
-                trees = trees;
-                next = g .next;
-                formed = formed .formed;
-                holds =
-                    record {
-                      bound = record { rest = []; spells = same ∙ (spells ∙ sym (append-nil (spelled (turned ∅ (inputNames (g .all))) (placesIn trees)))) };
-                      below = subst (λ n. Below n (idsOf trees)) (sym id-is) below;
-                      room = omega (arith, words-within (formed .formed) shallow, entered .room, number-few);
-                      within = omega (arith, entered .within, long, long₂);
-                      small = omega (arith, entered .within);
-                      tellable =
-                          subst (λ n. Tellable true (code (g .term) trees n) (fromStart n)) (sym id-is)
-                          (record { text = lines-counted bytes; ids = omega (arith, ids, count-code (g .term) trees start) });
-                    };
-              };
-          countable = subst (λ n. Countable 0 (wholeText (g .term) trees n)) (sym id-is) (counted bytes);
+          context = context (g .all);
+          names = turned ∅ (inputNames (g .all));
+          trees = trees;
+          depth = g .depth;
+          term = g .term;
+          next = g .next;
+          formed = formed .formed;
+          store = bareInputs (depths (g .all));
+          bare = inputs-bare (depths (g .all));
+          number = inputs-long (depths (g .all)) ∙ sym id-is;
+          spells = same ∙ spells;
+          shaped = inputs-shaped [] ∅ shaped-none 0 refl (depths (g .all));
+          shallow = shallow;
+          within = omega (arith, entered .within, long, long₂);
+          space = omega (arith, entered .room, number-few);
+          small = omega (arith, long, long₂);
+          short = formed .short;
+          few =
+              let a = starts-small t (g .all) mostInputs 0 (front-of .inputs) in
+              omega (arith, id-is, g .number, number-few, formed .short);
+          near = subst (λ n. length (wholeText (g .term) trees n) ≤ far) (sym id-is) (counted bytes);
         }
 
     -- measured on an empty slice
     module _ {last : List ℕ} (env₂ : List ℕ) {needed : ℕ}
         (W : (h : WholeReady t k env₁ (r .sp) (r .id))
-        → Writes [] last 0 (wholeText (h .ready .term) (h .ready .trees) (r .id)) needed × (drop (r .sp) env₂ ≡ drop (r .sp) env₁)) where
+        → Writes [] last 0 (wholeText (h .term) (h .trees) (r .id)) needed × (drop (r .sp) env₂ ≡ drop (r .sp) env₁)) where
       measured : Writes [] last 0 (wholeText (g .term) trees (r .id)) needed × (drop (r .sp) env₂ ≡ drop (r .sp) env₁)
       unfolding whole-ready
       measured = W (whole-ready env₁ refl refl)
@@ -243,7 +238,7 @@ module _ {t : List ℕ} {inputs k : ℕ} (g : Found t inputs k) where
 
       -- written
       pub listed : (old : List ℕ) {new : List ℕ} (env₃ : List ℕ) {end : ℕ} → needed ≤ length (last ++ old)
-          → ((h : WholeReady t k env₂ (r .sp) (r .id)) → Writes (last ++ old) new 0 (wholeText (h .ready .term) (h .ready .trees) (r .id)) end × (drop (r .sp) env₃ ≡ drop (r .sp) env₂))
+          → ((h : WholeReady t k env₂ (r .sp) (r .id)) → Writes (last ++ old) new 0 (wholeText (h .term) (h .trees) (r .id)) end × (drop (r .sp) env₃ ≡ drop (r .sp) env₂))
           → length env₂ ≡ length env₁
           → (Length needed ≡ listedAnswer (listing.listing (length old) t)) × (new ≡ textAfter old (listing.listing (length old) t))
       unfolding whole-ready

@@ -1,7 +1,8 @@
 -- How long a listing can get: 200 bytes for each byte of the formula, more than any record's lines take. So its length can be counted.
 use Prim.Native.Nat.{ℕ, suc, _+_, _-_, _*_, _≤_, _<_, _^_}
 use native.Mathlib.Omega.{arith}
-use mathlib.Core.Bool.{Bool, true, false}
+use mathlib.Core.Bool.{Bool, true, false, _||_}
+use borrow.Author.Tests.{eq-eqb}
 use mathlib.Core.List.{List, [], _∷_, _++_, append-nil, List·Memᴰ·head, List·Memᴰ·tail, List·Memᴰ·not-nil, List·Memᴰ·cases-cons, List·Memᴰ·eq-of-singleton, Memᴰ·append-left, Memᴰ·append-right}
 use mathlib.Core.Logic.{⊎-elim}
 use mathlib.Core.Path.{_≡_, refl, ap, _∙_, subst}
@@ -17,7 +18,7 @@ use Rattle.snesl.specs.Limits.{mostDepth}
 use Rattle.snesl.specs.Terms.{_∋_, Term, each, listedTypes, All, _▹_, lookup}
 use Rattle.snesl.specs.Trees.{Tree, leaf, node, root, inner, outer, order}
 use Rattle.snesl.specs.Transducers.{operands}
-use Rattle.snesl.specs.Programs.{done, define, withCtrl, _⨾_, count, dv, fv, member, among, insert, ascending, Within}
+use Rattle.snesl.specs.Programs.{done, define, withCtrl, _⨾_, count, dv, fv, member, without, among, insert, ascending}
 use Rattle.snesl.specs.Translation.{id, size, numbered, within, tree, distrs, controlled, code}
 use Rattle.snesl.specs.Ids.{idsOf, Below}
 use Rattle.snesl.specs.Records.{signed, intAt, single}
@@ -27,60 +28,25 @@ use Rattle.snesl.specs.Listing.{idText, idsText, nameText, defineLine, withCtrl
 use Rattle.snesl.specs.Formed.{Formed, formed-var, formed-bind, formed-const, formed-iota, formed-plus, formed-sum, formed-each}
 use Rattle.snesl.proofs.Compiled.Members.{_∈_, of-among, to-among, of-ascending}
 use Rattle.snesl.proofs.Compiled.Ascending.{ascending-same}
-use Rattle.snesl.proofs.Compiled.Freshness.{copies, front, code-each, count-front, count-code, ids-root, ids-outer, ids-lookup, order-inner, order-root, defined-next, free-ids}
+use Rattle.snesl.proofs.Compiled.Freshness.{copies, front, code-each, lead, ones, totals, code-iota, count-front, count-code, ids-root, ids-outer, ids-lookup, order-inner, order-root, defined-next, free-ids}
 use Rattle.snesl.proofs.Compiled.WellFormed.{below-result, below-within}
 use Rattle.decimals.proofs.NumberWriting.{at-most-20}
 use Rattle.lines.specs.Pieces.{nextText, restText}
 use Rattle.lines.proofs.IdLists.{ids-text}
 use Rattle.records.specs.declared.head.Shape.{Shape}
 use Rattle.records.proofs.Heads.{Reading, none, beyond, aVar, aLet, aConst, anIota, aPlus, aSum, anEach, reading}
-use Rattle.telling.specs.Iota.{onesCode, iotaCode}
-use Rattle.telling.proofs.Telling.{lines-seq}
-use Rattle.telling.proofs.Controlled.{ones-code}
-use Rattle.treeids.proofs.IdSearch.{length-order}
-use Rattle.entering.proofs.Copying.{listed-count}
-use Rattle.lister.proofs.Shallow.{Shallow, shallow-more, shallow-body, depth-within, listing-few}
+use Rattle.sink.proofs.Shorts.{Small, id-short, rest-short, ids-short, ascending-length}
+use Rattle.sink.proofs.Using.{none-small, one-small, two-small}
+use Rattle.sink.proofs.Surveying.{within-length}
+use Rattle.sink.proofs.Feeding.{lines-seq}
+use Rattle.sink.proofs.IdSearch.{length-order}
+use Rattle.leaves.specs.Places.{Shallow, shallow-more}
+use Rattle.leaves.proofs.Places.{lookup-shallow}
+use Rattle.bodies.proofs.Lists.{length-listed}
+use Rattle.runner.proofs.Measures.{shallow-type}
+use Rattle.lister.proofs.Shallow.{shallow-body, listing-few}
 
--- ---- numbers and ids
-
-abbrev Small : ℕ → Type 0
-Small n = n < 2 ^ 64
-
-id-short : (s : ℕ) → Small s → length (idText s) ≤ 21
-id-short s h = let n = at-most-20 s h in omega arith
-
-next-short : (first : Bool) (s : ℕ) → Small s → length (nextText first s) ≤ 22
-next-short true s h = let n = id-short s h in omega arith
-next-short false s h = let n = id-short s h in omega arith
-
-rest-short : (first : Bool) (ss : List ℕ) → ((u : ℕ) → u ∈ ss → Small u) → length (restText first ss) ≤ 22 * length ss
-unfolding restText
-rest-short first [] h = omega arith
-rest-short first (s ∷ ss) h =
-    let n = next-short first s (h s (List·Memᴰ·head refl)) in
-    let m = rest-short false ss (λ u k. h u (List·Memᴰ·tail k)) in
-    omega (arith, length-append (nextText first s) (restText false ss))
-
-ids-short : (ss : List ℕ) → ((u : ℕ) → u ∈ ss → Small u) → length (idsText ss) ≤ 22 * length ss
-ids-short ss h = let n = rest-short true ss h in omega (arith, ap length (ids-text ss))
-
--- ---- lists of ids get no longer
-
-insert-length : (s : ℕ) (ts : List ℕ) → length (insert s ts) ≤ suc (length ts)
-unfolding insert
-insert-length s [] = omega arith
-insert-length s (t ∷ ts) = go (ltb s t) (eqb s t) (insert-length s ts)
-  where
-    go : (b c : Bool) → length (insert s ts) ≤ suc (length ts)
-        → length {A = ℕ} (elim b [ true ↦ s ∷ t ∷ ts | false ↦ elim c [ true ↦ t ∷ ts | false ↦ t ∷ insert s ts ] ]) ≤ suc (suc (length ts))
-    go true c h = omega arith
-    go false true h = omega arith
-    go false false h = omega arith
-
-ascending-length : (ss : List ℕ) → length (ascending ss) ≤ length ss
-unfolding ascending
-ascending-length [] = omega arith
-ascending-length (s ∷ ss) = let n = insert-length s (ascending ss) in let m = ascending-length ss in omega arith
+-- ---- lines
 
 among-length : (ss ts : List ℕ) → length (among ss ts) ≤ length ss
 unfolding among
@@ -90,29 +56,6 @@ among-length (s ∷ ss) ts = go (member s ts) (among-length ss ts)
     go : (b : Bool) → length (among ss ts) ≤ length ss → length {A = ℕ} (elim b [ true ↦ s ∷ among ss ts | false ↦ among ss ts ]) ≤ suc (length ss)
     go true h = omega arith
     go false h = omega arith
-
--- what lies within a list ascends to no more than it has
-within-length : (ss ts : List ℕ) → Within ss ts → length (ascending ss) ≤ length ts
-within-length ss ts w =
-    let same : ascending ss ≡ ascending (among ts ss) =
-    ascending-same ss (among ts ss) (λ u m. to-among ts ss (w u m) m) (λ u m. of-among ts ss m .1) in
-    let a = ascending-length (among ts ss) in
-    let b = among-length ts ss in
-    omega (arith, ap length same)
-
--- ---- lines
-
-one-small : {a : ℕ} → Small a → (u : ℕ) → u ∈ (a ∷ []) → Small u
-one-small {a} h u m = let e = List·Memᴰ·eq-of-singleton m in omega arith
-
-two-small : {a b : ℕ} → Small a → Small b → (u : ℕ) → u ∈ (a ∷ b ∷ []) → Small u
-two-small {a} {b} h g u m = ⊎-elim (λ e. same e) (λ k. one-small g u k) (List·Memᴰ·cases-cons m)
-  where
-    same : u ≡ a → Small u
-    same e = omega arith
-
-none-small : (u : ℕ) → u ∈ [] → Small u
-none-small u m = absurd (List·Memᴰ·not-nil m)
 
 -- a constant that four bytes hold
 abbrev Held : ℤ → Type 0
@@ -155,7 +98,12 @@ define-short s t h os c =
     let b = name-short t c in
     let d = ids-short (operands t) os in
     let e = operands-few t in
-    simp length-append (omega arith)
+    omega (
+      arith,
+      length-append (idText s) (pieces (ascii " := " ∷ nameText t ∷ ascii "(" ∷ idsText (operands t) ∷ ascii ")\n" ∷ [])),
+      length-append (nameText t) (pieces (ascii "(" ∷ idsText (operands t) ∷ ascii ")\n" ∷ [])),
+      length-append (idsText (operands t)) (ascii ")\n"),
+    )
 
 control-short : (outs : List ℕ) (c : ℕ) (ins : List ℕ) → ((u : ℕ) → u ∈ outs → Small u) → Small c → ((u : ℕ) → u ∈ ins → Small u)
     → length (withCtrlLine outs c ins) ≤ 45 + 22 * length outs + 22 * length ins
@@ -272,7 +220,12 @@ module _ {Γ : List ℕ} {c d : ℕ} (y : Γ ∋ suc c) (us : List (Γ ∋ 0)) (
       length-inside : length (idsOf (within y us δ s)) ≡ (c + 1) + length us
       length-inside = inside-length y us δ s
 
-iota-short : (r s : ℕ) → Small r → s + 4 < 2 ^ 64 → length (linesOf s (iotaCode r s)) ≤ 480
+ones-code : (s : ℕ) → ones s ≡ withCtrl ((s + 2) ∷ []) (s + 1) [] (define (Const (pos 1)) done) done
+unfolding order dv fv without ascending among member insert
+ones-code s =
+    ap (λ b. withCtrl (ascending (elim (b || false) [ true ↦ (s + 2) ∷ [] | false ↦ [] ])) (s + 1) [] (define (Const (pos 1)) done) done) (eq-eqb (s + 2) (s + 2) refl)
+
+iota-short : (r s : ℕ) → Small r → s + 4 < 2 ^ 64 → length (linesOf s (lead r s ⨾ (ones s ⨾ totals s))) ≤ 480
 unfolding linesOf _⨾_ count
 iota-short r s hr hs =
     let a = define-short s (ToFlags (id r)) (omega arith) (one-small hr) tt in
@@ -280,10 +233,10 @@ iota-short r s hr hs =
     let w = control-short ((s + 2) ∷ []) (s + 1) [] (one-small (omega arith)) (omega arith) none-small in
     let o = define-short (suc (suc s)) (Const (pos 1)) (omega arith) none-small (omega arith) in
     let z = define-short (suc (suc s) + 1) (ScanPlus (pos 0) (id s) (id (s + 2))) (omega arith) (two-small (omega arith) (omega arith)) (omega arith) in
-    let e : linesOf (suc (suc s)) (onesCode s ⨾ define (ScanPlus (pos 0) (id s) (id (s + 2))) done)
+    let e : linesOf (suc (suc s)) (ones s ⨾ totals s)
     ≡ pieces (withCtrlLine ((s + 2) ∷ []) (s + 1) [] ∷ linesOf (suc (suc s)) (define (Const (pos 1)) done) ∷ closeLine ∷ linesOf (suc (suc s) + 1) (define (ScanPlus (pos 0) (id s) (id (s + 2))) done) ∷ []) =
     ap (λ p. linesOf (suc (suc s)) (p ⨾ define (ScanPlus (pos 0) (id s) (id (s + 2))) done)) (ones-code s) in
-    let rest = linesOf (suc (suc s)) (onesCode s ⨾ define (ScanPlus (pos 0) (id s) (id (s + 2))) done) in
+    let rest = linesOf (suc (suc s)) (ones s ⨾ totals s) in
     omega (
       arith,
       length-append (defineLine s (ToFlags (id r))) (defineLine (suc s) (Usum (id s)) ++ rest),
@@ -306,7 +259,7 @@ module _ {t : List ℕ} (bytes : (i : ℕ) → getD t i 0 < 256) where
   lines-short (formed-bind {e₁ = e₁} {e₂ = e₂} h f g) sh δ s b n =
       let δ₂ = tree e₁ δ s ▹ δ in
       let x = lines-short f sh δ s b (omega arith) in
-      let y = lines-short g (shallow-more (depth-within f sh) sh) δ₂ (s + size e₁) (below-result e₁ δ b) (omega arith) in
+      let y = lines-short g (shallow-more (shallow-type f sh) sh) δ₂ (s + size e₁) (below-result e₁ δ b) (omega arith) in
       omega (arith, ap length (lines-seq s (code e₁ δ s) (code e₂ δ₂ (s + size e₁))), length-append (linesOf s (code e₁ δ s)) (linesOf (s + count (code e₁ δ s)) (code e₂ δ₂ (s + size e₁))), ap (λ m. length (linesOf (s + m) (code e₂ δ₂ (s + size e₁)))) (count-code e₁ δ s))
   lines-short {k = k} (formed-const {z = z} h) sh δ s b n =
       let x = one-short s (Const z) (omega arith) none-small (constant-held t bytes (reading t k) h) in
@@ -314,7 +267,7 @@ module _ {t : List ℕ} (bytes : (i : ℕ) → getD t i 0 < 256) where
   lines-short (formed-iota {v = v} h f) sh δ s b n =
       let r = b _ (ids-root v δ) in
       let x = iota-short (root (lookup v δ)) s (omega arith) (omega arith) in
-      omega arith
+      omega (arith, ap (λ p. length (linesOf s p)) (code-iota v δ s))
   lines-short (formed-plus {v = v} {w = w} h f g) sh δ s b n =
       let r = b _ (ids-root v δ) in
       let q = b _ (ids-root w δ) in
@@ -327,10 +280,10 @@ module _ {t : List ℕ} (bytes : (i : ℕ) → getD t i 0 < 256) where
       omega arith
   lines-short {k = k} (formed-each {us = us} {v = v} {ls = ls} {e = e} h f g q l) sh δ s b n =
       let j = listing-few t k h in
-      let m = listed-count _ us g in
+      let m = length-listed _ us ls g in
       let a = s + (1 + length (pointers ls)) in
       let δ₂ = within v (pointers ls) δ s in
-      let x = each-short v (pointers ls) e δ s (depth-within q (shallow-body v (pointers ls) sh)) (sh _ v) b (omega arith) in
+      let x = each-short v (pointers ls) e δ s (shallow-type q (shallow-body v (pointers ls) sh)) (lookup-shallow v sh) b (omega arith) in
       let y = lines-short q (shallow-body v (pointers ls) sh) δ₂ a (below-within v (pointers ls) δ b) (omega arith) in
       omega (arith, j .few, j .bytes)
 

@@ -3,14 +3,25 @@ use Prim.Native.Nat.{ℕ, _+_, _*_, _≤_}
 use mathlib.Core.List.{List}
 use mathlib.Core.Path.{_≡_}
 use lib.ListN.{length, drop}
-use Rattle.snesl.specs.Terms.{∅}
+use Rattle.snesl.specs.Terms.{All, ∅, _▹_}
 use Rattle.snesl.specs.Limits.{mostInputs}
 use Rattle.snesl.specs.Records.{Input, declared, inputsAt}
 use Rattle.snesl.specs.Checking.{turned, depths, inputNames}
 use Rattle.snesl.specs.Inputs.{inputTrees, inputStart}
-use Rattle.environment.specs.Words.{spelled}
-use Rattle.bindings.specs.Bindings.{placesIn}
+use Rattle.snesl.specs.Trees.{Tree, mapTree}
+use Rattle.environment.specs.Words.{Place, spelled}
 use Rattle.lister.specs.declared.inputs.Inputs.{Inputs}
+
+-- the place of a stream in a listing, where every stream is empty
+abbrev pub placed : ℕ → Place
+placed s = record { id = s; first = 0; second = 0 }
+
+abbrev pub placesOf : {d : ℕ} → Tree ℕ d → Tree Place d
+placesOf t = mapTree placed t
+
+unfoldable pub placesIn : {Γ : List ℕ} → All (Tree ℕ) Γ → All (Tree Place) Γ
+placesIn ∅ = ∅
+placesIn (t ▹ δ) = placesOf t ▹ placesIn δ
 
 -- the bytes declare so many inputs, and there is room for their bindings: 29 words each, as many as one of depth 8 takes
 pub record Declares (t : List ℕ) (inputs : ℕ) (env : List ℕ) : Type 0 where

@@ -1,33 +1,66 @@
 -- What `list` answers, and what stands in the slice lent then.
-use Prim.Native.Nat.{ℕ, suc}
-use mathlib.Core.Bool.{true}
-use mathlib.Core.List.{List, _++_}
+use Prim.Native.Nat.{ℕ, suc, _+_, _*_, _-_, _≤_}
+use mathlib.Core.List.{List, [], _∷_, _++_}
 use mathlib.Core.Path.{_≡_}
 use lib.ListN.{length, drop}
-use Rattle.snesl.specs.Limits.{mostNesting}
+use Rattle.snesl.specs.Limits.{mostNesting, mostBytes}
 use Rattle.snesl.specs.Terms.{Term, All}
-use Rattle.snesl.specs.Trees.{Tree}
+use Rattle.snesl.specs.Trees.{Tree, mapTree}
+use Rattle.snesl.specs.Streams.{Store, bare}
+use Rattle.snesl.specs.declared.code.Kind.{Kind}
 use Rattle.snesl.specs.Translation.{tree, code}
 use Rattle.snesl.specs.Records.{Input, Raw, front, readFormula}
-use Rattle.snesl.specs.Checking.{context, typed, checkFormula}
+use Rattle.snesl.specs.Checking.{Name, context, typed, checkFormula}
+use Rattle.snesl.specs.Formed.{Formed}
 use Rattle.snesl.specs.Listing as listing
 use Rattle.snesl.specs.Listing.{linesOf, resultLine}
-use Rattle.lines.specs.Counting.{Countable}
-use Rattle.telling.specs.declared.Progress.{Progress}
-use Rattle.walker.specs.Walking.{Ready}
+use Rattle.decimals.specs.Writing.{Writes}
+use Rattle.environment.specs.Words.{spelled, treeWords, treeSize}
+use Rattle.sink.specs.Sinks.{far}
+use Rattle.sink.specs.Trees.{Placing}
+use Rattle.steps.specs.Holding.{mostStreams}
+use Rattle.leaves.specs.Places.{Shaped, Shallow, wordsFor}
+use Rattle.lister.specs.Inputs.{placesIn}
+use Rattle.lister.specs.declared.list.Lines.{Lines}
 use Rattle.lister.specs.declared.list.Listed.{Listed}
 use Rattle.lister.specs.declared.list.Listed.the-variants.{Length, Refused}
+
+-- every stream is empty
+pub data Bare : Store → Type 0 where
+  bare-none : Bare []
+  bare-more : {σ : Store} → (k : Kind) → Bare σ → Bare (bare k ∷ σ)
 
 abbrev pub wholeText : {Γ : List ℕ} {d : ℕ} → Term Γ d → All (Tree ℕ) Γ → ℕ → List ℕ
 wholeText e δ s = linesOf s (code e δ s) ++ resultLine (tree e δ s)
 
-abbrev pub fromStart : ℕ → Progress
-fromStart s = record { id = s; at = 0; best = 0 }
-
--- an expression at k whose code's ids start at s, and whose whole text can be counted
+-- An expression at k whose code's ids start at s, over inputs that are empty streams; its whole text is written before the far end.
 pub record WholeReady (t : List ℕ) (k : ℕ) (env : List ℕ) (sp s : ℕ) : Type 0 where
-  pub ready : Ready t (suc mostNesting) k env sp true (fromStart s)
-  pub countable : Countable 0 (wholeText (ready .term) (ready .trees) s)
+  pub context : List ℕ
+  pub names : All Name context
+  pub trees : All (Tree ℕ) context
+  pub depth : ℕ
+  pub term : Term context depth
+  pub next : ℕ
+  pub formed : Formed t (suc mostNesting) k context names depth term next
+  pub store : Store
+  pub bare : Bare store
+  pub number : length store ≡ s
+  pub spells : drop sp env ≡ spelled names (placesIn trees)
+  pub shaped : Shaped store context trees
+  pub shallow : Shallow context
+  pub within : sp ≤ length env
+  pub space : wordsFor (suc mostNesting) ≤ sp
+  pub small : length env ≤ 65536
+  pub short : length t ≤ mostBytes
+  pub few : s + 2 * (length t - k) ≤ mostStreams
+  pub near : length (wholeText term trees s) ≤ far
+
+-- the expression's lines are written from the start on, and its tree stands below sp
+pub record Lined {t : List ℕ} {k : ℕ} {env : List ℕ} {sp s : ℕ} (g : WholeReady t k env sp s) (env′ text text′ : List ℕ) (r : Lines) : Type 0 where
+  pub depth : r .depth ≡ g .depth
+  pub writes : Writes text text′ 0 (linesOf s (code (g .term) (g .trees) s)) (r .at)
+  pub placing : Placing
+  pub words : drop (sp - treeSize (g .depth)) env′ ≡ treeWords (mapTree (placing .place) (tree (g .term) (g .trees) s)) ++ drop sp env
 
 -- a formula that was read and checked
 pub record Found (t : List ℕ) (inputs expression : ℕ) : Type 0 where

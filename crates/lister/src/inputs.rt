@@ -8,8 +8,7 @@ ghost use lib.ListN.{length};
 ghost use Rattle.laws.specs.Parts.{written};
 ghost use Rattle.snesl.specs.Inputs.{inputTree};
 ghost use Rattle.environment.specs.Words.{treeWords};
-ghost use Rattle.bindings.specs.Bindings.{placesOf};
-ghost use Rattle.lister.specs.Inputs.{Declares, Enters};
+ghost use Rattle.lister.specs.Inputs.{placesOf, Declares, Enters};
 
 // Where the inputs' bindings start, and the first id behind theirs.
 pub struct Inputs {

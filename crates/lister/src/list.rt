@@ -5,17 +5,21 @@ use checking::check::check;
 use decimals::numbers::put;
 use formula::read::FormulaRead;
 use formula::read::read_formula;
+use leaves::Walked;
 use lines::pieces::put_bytes;
+use runner::walk;
+use sink::trees::put_tree;
+use sink::words::AT;
+use sink::words::FIXED;
+use sink::words::LISTING;
+use sink::words::MODE;
 use snesl::limits::Formula;
 use snesl::refusal::Refusal;
-use telling::Progress;
-use treeids::put_tree;
-use walker::walk::walk;
 ghost use mathlib.Core.Path.{_≡_};
 ghost use lib.ListN.{length, drop};
 ghost use Rattle.snesl.specs.Listing.{listing};
 ghost use Rattle.decimals.specs.Writing.{Writes};
-ghost use Rattle.lister.specs.Lists.{WholeReady, wholeText, Found, listedAnswer, textAfter};
+ghost use Rattle.lister.specs.Lists.{WholeReady, wholeText, Lined, Found, listedAnswer, textAfter};
 
 pub enum Listed {
     Length(usize),
@@ -24,6 +28,50 @@ pub enum Listed {
 
 // The stack of the deepest walk: 69 words for each nesting and the outermost expression, and 29 for each input. specs/Lists.antt says why.
 const WORDS: usize = 69 * (Formula::NESTING + 1) + 29 * Formula::INPUTS;
+
+// The counters of a walk that lists, with room for the ids that a body takes in: those of its x, and one of each listed variable.
+const COUNTERS: usize = FIXED + Formula::DEPTH as usize + Formula::LISTED;
+
+// The depth of the expression's result, and where its lines end.
+pub struct Lines {
+    pub depth: usize,
+    pub at: usize,
+}
+
+// The lines of the expression: the walk over it under no units, over inputs that are empty.
+fn put_lines(
+    bytes: &[u8],
+    k: usize,
+    env: &mut [u32],
+    sp: usize,
+    id: usize,
+    text: &mut [u8],
+) -> Lines
+    requires { ⌜ WholeReady (now bytes) k (now env) sp id ⌝ }
+    ensures { λ r. ⌜ ((g : WholeReady (now (bytes .entry)) k (now (env .entry)) sp id) → Lined g (now (env .exit)) (now (text .entry)) (now (text .exit)) r) ⌝ }
+{
+    let mut none = [0i32; 1];
+    let mut state = [0usize; COUNTERS];
+    state[0] = id;
+    state[MODE] = LISTING;
+    match walk(
+        bytes,
+        k,
+        Formula::NESTING + 1,
+        0,
+        sp,
+        env,
+        &mut none,
+        &mut state,
+        text,
+    ) {
+        Walked::Tree(depth, _) => Lines {
+            depth: depth,
+            at: state[AT],
+        },
+        Walked::Stopped(_) => Lines { depth: 0, at: 0 },
+    }
+}
 
 // The expression's lines and the result's.
 fn put_whole(
@@ -35,17 +83,11 @@ fn put_whole(
     text: &mut [u8],
 ) -> usize
     requires { ⌜ WholeReady (now bytes) k (now env) sp id ⌝ }
-    ensures { λ r. ⌜ ((g : WholeReady (now (bytes .entry)) k (now (env .entry)) sp id) → Writes (now (text .entry)) (now (text .exit)) 0 (wholeText (g .ready .term) (g .ready .trees) id) r × (drop sp (now (env .exit)) ≡ drop sp (now (env .entry)))) ⌝ }
+    ensures { λ r. ⌜ ((g : WholeReady (now (bytes .entry)) k (now (env .entry)) sp id) → Writes (now (text .entry)) (now (text .exit)) 0 (wholeText (g .term) (g .trees) id) r × (drop sp (now (env .exit)) ≡ drop sp (now (env .entry)))) ⌝ }
 {
-    let w = Progress {
-        id: id,
-        at: 0,
-        best: 0,
-    };
-    let r = walk(bytes, k, Formula::NESTING + 1, env, sp, true, 0, text, w);
-    let depth = r.depth;
-    let q = r.progress;
-    let a = put_bytes(text, q.at, b"result ");
+    let lines = put_lines(bytes, k, env, sp, id, text);
+    let depth = lines.depth;
+    let a = put_bytes(text, lines.at, b"result ");
     let b = put_tree(env, sp - (3 * depth + 3), depth, text, a);
     put(text, b, b'\n')
 }

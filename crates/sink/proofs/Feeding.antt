@@ -29,6 +29,21 @@ feed-seq s (withCtrl outs c ins b p) q k =
     feed-seq (s + count b) p q (closed (feed s b (opened outs c ins k)))
     ∙ ap (λ n. feed n q (feed (s + count b) p (closed (feed s b (opened outs c ins k))))) e
 
+-- its lines
+pub lines-seq : (s : ℕ) (p q : Program) → linesOf s (p ⨾ q) ≡ linesOf s p ++ linesOf (s + count p) q
+unfolding linesOf _⨾_ count
+lines-seq s done q = ap (λ k. linesOf k q) (sym (add-zero s))
+lines-seq s (define t p) q =
+    let k : suc s + count p ≡ s + suc (count p) = omega arith in
+    ap (λ l. defineLine s t ++ l) (lines-seq (suc s) p q ∙ ap (λ j. linesOf (suc s) p ++ linesOf j q) k)
+    ∙ sym (append-assoc (defineLine s t) _ _)
+lines-seq s (withCtrl outs c ins b p) q =
+    let k : s + count b + count p ≡ s + (count b + count p) = omega arith in
+    let w = withCtrlLine outs c ins in
+    let body = linesOf s b in
+    ap (λ l. pieces (w ∷ body ∷ closeLine ∷ l ∷ [])) (lines-seq (s + count b) p q ∙ ap (λ j. linesOf (s + count b) p ++ linesOf j q) k)
+    ∙ simp (append-assoc, append-nil)
+
 -- ---- by the sink's mode
 module _ (k : Sink) {m : Mode} (e : k .mode ≡ m) where
   pub defined-by : (s : ℕ) (t : Transducer) → defined s t k ≡ elim m [ running ↦ k | listing ↦ put (defineLine s t) k | surveying ↦ take-in (operands t) k ]

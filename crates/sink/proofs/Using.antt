@@ -28,7 +28,7 @@ none-small u m = absurd (List·Memᴰ·not-nil m)
 pub one-small : {a : ℕ} → Small a → (u : ℕ) → u ∈ (a ∷ []) → Small u
 one-small {a} h u m = let e = List·Memᴰ·eq-of-singleton m in omega arith
 
-two-small : {a b : ℕ} → Small a → Small b → (u : ℕ) → u ∈ (a ∷ b ∷ []) → Small u
+pub two-small : {a b : ℕ} → Small a → Small b → (u : ℕ) → u ∈ (a ∷ b ∷ []) → Small u
 two-small {a} {b} h g u m = ⊎-elim (λ e. same e) (λ k. one-small g u k) (List·Memᴰ·cases-cons m)
   where
     same : u ≡ a → Small u

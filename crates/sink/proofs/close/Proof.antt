@@ -1,3 +1,4 @@
+-- By the sink's mode.
 use native.Mathlib.Omega.{arith}
 use mathlib.Core.Path.{_∙_, sym}
 use Rattle.snesl.specs.Listing.{closeLine}

@@ -1,3 +1,4 @@
+-- By the sink's mode.
 use native.Mathlib.Omega.{arith}
 use mathlib.Core.Path.{_∙_, sym}
 use Rattle.sink.proofs.Using.{define-short}
@@ -25,7 +26,13 @@ operands-of-requires c κs = search needs
 
 -- src/lib.rt:52:9
 put-line-requires : tie.Need-put-line-requires
-put-line-requires c κs = ((c .before .before .before .before .before .before .before .before .pre .0, c .before .before .before .before .before .before .before .before .pre .1, sinking.is-listing (c .before .before .before .before .before .before .before .before .pre .0 .mode) (sym (sinking.mode-word (c .before .before .before .before .before .before .before .before .pre .1)) ∙ c .before .before .if2 .taken)), define-short (c .before .before .before .before .before .before .before .before .args .id) (c .before .before .before .before .before .before .before .before .args .t) (c .before .before .before .before .before .before .before .before .fits .id .fits) (c .before .before .before .operands-of .ensures))
+put-line-requires c κs =
+    let at3 = c .before .before .before in
+    let at8 = at3 .before .before .before .before .before in (
+      (at8 .pre .0, at8 .pre .1, sinking.is-listing (at8 .pre .0 .mode) (sym (sinking.mode-word (at8 .pre .1)) ∙ c .before .before .if2 .taken)),
+      define-short (at8 .args .id)
+          (at8 .args .t) (at8 .fits .id .fits) (at3 .operands-of .ensures),
+    )
 
 -- src/lib.rt:53:9
 same-length : tie.Need-same-length
@@ -37,7 +44,12 @@ same-length-2 c = search needs
 
 -- src/lib.rt:53:9
 returns-2 : tie.Need-returns-2
-returns-2 c = λ k s. sinking.defined-listing s (c .before .before .before .before .before .before .before .before .before .before .before .before .before .args .id) (c .before .before .before .before .before .before .before .before .before .before .before .before .before .args .t) (c .before .before .before .before .before .before .before .if2 .taken) (c .before .before .before .before .put-line .ensures k s (sinking.is-listing (k .mode) (sym (sinking.mode-word s) ∙ c .before .before .before .before .before .before .before .if2 .taken)))
+returns-2 c =
+    let at4 = c .before .before .before .before in
+    let at7 = at4 .before .before .before in
+    let at13 = at7 .before .before .before .before .before .before in
+    λ k s. sinking.defined-listing s (at13 .args .id) (at13 .args .t) (at7 .if2 .taken) (at4 .put-line .ensures k s (sinking.is-listing (k .mode) (sym (sinking.mode-word s) ∙
+    at7 .if2 .taken)))
 
 -- src/lib.rt:55:5
 take-in-requires : tie.Need-take-in-requires
@@ -49,7 +61,13 @@ same-length-3 c = search needs
 
 -- src/lib.rt:42:1
 returns-3 : tie.Need-returns-3
-returns-3 c = λ k s. sinking.defined-surveying s (c .before .before .before .before .before .before .before .before .before .before .args .id) (c .before .before .before .before .before .before .before .before .before .before .args .t) (c .before .before .before .before .before .before .if1 .left) (c .before .before .before .before .if2 .left) (c .before .before .before .before .before .operands-of .ensures .ids) (c .before .before .take-in .ensures (sinking.six s) (k .own) (k .taken) (k .most) (sinking.marks s))
+returns-3 c =
+    let at4 = c .before .before .before .before in
+    let at5 = at4 .before in
+    let at6 = at5 .before in
+    let at10 = at6 .before .before .before .before in
+    λ k s. sinking.defined-surveying s (at10 .args .id) (at10 .args .t) (at6 .if1 .left) (at4 .if2 .left) (at5 .operands-of .ensures .ids) (c .before .before .take-in .ensures
+    (sinking.six s) (k .own) (k .taken) (k .most) (sinking.marks s))
 
 pub define-spec : {M : Type 1} → statement M
 define-spec =

@@ -1,3 +1,4 @@
+-- By whether the position is too far on.
 use native.Mathlib.Omega.{arith}
 use Rattle.instructions.specs.Instructions.{instructionText}
 use Rattle.sink.proofs.Sinking as sinking

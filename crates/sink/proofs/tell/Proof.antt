@@ -1,3 +1,4 @@
+-- By the instruction's case.
 use Rattle.sink.proofs.Sinking as sinking
 use borrow.Author.Needs.{needs}
 use Rattle.sink.proofs.tell.Statement.{statement}
@@ -41,7 +42,12 @@ same-length-2 c = search needs
 
 -- src/lib.rt:70:1
 returns : tie.Need-returns
-returns c = λ k s. sinking.told-case k (c .before .before .before .before .before .before .before .before .before .i .given .1) (sinking.told-define k (c .before .before .before .before .before .before .before .before .before .i .given .0 .0) (c .before .before .before .before .before .before .before .before .before .i .given .0 .1 .0) (c .before .before .before .before .before .before .before .id-of .result) (c .before .before .before .before .before .before .before .id-of .ensures) (c .before .before .before .before .define .ensures k s))
+returns c =
+    let at4 = c .before .before .before .before in
+    let at7 = at4 .before .before .before in
+    let at9 = at7 .before .before in
+    λ k s. sinking.told-case k (at9 .i .given .1) (sinking.told-define k (at9 .i .given .0 .0) (at9 .i .given .0 .1 .0) (at7 .id-of .result) (at7 .id-of .ensures) (at4 .define .ensures
+    k s))
 
 -- src/lib.rt:70:1
 returns-2 : tie.Need-returns-2

@@ -69,27 +69,52 @@ put-places-requires c κs = omega (arith, declaring.sizes (c .before .before .be
 
 -- src/inputs.rt:44:23
 sub-put-name : tie.Need-sub-put-name Inv-loop μ-loop
-sub-put-name c = omega (arith, declaring.sizes (c .before .before .before .before .before .before .before .before .before .before .before .pre) (c .before .before .before .before .before .before .before .before .loop .inv .0 (c .before .before .before .before .before .before .before .before .before .before .before .pre)) (c .before .before .before .before .before .before .before .loop-test .taken))
+sub-put-name c =
+    let at7 = c .before .before .before .before .before .before .before in
+    let at8 = at7 .before in
+    let at11 = at8 .before .before .before in
+    omega (arith, declaring.sizes (at11 .pre) (at8 .loop .inv .0 (at11 .pre)) (at7 .loop-test .taken))
 
 -- src/inputs.rt:44:9
 put-name-requires : tie.Need-put-name-requires Inv-loop μ-loop
-put-name-requires c κs = omega (arith, declaring.sizes (c .before .before .before .before .before .before .before .before .before .before .before .pre) (c .before .before .before .before .before .before .before .before .loop .inv .0 (c .before .before .before .before .before .before .before .before .before .before .before .pre)) (c .before .before .before .before .before .before .before .loop-test .taken), c .before .before .before .put-places .kept .0)
+put-name-requires c κs =
+    let at3 = c .before .before .before in
+    let at7 = at3 .before .before .before .before in
+    let at8 = at7 .before in
+    let at11 = at8 .before .before .before in
+    omega (arith, declaring.sizes (at11 .pre) (at8 .loop .inv .0 (at11 .pre)) (at7 .loop-test .taken), at3 .put-places .kept .0)
 
 -- src/inputs.rt:45:14
 sub-sp : tie.Need-sub-sp Inv-loop μ-loop
-sub-sp c = omega (arith, declaring.sizes (c .before .before .before .before .before .before .before .before .before .before .before .before .before .before .pre) (c .before .before .before .before .before .before .before .before .before .before .before .loop .inv .0 (c .before .before .before .before .before .before .before .before .before .before .before .before .before .before .pre)) (c .before .before .before .before .before .before .before .before .before .before .loop-test .taken))
+sub-sp c =
+    let at10 = c .before .before .before .before .before .before .before .before .before .before in
+    let at11 = at10 .before in
+    let at14 = at11 .before .before .before in
+    omega (arith, declaring.sizes (at14 .pre) (at11 .loop .inv .0 (at14 .pre)) (at10 .loop-test .taken))
 
 -- src/inputs.rt:46:20
 add-id : tie.Need-add-id Inv-loop μ-loop
-add-id c = omega (arith, declaring.sizes (c .before .before .before .before .before .before .before .before .before .before .before .before .before .before .pre) (c .before .before .before .before .before .before .before .before .before .before .before .loop .inv .0 (c .before .before .before .before .before .before .before .before .before .before .before .before .before .before .pre)) (c .before .before .before .before .before .before .before .before .before .before .loop-test .taken))
+add-id c =
+    let at10 = c .before .before .before .before .before .before .before .before .before .before in
+    let at11 = at10 .before in
+    let at14 = at11 .before .before .before in
+    omega (arith, declaring.sizes (at14 .pre) (at11 .loop .inv .0 (at14 .pre)) (at10 .loop-test .taken))
 
 -- src/inputs.rt:46:14
 add-id-2 : tie.Need-add-id-2 Inv-loop μ-loop
-add-id-2 c = omega (arith, declaring.sizes (c .before .before .before .before .before .before .before .before .before .before .before .before .before .before .pre) (c .before .before .before .before .before .before .before .before .before .before .before .loop .inv .0 (c .before .before .before .before .before .before .before .before .before .before .before .before .before .before .pre)) (c .before .before .before .before .before .before .before .before .before .before .loop-test .taken))
+add-id-2 c =
+    let at10 = c .before .before .before .before .before .before .before .before .before .before in
+    let at11 = at10 .before in
+    let at14 = at11 .before .before .before in
+    omega (arith, declaring.sizes (at14 .pre) (at11 .loop .inv .0 (at14 .pre)) (at10 .loop-test .taken))
 
 -- src/inputs.rt:47:9
 add-i : tie.Need-add-i Inv-loop μ-loop
-add-i c = omega (arith, declaring.sizes (c .before .before .before .before .before .before .before .before .before .before .before .before .before .before .pre) (c .before .before .before .before .before .before .before .before .before .before .before .loop .inv .0 (c .before .before .before .before .before .before .before .before .before .before .before .before .before .before .pre)) (c .before .before .before .before .before .before .before .before .before .before .loop-test .taken))
+add-i c =
+    let at10 = c .before .before .before .before .before .before .before .before .before .before in
+    let at11 = at10 .before in
+    let at14 = at11 .before .before .before in
+    omega (arith, declaring.sizes (at14 .pre) (at11 .loop .inv .0 (at14 .pre)) (at10 .loop-test .taken))
 
 -- src/inputs.rt:39:5
 loop-less : tie.Need-loop-less Inv-loop μ-loop
@@ -97,7 +122,11 @@ loop-less c = omega (arith, c .before .before .before .before .before .before .b
 
 -- src/inputs.rt:39:5
 loop-again : tie.Need-loop-again Inv-loop μ-loop
-loop-again c = (λ g. declaring.turn g (c .before .before .before .before .before .before .before .before .before .before .before .loop .inv .0 g) (c .before .before .before .before .before .before .before .before .before .before .loop-test .taken) refl (c .before .before .before .before .before .before .put-places .ensures) (c .before .before .put-name .ensures), omega (arith, c .before .before .before .before .before .before .before .before .before .before .loop-test .taken))
+loop-again c =
+    let at6 = c .before .before .before .before .before .before in
+    let at10 = at6 .before .before .before .before in
+    let at11 = at10 .before in
+    (λ g. declaring.turn g (at11 .loop .inv .0 g) (at10 .loop-test .taken) refl (at6 .put-places .ensures) (c .before .before .put-name .ensures), omega (arith, at10 .loop-test .taken))
 
 -- src/inputs.rt:32:1
 same-length : tie.Need-same-length Inv-loop μ-loop

@@ -44,7 +44,10 @@ returns c = refused-text (c .before .before .before .before .before .before .arg
 
 -- src/list.rt:63:1
 returns-2 : tie.Need-returns-2
-returns-2 c = refused-text (c .before .before .before .before .before .before .before .before .before .args .formula .now) (c .before .before .before .before .before .before .before .before .before .args .text .now) (unread-listing (c .before .before .before .before .before .before .before .before .before .args .formula .now) _ (sym (c .before .refusal2 .given .1) ∙ c .before .before .before .read-formula .ensures))
+returns-2 c =
+    let at3 = c .before .before .before in
+    let at9 = at3 .before .before .before .before .before .before in
+    refused-text (at9 .args .formula .now) (at9 .args .text .now) (unread-listing (at9 .args .formula .now) _ (sym (c .before .refusal2 .given .1) ∙ at3 .read-formula .ensures))
 
 -- src/list.rt:63:1
 same-length : tie.Need-same-length

@@ -39,7 +39,13 @@ same-length c = search needs
 
 -- src/list.rt:55:9
 returns : tie.Need-returns
-returns c = listings.unlisted (c .before .before .before .before .before .before .before .before .before .before .before .before .pre) _ refl (c .before .before .before .before .before .before .before .before .enter-inputs .ensures) (c .before .before .before .before .before .before .before .before .enter-inputs .kept .1 .1 .0) (λ i. c .before .before .before .before .before .before .before .before .before .before .before .shared-slice-known .given i .fits) _ (c .before .before .before .before .put-whole .ensures) (c .before .before .before .before .before .before .before .before .before .before .before .before .args .text .now) (c .if1 .taken)
+returns c =
+    let at4 = c .before .before .before .before in
+    let at8 = at4 .before .before .before .before in
+    let at11 = at8 .before .before .before in
+    let at12 = at11 .before in
+    listings.unlisted (at12 .pre) _ refl (at8 .enter-inputs .ensures) (at8 .enter-inputs .kept .1 .1 .0) (λ i. at11 .shared-slice-known .given i .fits) _ (at4 .put-whole .ensures)
+    (at12 .args .text .now) (c .if1 .taken)
 
 -- src/list.rt:57:36
 slice-aggregate-put-whole-3 : tie.Need-slice-aggregate-put-whole-3
@@ -47,7 +53,13 @@ slice-aggregate-put-whole-3 c = search needs
 
 -- src/list.rt:57:5
 put-whole-requires-2 : tie.Need-put-whole-requires-2
-put-whole-requires-2 c κs = listings.whole-ready (c .before .before .before .before .before .before .before .before .before .before .before .before .before .before .pre) _ refl (c .before .before .before .before .before .before .before .before .before .before .enter-inputs .ensures) (c .before .before .before .before .before .before .before .before .before .before .enter-inputs .kept .1 .1 .0) (λ i. c .before .before .before .before .before .before .before .before .before .before .before .before .before .shared-slice-known .given i .fits) _ (listings.kept (c .before .before .before .before .before .before .before .before .before .before .before .before .before .before .pre) _ refl (c .before .before .before .before .before .before .before .before .before .before .enter-inputs .ensures) (c .before .before .before .before .before .before .before .before .before .before .enter-inputs .kept .1 .1 .0) (λ i. c .before .before .before .before .before .before .before .before .before .before .before .before .before .shared-slice-known .given i .fits) _ (c .before .before .before .before .before .before .put-whole .ensures)) (c .before .before .before .before .before .before .put-whole .kept .1 .1 .0)
+put-whole-requires-2 c κs =
+    let at6 = c .before .before .before .before .before .before in
+    let at10 = at6 .before .before .before .before in
+    let at13 = at10 .before .before .before in
+    let at14 = at13 .before in
+    listings.whole-ready (at14 .pre) _ refl (at10 .enter-inputs .ensures) (at10 .enter-inputs .kept .1 .1 .0) (λ i. at13 .shared-slice-known .given i .fits) _ (listings.kept
+    (at14 .pre) _ refl (at10 .enter-inputs .ensures) (at10 .enter-inputs .kept .1 .1 .0) (λ i. at13 .shared-slice-known .given i .fits) _ (at6 .put-whole .ensures)) (at6 .put-whole .kept .1 .1 .0)
 
 -- src/list.rt:45:1
 same-length-2 : tie.Need-same-length-2
@@ -55,7 +67,15 @@ same-length-2 c = search needs
 
 -- src/list.rt:45:1
 returns-2 : tie.Need-returns-2
-returns-2 c = listings.listed (c .before .before .before .before .before .before .before .before .before .before .before .before .before .before .before .before .before .before .pre) _ refl (c .before .before .before .before .before .before .before .before .before .before .before .before .before .before .enter-inputs .ensures) (c .before .before .before .before .before .before .before .before .before .before .before .before .before .before .enter-inputs .kept .1 .1 .0) (λ i. c .before .before .before .before .before .before .before .before .before .before .before .before .before .before .before .before .before .shared-slice-known .given i .fits) _ (c .before .before .before .before .before .before .before .before .before .before .put-whole .ensures) (c .before .before .before .before .before .before .before .before .before .before .before .before .before .before .before .before .before .before .args .text .now) _ (c .before .before .before .before .before .before .if1 .left) (c .before .before .before .put-whole2 .ensures) (c .before .before .before .before .before .before .before .before .before .before .put-whole .kept .1 .1 .0)
+returns-2 c =
+    let at3 = c .before .before .before in
+    let at6 = at3 .before .before .before in
+    let at10 = at6 .before .before .before .before in
+    let at14 = at10 .before .before .before .before in
+    let at17 = at14 .before .before .before in
+    let at18 = at17 .before in
+    listings.listed (at18 .pre) _ refl (at14 .enter-inputs .ensures) (at14 .enter-inputs .kept .1 .1 .0) (λ i. at17 .shared-slice-known .given i .fits) _ (at10 .put-whole .ensures)
+    (at18 .args .text .now) _ (at6 .if1 .left) (at3 .put-whole2 .ensures) (at10 .put-whole .kept .1 .1 .0)
 
 pub list-found-spec : {M : Type 1} → statement M
 list-found-spec =

@@ -39,7 +39,11 @@ same-length-2 c = search needs
 
 -- src/report.rt:13:1
 returns-2 : tie.Need-returns-2
-returns-2 c = refusal-printed (c .before .before .before .before .before .before .before .before .before .before .before .before .before .args .formula .now) (c .before .before .before .before .before .before .before .before .before .before .before .before .before .args .text .now) (sym (c .before .before .before .before .before .refusal .given .1) ∙ c .before .before .before .before .before .before .before .before .before .list .ensures .0) (c .before .before .before .before .before .before .before .before .before .list .ensures .1) (c .before .before .refusal-line .ensures)
+returns-2 c =
+    let at5 = c .before .before .before .before .before in
+    let at9 = at5 .before .before .before .before in
+    let at13 = at9 .before .before .before .before in
+    refusal-printed (at13 .args .formula .now) (at13 .args .text .now) (sym (at5 .refusal .given .1) ∙ at9 .list .ensures .0) (at9 .list .ensures .1) (c .before .before .refusal-line .ensures)
 
 pub list-lines-spec : {M : Type 1} → statement M
 list-lines-spec =

@@ -1,3 +1,4 @@
+-- Moved so far is what stands above word i; the measure is i.
 use native.Mathlib.Omega.{arith}
 use Prim.Native.Nat.{_+_}
 use mathlib.Core.Logic.{inl}

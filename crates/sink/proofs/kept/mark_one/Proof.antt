@@ -1,3 +1,4 @@
+-- By the two tests, and by where the id stands among those that are kept.
 use native.Mathlib.Omega.{arith}
 use mathlib.Core.Path.{sym, _∙_}
 use lib.ListN.{length-set}
@@ -43,7 +44,16 @@ enum-known-r c = search needs
 
 -- src/kept.rt:67:23
 add-make-room : tie.Need-add-make-room
-add-make-room c = omega (arith, (c .before .before .before .seek .ensures _ _ _ _ (c .before .before .before .before .before .before .before .before .before .before .pre .4) .new (c .before .r .given .0 .0) (c .before .r .given .1)) .0, keeping.count-word (c .before .before .before .before .before .before .before .before .before .before .pre .4), (c .before .before .before .before .before .before .before .before .before .before .pre .4) .kept, (c .before .before .before .before .before .before .before .before .before .before .pre .4) .small)
+add-make-room c =
+    let at3 = c .before .before .before in
+    let at10 = at3 .before .before .before .before .before .before .before in
+    omega (
+      arith,
+      (at3 .seek .ensures _ _ _ _ (at10 .pre .4) .new (c .before .r .given .0 .0) (c .before .r .given .1)) .0,
+      keeping.count-word (at10 .pre .4),
+      (at10 .pre .4) .kept,
+      (at10 .pre .4) .small,
+    )
 
 -- src/kept.rt:67:34
 sub-make-room : tie.Need-sub-make-room
@@ -51,19 +61,59 @@ sub-make-room c = omega (arith, (c .before .before .before .seek .ensures _ _ _ 
 
 -- src/kept.rt:67:13
 make-room-requires : tie.Need-make-room-requires
-make-room-requires c κs = omega (arith, (c .before .before .before .before .seek .ensures _ _ _ _ (c .before .before .before .before .before .before .before .before .before .before .before .pre .4) .new (c .before .before .r .given .0 .0) (c .before .before .r .given .1)) .0, keeping.count-word (c .before .before .before .before .before .before .before .before .before .before .before .pre .4), c .before .before .before .before .before .before .if2 .left)
+make-room-requires c κs =
+    let at4 = c .before .before .before .before in
+    let at6 = at4 .before .before in
+    let at11 = at6 .before .before .before .before .before in
+    omega (
+      arith,
+      (at4 .seek .ensures _ _ _ _ (at11 .pre .4) .new (c .before .before .r .given .0 .0) (c .before .before .r .given .1)) .0,
+      keeping.count-word (at11 .pre .4),
+      at6 .if2 .left,
+    )
 
 -- src/kept.rt:68:19
 add-state : tie.Need-add-state
-add-state c = omega (arith, (c .before .before .before .before .before .before .before .seek .ensures _ _ _ _ (c .before .before .before .before .before .before .before .before .before .before .before .before .before .before .pre .4) .new (c .before .before .before .before .before .r .given .0 .0) (c .before .before .before .before .before .r .given .1)) .0, keeping.count-word (c .before .before .before .before .before .before .before .before .before .before .before .before .before .before .pre .4), (c .before .before .before .before .before .before .before .before .before .before .before .before .before .before .pre .4) .kept, (c .before .before .before .before .before .before .before .before .before .before .before .before .before .before .pre .4) .small)
+add-state c =
+    let at5 = c .before .before .before .before .before in
+    let at7 = at5 .before .before in
+    let at14 = at7 .before .before .before .before .before .before .before in
+    omega (arith, (at7 .seek .ensures _ _ _ _ (at14 .pre .4) .new (at5 .r .given .0 .0) (at5 .r .given .1)) .0, keeping.count-word (at14 .pre .4), (at14 .pre .4) .kept, (at14 .pre .4) .small)
 
 -- src/kept.rt:68:13
 mul-state : tie.Need-mul-state
-mul-state c = omega (arith, (c .before .before .before .before .before .before .before .seek .ensures _ _ _ _ (c .before .before .before .before .before .before .before .before .before .before .before .before .before .before .pre .4) .new (c .before .before .before .before .before .r .given .0 .0) (c .before .before .before .before .before .r .given .1)) .0, keeping.count-word (c .before .before .before .before .before .before .before .before .before .before .before .before .before .before .pre .4), (c .before .before .before .before .before .before .before .before .before .before .before .before .before .before .pre .4) .kept, (c .before .before .before .before .before .before .before .before .before .before .before .before .before .before .pre .4) .small, (c .before .before .before .before .before .before .before .before .before .before .before .before .before .before .pre .4) .whole)
+mul-state c =
+    let at5 = c .before .before .before .before .before in
+    let at7 = at5 .before .before in
+    let at14 = at7 .before .before .before .before .before .before .before in
+    omega (
+      arith,
+      (at7 .seek .ensures _ _ _ _ (at14 .pre .4) .new (at5 .r .given .0 .0) (at5 .r .given .1)) .0,
+      keeping.count-word (at14 .pre .4),
+      (at14 .pre .4) .kept,
+      (at14 .pre .4) .small,
+      (at14 .pre .4) .whole,
+    )
 
 -- src/kept.rt:68:13
 slice-write-state : tie.Need-slice-write-state
-slice-write-state c = omega (arith, (keeping.room-length (c .before .before .before .before .before .before .before .before .before .before .before .before .before .before .args .state .now) _ _ (omega (arith, (c .before .before .before .before .before .before .before .seek .ensures _ _ _ _ (c .before .before .before .before .before .before .before .before .before .before .before .before .before .before .pre .4) .new (c .before .before .before .before .before .r .given .0 .0) (c .before .before .before .before .before .r .given .1)) .0, keeping.count-word (c .before .before .before .before .before .before .before .before .before .before .before .before .before .before .pre .4), c .before .before .before .before .before .before .before .before .before .if2 .left)) (c .before .before .make-room .ensures)), (c .before .before .before .before .before .before .before .seek .ensures _ _ _ _ (c .before .before .before .before .before .before .before .before .before .before .before .before .before .before .pre .4) .new (c .before .before .before .before .before .r .given .0 .0) (c .before .before .before .before .before .r .given .1)) .0, keeping.count-word (c .before .before .before .before .before .before .before .before .before .before .before .before .before .before .pre .4), c .before .before .before .before .before .before .before .before .before .if2 .left)
+slice-write-state c =
+    let at5 = c .before .before .before .before .before in
+    let at7 = at5 .before .before in
+    let at9 = at7 .before .before in
+    let at14 = at9 .before .before .before .before .before in
+    omega (
+      arith,
+      (keeping.room-length (at14 .args .state .now) _ _ (omega (
+        arith,
+        (at7 .seek .ensures _ _ _ _ (at14 .pre .4) .new (at5 .r .given .0 .0) (at5 .r .given .1)) .0,
+        keeping.count-word (at14 .pre .4),
+        at9 .if2 .left,
+      )) (c .before .before .make-room .ensures)),
+      (at7 .seek .ensures _ _ _ _ (at14 .pre .4) .new (at5 .r .given .0 .0) (at5 .r .given .1)) .0,
+      keeping.count-word (at14 .pre .4),
+      at9 .if2 .left,
+    )
 
 -- src/kept.rt:69:28
 add-state-2 : tie.Need-add-state-2
@@ -71,7 +121,21 @@ add-state-2 c = search needs
 
 -- src/kept.rt:69:13
 slice-write-state-2 : tie.Need-slice-write-state-2
-slice-write-state-2 c = simp length-set (omega (arith, (keeping.room-length (c .before .before .before .before .before .before .before .before .before .before .before .before .before .before .args .state .now) _ _ (omega (arith, (c .before .before .before .before .before .before .before .seek .ensures _ _ _ _ (c .before .before .before .before .before .before .before .before .before .before .before .before .before .before .pre .4) .new (c .before .before .before .before .before .r .given .0 .0) (c .before .before .before .before .before .r .given .1)) .0, keeping.count-word (c .before .before .before .before .before .before .before .before .before .before .before .before .before .before .pre .4), c .before .before .before .before .before .before .before .before .before .if2 .left)) (c .before .before .make-room .ensures)), keeping.long (c .before .before .before .before .before .before .before .before .before .before .before .before .before .before .pre .4)))
+slice-write-state-2 c =
+    let at5 = c .before .before .before .before .before in
+    let at7 = at5 .before .before in
+    let at9 = at7 .before .before in
+    let at14 = at9 .before .before .before .before .before in
+    simp length-set (omega (
+      arith,
+      (keeping.room-length (at14 .args .state .now) _ _ (omega (
+        arith,
+        (at7 .seek .ensures _ _ _ _ (at14 .pre .4) .new (at5 .r .given .0 .0) (at5 .r .given .1)) .0,
+        keeping.count-word (at14 .pre .4),
+        at9 .if2 .left,
+      )) (c .before .before .make-room .ensures)),
+      keeping.long (at14 .pre .4),
+    ))
 
 -- src/kept.rt:53:1
 same-length : tie.Need-same-length
@@ -87,7 +151,14 @@ same-length-2 c = search needs
 
 -- src/kept.rt:53:1
 returns-4 : tie.Need-returns-4
-returns-4 c = λ f o t n m. keeping.mark-new′ m (c .before .before .before .before .before .before .before .before .before .before .before .before .before .before .args .u) (omega (arith, c .before .before .before .before .before .before .before .before .before .before .before .if1 .left, keeping.own-word m)) (c .before .before .before .before .before .before .before .before .before .if2 .left) (c .before .before .before .before .before .before .before .seek .ensures f o t n m .new (c .before .before .before .before .before .r .given .0 .0) (c .before .before .before .before .before .r .given .1)) (c .before .before .make-room .ensures)
+returns-4 c =
+    let at5 = c .before .before .before .before .before in
+    let at7 = at5 .before .before in
+    let at9 = at7 .before .before in
+    let at11 = at9 .before .before in
+    let at14 = at11 .before .before .before in
+    λ f o t n m. keeping.mark-new′ m (at14 .args .u) (omega (arith, at11 .if1 .left, keeping.own-word m)) (at9 .if2 .left) (at7 .seek .ensures f o t n m .new (at5 .r .given .0 .0)
+    (at5 .r .given .1)) (c .before .before .make-room .ensures)
 
 pub mark-one-spec : {M : Type 1} → statement M
 mark-one-spec =

@@ -1,3 +1,4 @@
+-- The ids before i are less than u.
 use native.Mathlib.Omega.{arith}
 use Prim.Native.Nat.{ℕ, _-_}
 use mathlib.Core.List.{List}

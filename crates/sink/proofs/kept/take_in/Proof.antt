@@ -1,3 +1,4 @@
+-- One after another.
 use Rattle.sink.specs.Uses.{usedIds}
 use Rattle.sink.proofs.Keeping as keeping
 use borrow.Author.Needs.{needs}

@@ -1,3 +1,4 @@
+-- The five words that are stored.
 use native.Mathlib.Omega.{arith}
 use lib.ListN.{length-set}
 use Rattle.sink.proofs.Sinking as sinking

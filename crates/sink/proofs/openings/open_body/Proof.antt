@@ -1,3 +1,4 @@
+-- The line, and then the sink's words.
 use mathlib.Core.Path.{ap, subst}
 use lib.ListN.{getD}
 use Rattle.sink.specs.Sunk.{Lines, opening}

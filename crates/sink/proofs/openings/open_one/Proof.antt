@@ -1,3 +1,4 @@
+-- By the sink's mode and whether the position is too far on.
 use native.Mathlib.Omega.{arith}
 use mathlib.Core.List.{[], _∷_}
 use mathlib.Core.Path.{_∙_, sym}
@@ -26,7 +27,10 @@ slice-read-at c = search needs
 
 -- src/openings.rt:52:9
 returns-2 : tie.Need-returns-2
-returns-2 c = λ k s. sinking.noted-listing s (withCtrlLine (c .before .before .before .before .before .before .args .out .0 ∷ []) (c .before .before .before .before .before .before .args .control .0) []) (c .before .before .if1 .left) (sinking.put-nothing s (withCtrlLine (c .before .before .before .before .before .before .args .out .0 ∷ []) (c .before .before .before .before .before .before .args .control .0) []) (c .if2 .taken))
+returns-2 c =
+    let at6 = c .before .before .before .before .before .before in
+    λ k s. sinking.noted-listing s (withCtrlLine (at6 .args .out .0 ∷ []) (at6 .args .control .0) []) (c .before .before .if1 .left) (sinking.put-nothing s (withCtrlLine (at6 .args .out .0
+    ∷ []) (at6 .args .control .0) []) (c .if2 .taken))
 
 -- src/openings.rt:54:35
 id-of-requires : tie.Need-id-of-requires
@@ -54,7 +58,14 @@ same-length-2 c = search needs
 
 -- src/openings.rt:43:1
 returns-3 : tie.Need-returns-3
-returns-3 c = λ k s. sinking.opened-one s (c .before .before .before .before .before .before .before .before .before .before .before .before .args .out) (c .before .before .before .before .before .before .before .before .before .before .before .before .args .control) (c .before .before .before .before .id-of .ensures) (c .before .before .before .id-of2 .ensures) (c .before .before .before .before .before .before .before .before .if1 .left) (c .before .before .before .before .before .before .if2 .left) (one-line-short (c .before .before .before .before .id-of .result) (c .before .before .before .id-of2 .result) (c .before .before .before .before .id-of .ok) (c .before .before .before .id-of2 .ok)) (c .before .before .put-one .ensures)
+returns-3 c =
+    let at3 = c .before .before .before in
+    let at4 = at3 .before in
+    let at6 = at4 .before .before in
+    let at8 = at6 .before .before in
+    let at12 = at8 .before .before .before .before in
+    λ k s. sinking.opened-one s (at12 .args .out) (at12 .args .control) (at4 .id-of .ensures) (at3 .id-of2 .ensures) (at8 .if1 .left) (at6 .if2 .left) (one-line-short (at4 .id-of .result)
+    (at3 .id-of2 .result) (at4 .id-of .ok) (at3 .id-of2 .ok)) (c .before .before .put-one .ensures)
 
 pub open-one-spec : {M : Type 1} → statement M
 open-one-spec =

@@ -1,3 +1,4 @@
+-- The ids before i are written.
 use native.Mathlib.Omega.{arith}
 use Prim.Native.Nat.{ℕ, _-_}
 use mathlib.Core.List.{List}
@@ -37,7 +38,10 @@ mul-t14 c = omega (arith, c .before .loop-test .taken, (c .before .before .loop 
 
 -- src/openings.rt:90:47
 shared-slice-read-t16 : tie.Need-shared-slice-read-t16 Inv-loop μ-loop
-shared-slice-read-t16 c = omega (arith, c .before .before .loop-test .taken, (c .before .before .before .loop .inv) .0, keeping.count-word (c .before .before .before .before .before .before .before .pre .4), (c .before .before .before .before .before .before .before .pre .4) .whole, (c .before .before .before .before .before .before .before .pre .4) .kept, (c .before .before .before .before .before .before .before .pre .4) .small)
+shared-slice-read-t16 c =
+    let at3 = c .before .before .before in
+    let at7 = at3 .before .before .before .before in
+    omega (arith, c .before .before .loop-test .taken, (at3 .loop .inv) .0, keeping.count-word (at7 .pre .4), (at7 .pre .4) .whole, (at7 .pre .4) .kept, (at7 .pre .4) .small)
 
 -- src/openings.rt:90:9
 put-next-requires : tie.Need-put-next-requires Inv-loop μ-loop
@@ -45,7 +49,11 @@ put-next-requires c κs = left-countable ((c .before .before .before .loop .inv)
 
 -- src/openings.rt:92:9
 add-i : tie.Need-add-i Inv-loop μ-loop
-add-i c = omega (arith, c .before .before .before .before .before .loop-test .taken, (c .before .before .before .before .before .before .loop .inv) .0, keeping.count-word (c .before .before .before .before .before .before .before .before .before .before .pre .4), (c .before .before .before .before .before .before .before .before .before .before .pre .4) .whole, (c .before .before .before .before .before .before .before .before .before .before .pre .4) .kept, (c .before .before .before .before .before .before .before .before .before .before .pre .4) .small)
+add-i c =
+    let at5 = c .before .before .before .before .before in
+    let at6 = at5 .before in
+    let at10 = at6 .before .before .before .before in
+    omega (arith, at5 .loop-test .taken, (at6 .loop .inv) .0, keeping.count-word (at10 .pre .4), (at10 .pre .4) .whole, (at10 .pre .4) .kept, (at10 .pre .4) .small)
 
 -- src/openings.rt:89:5
 loop-less : tie.Need-loop-less Inv-loop μ-loop

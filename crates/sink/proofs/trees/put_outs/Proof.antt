@@ -37,7 +37,10 @@ returns c = λ g. rest-end (c .before .before .loop .inv g) (least-of (g .held .
 
 -- src/lib.rt:58:9
 put-next-requires : tie.Need-put-next-requires Inv-loop μ-loop
-put-next-requires c κs = rest-countable (c .before .before .before .loop .inv (c .before .before .before .before .before .before .pre)) (least-of (c .before .before .before .before .before .before .pre .held .ids) (c .before .before .least-at .ensures (c .before .before .before .before .before .before .pre .held))) (c .before .if1 .left) (c .before .before .before .before .before .before .pre .countable)
+put-next-requires c κs =
+    let at3 = c .before .before .before in
+    let at6 = at3 .before .before .before in
+    rest-countable (at3 .loop .inv (at6 .pre)) (least-of (at6 .pre .held .ids) (c .before .before .least-at .ensures (at6 .pre .held))) (c .before .if1 .left) (at6 .pre .countable)
 
 -- src/lib.rt:60:16
 add-from : tie.Need-add-from Inv-loop μ-loop

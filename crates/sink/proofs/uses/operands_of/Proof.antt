@@ -1,3 +1,4 @@
+-- By the transducer's case.
 use Rattle.sink.proofs.Using as cases
 use borrow.Author.Needs.{needs}
 use Rattle.sink.proofs.uses.operands_of.Statement.{statement}

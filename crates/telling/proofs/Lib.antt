@@ -1,6 +1,0 @@
-pub mod Telling
-pub mod Controlled
-pub mod IotaParts
-pub mod Least
-pub mod Uses
-pub mod Ascent

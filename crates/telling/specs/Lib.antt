@@ -1,3 +1,0 @@
-pub mod Telling
-pub mod Between
-pub mod Iota

@@ -1,2 +1,0 @@
-pub mod TreeTexts
-pub mod IdSearch
