@@ -16,12 +16,13 @@ use Rattle.snesl.specs.Values.{Val}
 use Rattle.snesl.specs.Trees.{Tree, mapTree}
 use Rattle.snesl.specs.Streams.{Store, _!_, contents, room}
 use Rattle.snesl.specs.Representation.{represent, Holds, values}
+use Rattle.steps.proofs.Executing.{next-element, spent-is, counted-is, four-words}
+use Rattle.steps.specs.Holding.{place}
 use Rattle.snesl.specs.Machine.{State}
 use Rattle.snesl.specs.Text.{show}
 use Rattle.snesl.specs.Outcome.{refusal, value, elementsOf, textOfFirst, answerText, answered, answerAfter}
 use Rattle.snesl.proofs.Representing.Representation.{holds-streams, values-represent}
 use Rattle.snesl.proofs.Representing.Trees.{mapTree-mapTree}
-use Rattle.leaves.specs.Places.{place}
 use Rattle.rendering.specs.Standing.{Stands}
 use Rattle.rendering.specs.Rendering.{ValueStands, ShowsValue}
 use Rattle.sheet.specs.declared.Ran.the-variants.{Value, Refused}
@@ -53,8 +54,8 @@ module _ {d from : ℕ} {env : List ℕ} {buf : List ℤ} {state : List ℕ} (g 
             (omega arith),
       )
 
-  pub four : length state ≡ 4
-  four = ap length (g .held .words)
+  pub four : 4 ≤ length state
+  four = four-words (g .held)
 
   text-is : answerText (g .tree) (g .machine .store) ≡ show d (g .result)
   text-is = text-of (g .holds)
@@ -97,9 +98,9 @@ module _ {d from : ℕ} {env : List ℕ} {buf : List ℤ} {state : List ℕ} (g 
           ≡ value text (g .machine .work) (g .machine .steps) (room (g .machine .store)) (contents (g .machine .store)) =
           ap (λ (t : List ℕ). answered (length answer) t (g .machine)) text-is
           ∙ fits (length answer) text (g .machine) (omega (arith, long)) in
-          let work : getD state 2 0 ≡ g .machine .work = ap (λ (l : List ℕ). getD l 2 0) (g .held .words) in
-          let steps : getD state 3 0 ≡ g .machine .steps = ap (λ (l : List ℕ). getD l 3 0) (g .held .words) in
-          let roomy : getD state 1 0 ≡ room (g .machine .store) = ap (λ (l : List ℕ). getD l 1 0) (g .held .words) in
+          let work : getD state 2 0 ≡ g .machine .work = spent-is (g .held) in
+          let steps : getD state 3 0 ≡ g .machine .steps = counted-is (g .held) in
+          let roomy : getD state 1 0 ≡ room (g .machine .store) = next-element (g .held) in
           let all : 0 + length text ≤ length answer = omega (arith, long) in
           let start : 0 + length text ≡ length text = omega arith in
           record {

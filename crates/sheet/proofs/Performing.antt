@@ -7,7 +7,7 @@ use mathlib.Core.Path.{_≡_, refl, sym, ap, ap₂, subst, _∙_}
 use native.Mathlib.Omega.{arith}
 use lib.Dec.{leb}
 use lib.IntN.{ℤ, pos}
-use lib.ListN.{length, drop, replicate, take-append-drop}
+use lib.ListN.{length, drop, replicate, take-append-drop, take, length-append}
 use lib.Seq.{take-length}
 use Rattle.laws.specs.Parts.{cleared}
 use Rattle.laws.proofs.Never.{never}
@@ -37,11 +37,14 @@ use Rattle.steps.specs.Holding.{keeps}
 use Rattle.steps.specs.Walking.{walked}
 use Rattle.steps.proofs.Stores.{room-append}
 use Rattle.leaves.specs.Places.{wordsFor, mostWords}
+use Rattle.environment.specs.Needs.{words}
+use Rattle.sink.specs.Sinks.{Sink, running, feed}
+use Rattle.sink.specs.Sunk.{Sunk}
 use Rattle.leaves.specs.Scenes.{Scene, answer, Left, Runs}
 use Rattle.runner.specs.Walks.{Ready}
 use Rattle.leaves.specs.declared.Walked.{Walked}
 use Rattle.leaves.specs.declared.Walked.the-variants as walks
-use Rattle.runner.proofs.Measures.{shallow-type}
+use Rattle.runner.proofs.Measures.{shallow-type, words-most}
 use Rattle.inputs.specs.Supply.{Valued, perInput, Counted}
 use Rattle.inputs.proofs.Counting.{counted-all}
 use Rattle.inputs.specs.Loading.{bindingWords, inputsBound, Stands, Loads, loads, fills}
@@ -134,13 +137,35 @@ module _ {t : List ℕ} {f : Formula} (g : Admitted t f) {env env₁ : List ℕ}
       (subst (λ (x : Loaded). Loads (valued-of g) env env₁ buf buf₁ state₁ (inputOver (length buf) 0 0 (g .accepted .given)) x) e l)))
 
   module _ (r₀ : Loaded) (sp : ℕ) (at : r₀ ≡ At sp) (l : Loads (valued-of g) env env₁ buf buf₁ state₁ (inputOver (length buf) 0 0 (g .accepted .given)) r₀)
-      (wide : mostWords ≤ length env) where
+      (wide : mostWords ≤ length env) (text : List ℕ) where
     pub here : Laid (valued-of g) env env₁ buf buf₁ state₁ (inputOver (length buf) 0 0 (g .accepted .given)) sp
     here =
         laid
         (subst (λ (x : Loaded). Loads (valued-of g) env env₁ buf buf₁ state₁ (inputOver (length buf) 0 0 (g .accepted .given)) x) at l)
 
-    abbrev pub scene : Scene env₁ sp buf₁ state₁
+    pub eight : length state₁ ≡ 8
+    eight =
+        ap length (sym (take-append-drop 4 state₁))
+        ∙ (length-append (take 4 state₁) (drop 4 state₁) ∙ omega (arith, ap length (here .stands .held .words), ap length (here .stands .behind)))
+
+    -- a sink that only runs
+    abbrev pub runs : Sink
+    runs = record { mode = running; text = text; at = 0; own = 0; taken = []; most = 0 }
+
+    pub sunk : Sunk runs text state₁
+    sunk =
+        record {
+          rest = [];
+          words = here .stands .behind;
+          whole = eight;
+          kept = omega arith;
+          small = omega arith;
+          near = omega arith;
+          text-is = refl;
+          plain = λ e. never (cc);
+        }
+
+    abbrev pub scene : Scene env₁ sp buf₁ state₁ text
     scene =
         record {
           context = context (g .accepted .inputs);
@@ -153,6 +178,9 @@ module _ {t : List ℕ} {f : Formula} (g : Admitted t f) {env env₁ : List ℕ}
           shallow = here .stands .shallow;
           held = here .stands .held;
           within = here .stands .within;
+          sink = runs;
+          sunk = sunk;
+          wide = record { room = λ e. never (cc) };
         }
 
     pub formed : Formed t (suc mostNesting) (g .accepted .expression) (context (g .accepted .inputs))
@@ -162,10 +190,14 @@ module _ {t : List ℕ} {f : Formula} (g : Admitted t f) {env env₁ : List ℕ}
     pub low : wordsFor (mostNesting + 1) ≤ sp
     low = omega (arith, here .space)
 
-    abbrev pub ready : Ready t (f .expression) (mostNesting + 1) sp env₁ buf₁ state₁
+    pub needed : words (g .accepted .term) ≤ sp
+    needed = omega (arith, low, words-most formed (here .stands .shallow))
+
+    abbrev pub ready : Ready t (f .expression) sp env₁ buf₁ state₁ text
     ready =
         record {
           scene = scene;
+          levels = mostNesting + 1;
           depth = g .accepted .depth;
           term = g .accepted .term;
           next = g .accepted .next;
@@ -175,7 +207,7 @@ module _ {t : List ℕ} {f : Formula} (g : Admitted t f) {env env₁ : List ℕ}
               (sym (ap (λ (h : Formula). h .expression) (g .formula)))
               formed;
           short = job-formed t (g .accepted .read) (g .accepted .checked) .short;
-          space = low;
+          space = needed;
           few = omega (arith, here .few, job-formed t (g .accepted .read) (g .accepted .checked) .short);
         }
 
@@ -193,7 +225,7 @@ module _ {t : List ℕ} {f : Formula} (g : Admitted t f) {env env₁ : List ℕ}
           (sym (length-inputs (g .accepted .given)))
           (sym long)
 
-      module _ {env₂ : List ℕ} {buf₂ : List ℤ} {state₂ : List ℕ} {r : Walked} (w : Runs scene (g .accepted .term) 1 (g .accepted .next) env₂ buf₂ state₂ r) where
+      module _ {env₂ : List ℕ} {buf₂ : List ℤ} {state₂ text₂ : List ℕ} {r : Walked} (w : Runs scene (g .accepted .term) 1 (g .accepted .next) env₂ buf₂ state₂ text₂ r) where
         pub halted : (why : Refusal) (ans : List ℕ) → r ≡ walks.Stopped why
             → Performs (execution g (length buf) (length ans)) buf buf₂ ans ans (Refused why)
         halted why ans e = performs-refused why buf buf₂ ans (execution-is (length ans) ∙ go res (sym e ∙ w .says))
@@ -220,7 +252,7 @@ module _ {t : List ℕ} {f : Formula} (g : Admitted t f) {env env₁ : List ℕ}
           abbrev m : State
           m = through depth next e .machine
 
-          left : Left m (tree (g .accepted .term) (treesOf g) (length (inputsOf g))) sp env₁ env₂ buf₁ buf₂ state₂
+          left : Left m (feed (length (inputsOf g)) (code (g .accepted .term) (treesOf g) (length (inputsOf g))) runs) (tree (g .accepted .term) (treesOf g) (length (inputsOf g))) sp env₁ env₂ buf₁ buf₂ state₂ text₂
           left = w .leaves m (through depth next e .is)
 
           ran : (v : Val (g .accepted .depth)) × RanOnce (g .accepted .term) (treesOf g) (length (inputsOf g)) (environment (g .accepted)) (loaded (g .accepted .given)) v m

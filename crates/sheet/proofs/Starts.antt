@@ -17,9 +17,8 @@ use Rattle.snesl.specs.Trees.{Tree, leaf, node, mapTree}
 use Rattle.snesl.specs.Streams.{ints, flags, bit}
 use Rattle.snesl.specs.Machine.{State}
 use Rattle.snesl.specs.Representation.{segments, Holds, holds-leaf, holds-node}
-use Rattle.steps.specs.Holding.{Held}
+use Rattle.steps.specs.Holding.{Held, place}
 use Rattle.streams.proofs.Store as store
-use Rattle.leaves.specs.Places.{place}
 use Rattle.rendering.specs.Standing.{Stands}
 
 -- ---- the loop

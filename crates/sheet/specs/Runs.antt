@@ -14,8 +14,7 @@ use Rattle.snesl.specs.Inputs.{inputOver}
 use Rattle.snesl.specs.Demands.{Told, shows, declines, Accepted}
 use Rattle.snesl.specs.Outcome.{Outcome, refusal, value, executed, outcome, streamsAfter, answerAfter}
 use Rattle.environment.specs.Words.{treeWords}
-use Rattle.steps.specs.Holding.{Held}
-use Rattle.leaves.specs.Places.{place}
+use Rattle.steps.specs.Holding.{Held, place}
 use Rattle.sheet.specs.declared.Ran.{Ran}
 use Rattle.sheet.specs.declared.Ran.the-variants.{Value, Refused}
 

@@ -5,15 +5,17 @@ use inputs::loading::Loaded;
 use inputs::loading::load;
 use leaves::Walked;
 use runner::walk;
+use sink::words::FIXED;
 use snesl::limits::Formula;
 use snesl::refusal::Refusal;
 use streams::clear;
 ghost use mathlib.Core.Path.{_≡_};
-ghost use mathlib.Core.List.{[], _∷_};
+ghost use mathlib.Core.List.{_∷_};
 ghost use Prim.Native.Nat.{_≤_};
 ghost use lib.ListN.{length};
 ghost use Rattle.snesl.specs.Limits.{mostElements};
 ghost use Rattle.snesl.specs.Demands.{Demands};
+ghost use Rattle.inputs.specs.Loading.{idle};
 ghost use Rattle.leaves.specs.Places.{mostWords};
 ghost use Rattle.inputs.specs.Supply.{Counted};
 ghost use Rattle.sheet.specs.Runs.{told, Admitted, execution, Performs, spoiledFrom};
@@ -26,7 +28,7 @@ const NESTING_WORDS: usize = 69;
 // The stack of words of the deepest walk over the most inputs.
 const WORDS: usize = NESTING_WORDS * (Formula::NESTING + 1) + INPUT_WORDS * Formula::INPUTS;
 
-// With a value the buffer holds the streams; with a refusal it holds whatever was left there.
+// With a value the buffer holds the streams; with a refusal it holds whatever was left there. The walk only runs, so nothing is written to the text.
 fn perform(
     job: &[u8],
     formula: Formula,
@@ -34,24 +36,16 @@ fn perform(
     env: &mut [u32],
     buf: &mut [i32],
     state: &mut [usize],
+    text: &mut [u8],
     answer: &mut [u8],
 ) -> Ran
     requires { ⌜ Admitted (now job) formula × Counted (now job) (now counts) ⌝ }
-    requires { ⌜ (mostWords ≤ length (now env)) × (length (now buf) ≤ mostElements) × (now state ≡ 0 ∷ 0 ∷ 0 ∷ 0 ∷ []) ⌝ }
+    requires { ⌜ (mostWords ≤ length (now env)) × (length (now buf) ≤ mostElements) × (now state ≡ 0 ∷ 0 ∷ 0 ∷ 0 ∷ idle) ⌝ }
     ensures { λ r. ⌜ ((g : Admitted (now (job .entry)) formula) → Performs (execution g (length (now (buf .entry))) (length (now (answer .entry)))) (now (buf .entry)) (now (buf .exit)) (now (answer .entry)) (now (answer .exit)) r) ⌝ }
 {
     match load(job, formula, counts, env, buf, state) {
         Loaded::Full(id) => Ran::Refused(Refusal::NoRoom(id)),
-        Loaded::At(sp) => match walk(
-            job,
-            formula.expression,
-            Formula::NESTING + 1,
-            1,
-            sp,
-            env,
-            buf,
-            state,
-        ) {
+        Loaded::At(sp) => match walk(job, formula.expression, 1, sp, env, buf, state, text) {
             Walked::Stopped(refusal) => Ran::Refused(refusal),
             Walked::Tree(depth, _) => show(depth, sp - (3 * depth + 3), env, buf, state, answer),
         },
@@ -81,8 +75,9 @@ pub fn execute(
     ensures demands { λ r. ⌜ Demands (now (job .entry)) (now (buf .entry)) (now (buf .exit)) (now (answer .entry)) (now (answer .exit)) (told r) ⌝ }
 {
     let mut env = [0u32; WORDS];
-    let mut state = [0usize; 4];
-    let ran = perform(job, formula, counts, &mut env, buf, &mut state, answer);
+    let mut state = [0usize; FIXED];
+    let mut text = [0u8; 0];
+    let ran = perform(job, formula, counts, &mut env, buf, &mut state, &mut text, answer);
     let from = spoiled_from(ran, buf.len());
     clear(buf, from);
     ran

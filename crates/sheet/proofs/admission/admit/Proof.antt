@@ -71,8 +71,8 @@ returns-3 c =
     let at-read-job = at-found .before .before in
     let at-start = at-read-job .before .before .before in
     let found = job-found (at-start .args .job .now) (at-found .found .given .0 .0) (sym (at-found .found .given .1) ∙ at-read-job .read-job .ensures) in (
-      admitted (at-start .args .job .now) found (at-enum-told .enum-told .given .0 .0) (sym (at-enum-told .enum-told .given .1) ∙ at-check-front .check-front .ensures) (sym (c .enum-told2 .given .1) ∙ at-measure-texts .measure-texts .ensures .0 found),
-      at-measure-texts .measure-texts .ensures .1 found ∙ tallied-all (at-start .args .job .now) found (at-enum-told .enum-told .given .0 .0) (sym (at-enum-told .enum-told .given .1) ∙ at-check-front .check-front .ensures) (at-start .args .counts .now),
+      admitted (at-start .args .job .now) found (at-enum-told .enum-told .given .0 .0) (at-enum-told .enum-told .given .0 .1 .0) (sym (at-enum-told .enum-told .given .1) ∙ at-check-front .check-front .ensures) (sym (c .enum-told2 .given .1) ∙ at-measure-texts .measure-texts .ensures .0 found),
+      at-measure-texts .measure-texts .ensures .1 found ∙ tallied-all (at-start .args .job .now) found (at-enum-told .enum-told .given .0 .0) (at-enum-told .enum-told .given .0 .1 .0) (sym (at-enum-told .enum-told .given .1) ∙ at-check-front .check-front .ensures) (at-start .args .counts .now),
     )
 
 same-length-2 : tie.Need-same-length-2
@@ -88,8 +88,8 @@ returns-4 c =
     let at-read-job = at-found .before .before in
     let at-start = at-read-job .before .before .before in
     let found = job-found (at-start .args .job .now) (at-found .found .given .0 .0) (sym (at-found .found .given .1) ∙ at-read-job .read-job .ensures) in (
-      refused-valued (at-start .args .job .now) found (at-enum-told .enum-told .given .0 .0) (sym (at-enum-told .enum-told .given .1) ∙ at-check-front .check-front .ensures) (at-place .place .given .0 .0) (sym (at-place .place .given .1) ∙ at-measure-texts .measure-texts .ensures .0 found),
-      at-measure-texts .measure-texts .ensures .1 found ∙ tallied-all (at-start .args .job .now) found (at-enum-told .enum-told .given .0 .0) (sym (at-enum-told .enum-told .given .1) ∙ at-check-front .check-front .ensures) (at-start .args .counts .now),
+      refused-valued (at-start .args .job .now) found (at-enum-told .enum-told .given .0 .0) (at-enum-told .enum-told .given .0 .1 .0) (sym (at-enum-told .enum-told .given .1) ∙ at-check-front .check-front .ensures) (at-place .place .given .0 .0) (sym (at-place .place .given .1) ∙ at-measure-texts .measure-texts .ensures .0 found),
+      at-measure-texts .measure-texts .ensures .1 found ∙ tallied-all (at-start .args .job .now) found (at-enum-told .enum-told .given .0 .0) (at-enum-told .enum-told .given .0 .1 .0) (sym (at-enum-told .enum-told .given .1) ∙ at-check-front .check-front .ensures) (at-start .args .counts .now),
     )
 
 pub admit-spec : {M : Type 1} → statement M

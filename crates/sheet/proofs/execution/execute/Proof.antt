@@ -10,6 +10,9 @@ slice-aggregate-perform c = search needs
 slice-aggregate-perform-2 : tie.Need-slice-aggregate-perform-2
 slice-aggregate-perform-2 c = search needs
 
+slice-aggregate-perform-3 : tie.Need-slice-aggregate-perform-3
+slice-aggregate-perform-3 c = search needs
+
 perform-requires : tie.Need-perform-requires
 perform-requires c κs = search needs
 
@@ -27,9 +30,9 @@ same-length-2 c = search needs
 
 returns : tie.Need-returns
 returns c =
-    let pre = c .before .before .before .before .before .before .before .before .before .before .before .before .before .before .before .before .pre in
-    let performed = c .before .before .before .before .before .before .before .before .before .perform in
-    kept-used (pre .0) (pre .1) (performed .ensures (pre .0)) (performed .kept .1 .1 .1 .0) (c .before .before .before .spoiled-from .ensures) (c .before .clear .ensures)
+    let pre = c .before .before .before .before .before .before .before .before .before .before .before .before .before .before .before .before .before .before .before .pre in
+    let performed = c .before .before .before .before .before .before .before .before .before .before .perform in
+    kept-used (pre .0 .0) (pre .1) (performed .ensures (pre .0 .0)) (performed .kept .1 .1 .1 .1 .0) (c .before .before .before .spoiled-from .ensures) (c .before .clear .ensures)
 
 pub execute-spec : {M : Type 1} → statement M
 execute-spec =
@@ -37,6 +40,7 @@ execute-spec =
     (tie.spec
     slice-aggregate-perform
     slice-aggregate-perform-2
+    slice-aggregate-perform-3
     perform-requires
     spoiled-from-requires
     clear-requires

@@ -2,13 +2,18 @@
 use mathlib.Core.Path.{sym, _∙_}
 use native.Mathlib.Omega.{arith}
 use borrow.Author.Needs.{needs}
+use lib.ListN.{replicate}
 use lib.Seq.{length-take-le}
 use Rattle.sheet.specs.declared.Ran.the-variants.{Refused}
 use Rattle.sheet.proofs.Admitting.{turned, taken-in}
+use Rattle.sheet.proofs.Performing.{counted-of}
 use Rattle.sheet.proofs.OneAnswer.{exacted}
 use Rattle.sheet.proofs.Whole.{kept-untouched, kept-whole}
 use Rattle.sheet.proofs.running.run.Statement.{statement}
 use Rattle.sheet.proofs.running.run.Tie as tie
+
+slice-aggregate-admit : tie.Need-slice-aggregate-admit
+slice-aggregate-admit c = search needs
 
 admit-requires : tie.Need-admit-requires
 admit-requires c κs = search needs
@@ -22,26 +27,35 @@ enum-known-formula c = search needs
 used-part-requires : tie.Need-used-part-requires
 used-part-requires c κs = search needs
 
+slice-aggregate-execute : tie.Need-slice-aggregate-execute
+slice-aggregate-execute c = search needs
+
 slice-relend-prefix-execute : tie.Need-slice-relend-prefix-execute
 slice-relend-prefix-execute c = search needs
 
-slice-aggregate-execute : tie.Need-slice-aggregate-execute
-slice-aggregate-execute c = sym (length-take-le (c .before .used-part .result) (c .before .before .before .before .before .before .before .before .args .streams .now) (omega (arith, c .before .used-part .ensures)))
+slice-aggregate-execute-2 : tie.Need-slice-aggregate-execute-2
+slice-aggregate-execute-2 c =
+    let at-used-part = c .before .before in
+    let at-start = at-used-part .before .before .before .before .before .before .before .before .before in
+    sym (length-take-le (at-used-part .used-part .result) (at-start .args .streams .now) (omega (arith, at-used-part .used-part .ensures)))
 
 execute-requires : tie.Need-execute-requires
 execute-requires c κs =
-    let given = c .before .before .before .before .before .before .before .before .before .args in
-    let formula = c .before .before .before .before .formula .given in
-    let used = c .before .before .used-part in (
-      taken-in (given .job .now) (formula .0 .0) (sym (formula .1) ∙ c .before .before .before .before .before .before .admit .ensures),
-      omega (arith, length-take-le (used .result) (given .streams .now) (omega (arith, used .ensures)), used .ensures),
-    )
+    let at-used-part = c .before .before .before in
+    let at-formula = at-used-part .before .before in
+    let at-admit = at-formula .before .before .before in
+    let at-start = at-admit .before .before .before .before in
+    let taken = taken-in (at-start .args .job .now) (at-formula .formula .given .0 .0) (sym (at-formula .formula .given .1) ∙ at-admit .admit .ensures .0) in
+    let long = length-take-le (at-used-part .used-part .result) (at-start .args .streams .now) (omega (arith, at-used-part .used-part .ensures)) in
+    ((taken, counted-of taken (replicate 144 0) (at-admit .admit .ensures .1) (omega arith) (at-admit .admit .kept .1 .0)), omega (arith, long, at-used-part .used-part .ensures))
 
 returns : tie.Need-returns
 returns c =
-    let given = c .before .before .before .before .before .before .args in
-    let refusal = c .before .refusal .given in
-    let k = kept-untouched (refusal .0 .0) (given .streams .now) (given .answer .now) (turned (given .job .now) (refusal .0 .0) (sym (refusal .1) ∙ c .before .before .before .admit .ensures)) in
+    let at-refusal = c .before in
+    let at-admit = at-refusal .before .before .before in
+    let at-start = at-admit .before .before .before .before in
+    let refusal = at-refusal .refusal .given in
+    let k = kept-untouched (refusal .0 .0) (at-start .args .streams .now) (at-start .args .answer .now) (turned (at-start .args .job .now) (refusal .0 .0) (sym (refusal .1) ∙ at-admit .admit .ensures .0)) in
     search (k, exacted (Refused (refusal .0 .0)) k)
 
 same-length : tie.Need-same-length
@@ -52,22 +66,26 @@ same-length-2 c = search needs
 
 returns-2 : tie.Need-returns-2
 returns-2 c =
-    let streams = c .before .before .before .before .before .before .before .before .before .before .before .before .before .args .streams .now in
-    let used = c .before .before .before .before .before .before .used-part in
     let executed = c .before .before .before .execute in
-    let k = kept-whole streams (executed .last .1 .1 .0) (used .result) (used .ensures) (length-take-le (used .result) streams (omega (arith, used .ensures))) (executed .kept .1 .1 .0) (executed .result) (executed .ensures) in
+    let at-used-part = c .before .before .before .before .before .before .before in
+    let streams = at-used-part .before .before .before .before .before .before .before .before .before .args .streams .now in
+    let used = at-used-part .used-part in
+    let long = length-take-le (used .result) streams (omega (arith, used .ensures)) in
+    let k = kept-whole streams (executed .last .1 .1 .1 .0) (used .result) (used .ensures) long (executed .kept .1 .1 .1 .0) (executed .result) (executed .ensures) in
     search (k, exacted (executed .result) k)
 
 pub run-spec : {M : Type 1} → statement M
 run-spec =
     tie.close
     (tie.spec
+    slice-aggregate-admit
     admit-requires
     enum-known-refusal
     enum-known-formula
     used-part-requires
-    slice-relend-prefix-execute
     slice-aggregate-execute
+    slice-relend-prefix-execute
+    slice-aggregate-execute-2
     execute-requires
     returns
     same-length
