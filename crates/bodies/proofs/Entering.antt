@@ -1,5 +1,6 @@
 -- What stands before a comprehension's body, step by step: the flags' place, their units, the listed variables' entries, and x's.
-use Prim.Native.Nat.{ℕ, suc, _+_, _*_, _-_, _≤_}
+use Prim.Native.Nat.{ℕ, suc, _+_, _*_, _-_, _≤_, _<_}
+use mathlib.Core.Bool.{Bool}
 use mathlib.Core.List.{List, [], _∷_, _++_, append-assoc}
 use mathlib.Core.Option.{some}
 use mathlib.Core.Path.{_≡_, refl, sym, _∙_, ap, subst}
@@ -9,7 +10,7 @@ use lib.ListN.{length, getD, drop, length-append}
 use Rattle.laws.proofs.Never.{never}
 use Rattle.laws.specs.Parts.{part, written}
 use Rattle.snesl.specs.declared.code.Variable.{Variable}
-use Rattle.snesl.specs.declared.code.Instruction.the-variants.{Define}
+use Rattle.snesl.specs.declared.code.Kind.the-variants.{Flags}
 use Rattle.snesl.specs.declared.code.Transducer.the-variants.{Usum, Distr}
 use Rattle.snesl.specs.declared.refusal.Refusal.{Refusal}
 use Rattle.snesl.specs.Terms as terms
@@ -19,25 +20,29 @@ use Rattle.snesl.specs.Streams.{units, flags, len, Store, _!_}
 use Rattle.snesl.specs.Programs.{Program, define, done, _⨾_, count}
 use Rattle.snesl.specs.Machine.{State, Result, went, stopped, onward}
 use Rattle.snesl.specs.Outcome.{refusalOf}
-use Rattle.snesl.specs.Records.{variablesAt}
+use Rattle.snesl.specs.Records.{byteAt, variableAt, variablesAt}
 use Rattle.snesl.specs.Checking.{listedNames, pointers}
 use Rattle.snesl.specs.Translation.{id, within, numbered, tree, controlled, distrs, code}
 use Rattle.environment.specs.Words.{placeWords, treeWords, treeSize, spelled, Entry}
+use Rattle.environment.specs.Needs.{words}
 use Rattle.environment.proofs.Stack.{part-drop, front-is, drop-above, drop-written, length-written, from-written, lowered}
 use Rattle.environment.proofs.Finding.{length-tree}
 use Rattle.environment.proofs.Entries.{bound}
 use Rattle.records.proofs.Variables.{length-variables}
 use Rattle.steps.specs.Walking.{stepped, walked}
-use Rattle.steps.specs.Holding.{FlagsAt, startOf, lengthOf, of-usum, Due, Performed, Stopping}
+use Rattle.sink.specs.Sinks.{Sink, defined, closed, feed}
+use Rattle.sink.specs.Sunk.{Sunk}
+use Rattle.steps.specs.Holding.{place, PlacedAt, Stopping}
 use Rattle.steps.specs.declared.Executed.{Executed}
-use Rattle.steps.specs.declared.Executed.the-variants.{Stopped}
+use Rattle.steps.specs.declared.Executed.the-variants.{Made, Stopped}
 use Rattle.steps.proofs.Stores.{kept, newest}
 use Rattle.steps.proofs.Walking.{walked-define, walked-seq, walked-with, Grown, walked-grown}
-use Rattle.steps.proofs.Due.{due}
-use Rattle.steps.proofs.Performing.{Making, stopping, stopping-as}
-use Rattle.leaves.specs.Places.{place, places, Shapely, Shaped, shaped-more, wordsFor}
+use Rattle.steps.proofs.Stepping.{units-of}
+use Rattle.steps.proofs.Performing.{stopping-as}
+use Rattle.leaves.specs.Places.{places, Shapely, Shaped, shaped-more}
+use Rattle.leaves.specs.Making.{Makes, Instructed}
 use Rattle.leaves.specs.Scenes.{Scene}
-use Rattle.bodies.specs.Bodies.{Distributing, Bound, Distributed, listedAnswer, Each, Inside, Enters}
+use Rattle.bodies.specs.Bodies.{Distributing, Bound, Distributed, listedAnswer, Each, innerTrees, opens, Inside, Enters}
 use Rattle.bodies.specs.declared.Listed.{Listed}
 use Rattle.bodies.specs.declared.Listed.the-variants as listed
 use Rattle.bodies.specs.declared.Entered.the-variants as entered
@@ -46,17 +51,21 @@ use Rattle.bodies.proofs.Lists.{length-listed, count-distrs}
 use Rattle.leaves.proofs.Places.{place-kept, tree-kept, lookup-shapely, lookup-shallow, outer-flags, inner-shapely, shapely-kept}
 use Rattle.leaves.proofs.Growing.{keeps-then, onward-as, onward-stop, onward-done}
 use Rattle.bodies.proofs.Scenes.{later}
-use Rattle.leaves.proofs.Operands.{flags-words, items-words, flags-there, names-it}
+use Rattle.leaves.proofs.Operands.{flags-words, items-words, named-there}
+use Rattle.leaves.proofs.Making.{Making, making, stopping}
+use Rattle.leaves.proofs.Told.{define-fed}
+use Rattle.leaves.proofs.CountingUp.{placed-later}
+use Rattle.bodies.proofs.Feeding.{like-defined, like-fed, wide-like, fed-then}
 use Rattle.bodies.proofs.Distributing.{length-entries}
 
 -- ---- what `distribute` answered
 
-module _ {env : List ℕ} {sp : ℕ} {buf : List ℤ} {state : List ℕ} {s : Scene env sp buf state} {b : ℕ} {ls : List (Variable × (s .context ∋ 0))} {n base : ℕ}
-    {env′ : List ℕ} {buf′ : List ℤ} {state′ : List ℕ} {r : Listed} (d : Distributed s b ls n base env′ buf′ state′ r) where
+module _ {env : List ℕ} {sp : ℕ} {buf : List ℤ} {state text : List ℕ} {s : Scene env sp buf state text} {b : ℕ} {ls : List (Variable × (s .context ∋ 0))} {n base : ℕ}
+    {env′ : List ℕ} {buf′ : List ℤ} {state′ text′ : List ℕ} {r : Listed} (d : Distributed s b ls n base env′ buf′ state′ text′ r) where
   pub record Ended : Type 0 where
     pub after : State
     pub went-to : walked (length buf) n (distrs b (pointers ls) (s .trees) done) (s .machine) ≡ went after
-    pub left : Bound s ls base env′ buf′ state′ after
+    pub left : Bound s b ls base env′ buf′ state′ text′ after
 
   pub ended : r ≡ listed.Bound → Ended
   ended e = go (walked (length buf) n (distrs b (pointers ls) (s .trees) done) (s .machine)) refl
@@ -77,10 +86,10 @@ module _ {env : List ℕ} {sp : ℕ} {buf : List ℤ} {state : List ℕ} {s : Sc
           let both : listed.Stopped q ≡ listed.Stopped (refusalOf why i) = sym e ∙ (d .says ∙ ap listedAnswer f) in
           record { why = why; where-at = i; stops = f; refuses = cc }
 
-enters-stopped : {t : List ℕ} {k levels sp : ℕ} {env : List ℕ} {buf : List ℤ} {state : List ℕ} {x y : Variable} {j : ℕ} {g : Each t k levels sp env buf state x y j}
-    {n : ℕ} {env′ : List ℕ} {buf′ : List ℤ} {state′ : List ℕ} {q : Refusal}
+enters-stopped : {t : List ℕ} {k sp : ℕ} {env : List ℕ} {buf : List ℤ} {state text : List ℕ} {g : Each t k sp env buf state text}
+    {n : ℕ} {env′ : List ℕ} {buf′ : List ℤ} {state′ text′ : List ℕ} {q : Refusal}
     → Stopping (walked (length buf) n (code (terms.each (g .pointer) (pointers (g .list)) (g .body)) (g .scene .trees) (length (g .scene .machine .store))) (g .scene .machine)) q
-    → Enters g n env′ buf′ state′ (entered.Stopped q)
+    → Enters g n env′ buf′ state′ text′ (entered.Stopped q)
 enters-stopped {q = q} s =
     record {
       goes-in = λ sp′ n′ e. never (cc);
@@ -93,13 +102,19 @@ unfolding distrs _⨾_
 distrs-then b [] δ p = refl
 distrs-then b (u ∷ us) δ p = ap (define (Distr (id b) (id (root (lookup u δ))))) (distrs-then b us δ p)
 
-module _ {t : List ℕ} {k levels sp : ℕ} {env : List ℕ} {buf : List ℤ} {state : List ℕ} {x y : Variable} {j : ℕ} (g : Each t k levels sp env buf state x y j)
+module _ {t : List ℕ} {k sp : ℕ} {env : List ℕ} {buf : List ℤ} {state text : List ℕ} (g : Each t k sp env buf state text)
     {p : ℕ} (e : Entry env sp p (lookup (g .pointer) (places (g .scene .machine .store) (g .scene .trees)))) where
   abbrev store : Store
   store = g .scene .machine .store
 
   abbrev flagsId : ℕ
   flagsId = outer (lookup (g .pointer) (g .scene .trees))
+
+  abbrev j : ℕ
+  j = byteAt t (k + 4)
+
+  abbrev x : Variable
+  x = variableAt t (k + 2)
 
   depth-is : getD env (p + 1) 0 - 1 ≡ g .inside
   depth-is = omega (arith, e .depth)
@@ -116,6 +131,13 @@ module _ {t : List ℕ} {k levels sp : ℕ} {env : List ℕ} {buf : List ℤ} {s
   pub flags-fit : p + 2 + (3 * (getD env (p + 1) 0 - 1) + 3) + 3 ≤ length env
   flags-fit = omega (arith, e .within, depth-is)
 
+  -- what x's binding asks
+  pub items-room : {l : ℕ} → l ≡ length env
+      → (getD env (p + 1) 0 - 1 < 4294967296) × (treeSize (getD env (p + 1) 0 - 1) + 2 ≤ sp - 3 - 5 * byteAt t (k + 4)) × (sp - 3 - 5 * byteAt t (k + 4) ≤ p + 2)
+      × (p + 2 + treeSize (getD env (p + 1) 0 - 1) ≤ l)
+  items-room h =
+      (omega (arith, depth-few), omega (arith, depth-is, g .space), omega (arith, e .above), omega (arith, flags-fit, h))
+
   module _ {env₁ : List ℕ} (w : env₁ ≡ written (sp - 3) (part (p + 2 + (3 * (getD env (p + 1) 0 - 1) + 3)) 3 env) env) where
     flags-written : env₁ ≡ written (sp - 3) (placeWords (place store flagsId)) env
     flags-written =
@@ -123,7 +145,7 @@ module _ {t : List ℕ} {k levels sp : ℕ} {env : List ℕ} {buf : List ℤ} {s
         ∙ (ap (λ c. written (sp - 3) (part (p + 2 + (3 * c + 3)) 3 env) env) depth-is
         ∙ ap (λ l. written (sp - 3) l env) (flags-words (g .scene) (g .pointer) e))
 
-    low : 69 ≤ sp
+    low : 3 ≤ sp
     low = omega (arith, g .space)
 
     pub upper : drop (sp - 3) env₁ ≡ placeWords (place store flagsId) ++ drop sp env
@@ -138,291 +160,315 @@ module _ {t : List ℕ} {k levels sp : ℕ} {env : List ℕ} {buf : List ℤ} {s
     pub pushed : part (sp - 3) 3 env₁ ≡ placeWords (place store flagsId)
     pushed = front-is env₁ (sp - 3) 3 (placeWords (place store flagsId)) (drop sp env) upper refl
 
-    pub flagged : FlagsAt store flagsId (startOf store flagsId) (lengthOf store flagsId)
-    flagged = outer-flags (lookup-shapely (g .pointer) (g .scene .shaped))
+    flags-stream : (bs : List Bool) × (store ! flagsId ≡ some (flags bs))
+    flags-stream = outer-flags (lookup-shapely (g .pointer) (g .scene .shaped))
 
-    pub usum-ready : Due (Define (id (getD state 0 0)) (Usum (id (getD env₁ (sp - 3) 0)))) (Usum (id (getD env₁ (sp - 3) 0))) (getD env₁ (sp - 3 + 1) 0) (getD env₁ (sp - 3 + 2) 0) 0 0 buf state (g .scene .machine)
-    usum-ready =
-        due
+    pub flags-placed : PlacedAt (g .scene .machine .store) env₁ Flags (outer (lookup (g .pointer) (g .scene .trees))) (sp - 3)
+    flags-placed = record { stream = flags (flags-stream .0); there = flags-stream .1; kind = refl; words = pushed }
+
+    named : getD env₁ (sp - 3) 0 ≡ flagsId
+    named = named-there flags-placed
+
+    pub usum-ready : (q : ℕ) → Makes (Usum (id (getD env₁ (sp - 3) 0))) (record { first = sp - 3; second = q }) env₁ buf state text (g .scene .machine) (g .scene .sink)
+    usum-ready q =
+        subst (λ i. Makes (Usum (id i)) (record { first = sp - 3; second = q }) env₁ buf state text (g .scene .machine) (g .scene .sink)) (sym named)
         (record {
-          held = g .scene .held;
-          operands = of-usum (flags-there env₁ store (sp - 3) flagsId pushed flagged) refl;
-          more = omega (arith, g .few, g .bytes);
+          executable = record { held = g .scene .held; placed = (flags-placed, tt); more = omega (arith, g .few, g .bytes) };
+          sunk = g .scene .sunk;
         })
 
     module _ (n : ℕ) where
       abbrev us : List (g .scene .context ∋ 0)
       us = pointers (g .list)
 
-      abbrev innerTrees : All (Tree ℕ) (g .inside ∷ listedTypes (pointers (g .list)))
-      innerTrees = within (g .pointer) (pointers (g .list)) (g .scene .trees) (length (g .scene .machine .store))
-
       abbrev inside-at : ℕ
       inside-at = length (g .scene .machine .store) + (1 + length (pointers (g .list)))
 
       abbrev control : Program
-      control = controlled (length store) inside-at (code (g .body) innerTrees inside-at) (tree (g .body) innerTrees inside-at)
+      control = controlled (length store) inside-at (code (g .body) (innerTrees g) inside-at) (tree (g .body) (innerTrees g) inside-at)
 
       start-code : walked (length buf) n (code (terms.each (g .pointer) us (g .body)) (g .scene .trees) (length store)) (g .scene .machine)
-          ≡ onward (stepped (length buf) n (Usum (id (getD env₁ (sp - 3) 0))) (g .scene .machine)) (walked (length buf) n (distrs flagsId us (g .scene .trees) done ⨾ control))
+          ≡ onward (stepped (length buf) n (Usum (id flagsId)) (g .scene .machine)) (walked (length buf) n (distrs flagsId us (g .scene .trees) done ⨾ control))
       unfolding code
       start-code =
           (λ i. walked (length buf) n (define (Usum (id flagsId)) (distrs-then flagsId us (g .scene .trees) control i)) (g .scene .machine))
-          ∙ (sym (λ i. walked (length buf) n (define (Usum (id (names-it env₁ store (sp - 3) flagsId pushed i))) (distrs flagsId us (g .scene .trees) done ⨾ control)) (g .scene .machine))
-          ∙ walked-define (length buf) n (Usum (id (getD env₁ (sp - 3) 0))) (distrs flagsId us (g .scene .trees) done ⨾ control) (g .scene .machine))
+          ∙ walked-define (length buf) n (Usum (id flagsId)) (distrs flagsId us (g .scene .trees) done ⨾ control) (g .scene .machine)
 
-      pub usum-stopped : {env′ : List ℕ} {new : List ℤ} {state′ : List ℕ} {r : Executed} {q : Refusal}
-          → Performed (stepped (length buf) n (Usum (id (getD env₁ (sp - 3) 0))) (g .scene .machine)) (g .scene .machine) buf new state′ r → r ≡ Stopped q
-          → Enters g n env′ new state′ (entered.Stopped q)
-      usum-stopped {q = q} v f =
-          enters-stopped (stopping-as start-code (onward-stop (walked (length buf) n (distrs flagsId us (g .scene .trees) done ⨾ control)) (stopping (length buf) n (Usum (id (getD env₁ (sp - 3) 0))) v q f)))
+      abbrev sink₁ : Sink
+      sink₁ = defined (length store) (Usum (id flagsId)) (g .scene .sink)
 
-      module _ {buf₁ : List ℤ} {state₁ : List ℕ} {i : ℕ}
-          (u : Making (length buf) n (Usum (id (getD env₁ (sp - 3) 0))) (g .scene .machine) buf buf₁ state₁ i) (long : length buf₁ ≡ length buf) where
-        pub units-stored : u .after .store ≡ store ++ units i ∷ []
-        units-stored =
-            let o = u .added-to .kind in
-            u .added-to .store ∙ ap (λ a. store ++ a ∷ []) (o .1 ∙ ap units (sym (u .long ∙ ap len (o .1))))
+      module _ {buf₁ : List ℤ} {state₁ text₁ : List ℕ} {r₁ : Executed}
+          (p₁ : Instructed (stepped (length buf) n (Usum (id (getD env₁ (sp - 3) 0))) (g .scene .machine)) (Usum (id (getD env₁ (sp - 3) 0))) (g .scene .machine) (g .scene .sink) buf buf₁ state₁ text₁ r₁) where
+        own : Instructed (stepped (length buf) n (Usum (id flagsId)) (g .scene .machine)) (Usum (id flagsId)) (g .scene .machine) (g .scene .sink) buf buf₁ state₁ text₁ r₁
+        own = subst (λ i. Instructed (stepped (length buf) n (Usum (id i)) (g .scene .machine)) (Usum (id i)) (g .scene .machine) (g .scene .sink) buf buf₁ state₁ text₁ r₁) named p₁
 
-        units-quiet : n ≡ 0 → i ≡ 0
-        units-quiet z = u .long ∙ ap len (u .added-to .quiet z)
+        pub usum-stopped : {env′ : List ℕ} {q : Refusal} → r₁ ≡ Stopped q → Enters g n env′ buf₁ state₁ text₁ (entered.Stopped q)
+        usum-stopped {q = q} f =
+            enters-stopped (stopping-as start-code (onward-stop (walked (length buf) n (distrs flagsId us (g .scene .trees) done ⨾ control)) (stopping (length buf) n (Usum (id flagsId)) own q f)))
 
-        pub units-next : length (u .after .store) ≡ suc (length store)
-        units-next = ap length units-stored ∙ (length-append store (units i ∷ []) ∙ omega arith)
+        module _ {i : ℕ} (e₁ : r₁ ≡ Made i) (long : length buf₁ ≡ length buf) where
+          pub u : Making (length buf) n (Usum (id (outer (lookup (g .pointer) (g .scene .trees))))) (g .scene .machine) (g .scene .sink) buf buf₁ state₁ text₁ i
+          u = making (length buf) n (Usum (id flagsId)) own i e₁
 
-        flags-place : place (u .after .store) flagsId ≡ place store flagsId
-        flags-place = ap (λ σ. place σ flagsId) units-stored ∙ place-kept store (units i ∷ []) flagsId (flags (flagged .content)) (flagged .stream)
+          pub units-stored : u .after .store ≡ store ++ units i ∷ []
+          units-stored =
+              let o = units-of (u .added-to .stream) (u .added-to .kind) in
+              u .added-to .store ∙ ap (λ a. store ++ a ∷ []) (o .1 ∙ ap units (sym (u .long ∙ ap len (o .1))))
 
-        pub still-pushed : part (sp - 3) 3 env₁ ≡ placeWords (place (u .after .store) flagsId)
-        still-pushed = pushed ∙ ap placeWords (sym flags-place)
+          units-quiet : n ≡ 0 → i ≡ 0
+          units-quiet z = u .long ∙ ap len (u .added-to .quiet z)
 
-        pub still-flagged : FlagsAt (u .after .store) flagsId (startOf (u .after .store) flagsId) (lengthOf (u .after .store) flagsId)
-        still-flagged =
-            record {
-              content = flagged .content;
-              stream = ap (λ σ. σ ! flagsId) units-stored ∙ kept store (units i ∷ []) flagsId (flags (flagged .content)) (flagged .stream);
-              start = refl;
-              long = refl;
-            }
+          pub units-next : length (u .after .store) ≡ suc (length store)
+          units-next = ap length units-stored ∙ (length-append store (units i ∷ []) ∙ omega arith)
 
-        abbrev pub scene₁ : Scene env₁ sp buf₁ state₁
-        scene₁ = later (g .scene) (u .after) (units i ∷ []) units-stored (u .held) same-above same-long
+          pub still-placed : PlacedAt (u .after .store) env₁ Flags (outer (lookup (g .pointer) (g .scene .trees))) (sp - 3)
+          still-placed = placed-later (units i ∷ []) flags-placed units-stored refl
 
-        abbrev pub distributing : Distributing t (k + 5) j (sp - 3 - 5 * j) sp env₁ buf₁ state₁
-        distributing =
-            record {
-              scene = scene₁;
-              flags = outer (lookup (g .pointer) (g .scene .trees));
-              list = g .list;
-              lists = g .lists;
-              pushed = still-pushed;
-              flagged = still-flagged;
-              bytes = g .bytes;
-              space = omega (arith, g .space, g .most);
-              few = omega (arith, g .few, g .bytes, units-next);
-            }
+          abbrev pub scene₁ : Scene env₁ sp buf₁ state₁ text₁
+          scene₁ =
+              later (g .scene) (u .after) (units i ∷ []) units-stored (u .held) same-above same-long
+              (defined (length (g .scene .machine .store)) (Usum (id (outer (lookup (g .pointer) (g .scene .trees))))) (g .scene .sink)) (u .sunk)
+              (like-defined (g .scene .sink) (length (g .scene .machine .store)) (Usum (id (outer (lookup (g .pointer) (g .scene .trees))))))
 
-        distrs-code : walked (length buf) n (code (terms.each (g .pointer) us (g .body)) (g .scene .trees) (length store)) (g .scene .machine)
-            ≡ onward (walked (length buf₁) n (distrs flagsId us (g .scene .trees) done) (u .after)) (walked (length buf) n control)
-        distrs-code =
-            start-code
-            ∙ (onward-as (walked (length buf) n (distrs flagsId us (g .scene .trees) done ⨾ control)) (u .went-to)
-            ∙ (walked-seq (length buf) n (distrs flagsId us (g .scene .trees) done) control (u .after)
-            ∙ ap (λ c. onward (walked c n (distrs flagsId us (g .scene .trees) done) (u .after)) (walked (length buf) n control)) (sym long)))
+          abbrev pub distributing : Distributing t (k + 5) (byteAt t (k + 4)) (sp - 3 - 5 * byteAt t (k + 4)) sp env₁ buf₁ state₁ text₁
+          distributing =
+              record {
+                scene = scene₁;
+                flags = outer (lookup (g .pointer) (g .scene .trees));
+                list = g .list;
+                lists = g .lists;
+                placed = still-placed;
+                bytes = g .bytes;
+                space = omega (arith, g .space, g .most);
+                few = omega (arith, g .few, g .bytes, units-next);
+              }
 
-        module _ {env₂ : List ℕ} {buf₂ : List ℤ} {state₂ : List ℕ} {r : Listed}
-            (d : Distributed scene₁ flagsId (g .list) n (sp - 3 - 5 * j) env₂ buf₂ state₂ r) where
-          pub distr-stopped : {q : Refusal} → r ≡ listed.Stopped q → Enters g n env₂ buf₂ state₂ (entered.Stopped q)
-          distr-stopped {q} f = enters-stopped (stopping-as distrs-code (onward-stop (walked (length buf) n control) (listed-stopping d q f)))
+          distrs-code : walked (length buf) n (code (terms.each (g .pointer) us (g .body)) (g .scene .trees) (length store)) (g .scene .machine)
+              ≡ onward (walked (length buf₁) n (distrs flagsId us (g .scene .trees) done) (u .after)) (walked (length buf) n control)
+          distrs-code =
+              start-code
+              ∙ (onward-as (walked (length buf) n (distrs flagsId us (g .scene .trees) done ⨾ control)) (u .went-to)
+              ∙ (walked-seq (length buf) n (distrs flagsId us (g .scene .trees) done) control (u .after)
+              ∙ ap (λ c. onward (walked c n (distrs flagsId us (g .scene .trees) done) (u .after)) (walked (length buf) n control)) (sym long)))
 
-          -- inside
-          module _ (f : r ≡ listed.Bound) (long₂ : length env₂ ≡ length env₁) {env₃ : List ℕ} {sp′ : ℕ}
-              (at : sp′ ≡ sp - 3 - 5 * j - treeSize (getD env (p + 1) 0 - 1) - 2)
-              (w₃ : env₃ ≡ written (sp - 3 - 5 * j - treeSize (getD env (p + 1) 0 - 1) - 2) (x .0 ∷ (getD env (p + 1) 0 - 1) ∷ [])
-              (written (sp - 3 - 5 * j - treeSize (getD env (p + 1) 0 - 1)) (part (p + 2) (treeSize (getD env (p + 1) 0 - 1)) env₂) env₂)) where
-            end : Ended d
-            end = ended d f
+          module _ {env₂ : List ℕ} {buf₂ : List ℤ} {state₂ text₂ : List ℕ} {r : Listed}
+              (d : Distributed scene₁ (outer (lookup (g .pointer) (g .scene .trees))) (g .list) n (sp - 3 - 5 * byteAt t (k + 4)) env₂ buf₂ state₂ text₂ r) where
+            pub distr-stopped : {q : Refusal} → r ≡ listed.Stopped q → Enters g n env₂ buf₂ state₂ text₂ (entered.Stopped q)
+            distr-stopped {q} f = enters-stopped (stopping-as distrs-code (onward-stop (walked (length buf) n control) (listed-stopping d q f)))
 
-            gr : Grown (u .after) (distrs flagsId us (g .scene .trees) done) (end .after)
-            gr = walked-grown (length buf₁) n (distrs flagsId us (g .scene .trees) done) (u .after) (end .after) (end .went-to)
+            -- inside
+            module _ (f : r ≡ listed.Bound) (long₂ : length env₂ ≡ length env₁) {env₃ : List ℕ} {sp′ : ℕ}
+                (at : sp′ ≡ sp - 3 - 5 * byteAt t (k + 4) - treeSize (getD env (p + 1) 0 - 1) - 2)
+                (w₃ : env₃ ≡ written (sp - 3 - 5 * byteAt t (k + 4) - treeSize (getD env (p + 1) 0 - 1) - 2) (byteAt t (k + 2) ∷ (getD env (p + 1) 0 - 1) ∷ [])
+                (written (sp - 3 - 5 * byteAt t (k + 4) - treeSize (getD env (p + 1) 0 - 1)) (part (p + 2) (treeSize (getD env (p + 1) 0 - 1)) env₂) env₂)) where
+              end : Ended d
+              end = ended d f
 
-            abbrev all-streams : Store
-            all-streams = units i ∷ gr .streams
+              gr : Grown (u .after) (distrs flagsId us (g .scene .trees) done) (end .after)
+              gr = walked-grown (length buf₁) n (distrs flagsId us (g .scene .trees) done) (u .after) (end .after) (end .went-to)
 
-            stored : end .after .store ≡ store ++ all-streams
-            stored = gr .store ∙ (ap (λ σ. σ ++ gr .streams) units-stored ∙ append-assoc store (units i ∷ []) (gr .streams))
+              abbrev all-streams : Store
+              all-streams = units i ∷ gr .streams
 
-            as-many : length us ≡ j
-            as-many = length-listed (g .scene .names) (variablesAt t (k + 5) j) (g .list) (g .lists) ∙ length-variables t (k + 5) j
+              stored : end .after .store ≡ store ++ all-streams
+              stored = gr .store ∙ (ap (λ σ. σ ++ gr .streams) units-stored ∙ append-assoc store (units i ∷ []) (gr .streams))
 
-            number : length (end .after .store) ≡ inside-at
-            unfolding count
-            number =
-                ap length stored
-                ∙ (length-append store all-streams ∙ omega (arith, gr .number, count-distrs flagsId us (g .scene .trees) done))
+              abbrev sink₂ : Sink
+              sink₂ = feed (length (u .after .store)) (distrs flagsId us (g .scene .trees) done) sink₁
 
-            control-there : end .after .store ! length store ≡ some (units i)
-            control-there =
-                ap (λ σ. σ ! length store) (gr .store)
-                ∙ kept (u .after .store) (gr .streams) (length store) (units i) (ap (λ σ. σ ! length store) units-stored ∙ newest store (units i))
+              as-many : length us ≡ j
+              as-many = length-listed (g .scene .names) (variablesAt t (k + 5) j) (g .list) (g .lists) ∙ length-variables t (k + 5) j
 
-            whole : walked (length buf) n (code (terms.each (g .pointer) us (g .body)) (g .scene .trees) (length store)) (g .scene .machine)
-                ≡ walked (length buf) i (code (g .body) innerTrees (length (end .after .store))) (end .after)
-            whole =
-                distrs-code
-                ∙ (onward-as (walked (length buf) n control) (end .went-to)
-                ∙ (walked-with (length buf) n i _ (length store) _ (code (g .body) innerTrees inside-at) done (end .after) control-there units-quiet
-                ∙ (onward-done (length buf) n (walked (length buf) i (code (g .body) innerTrees inside-at) (end .after))
-                ∙ ap (λ a. walked (length buf) i (code (g .body) innerTrees a) (end .after)) (sym number))))
+              number : length (end .after .store) ≡ inside-at
+              unfolding count
+              number =
+                  ap length stored
+                  ∙ (length-append store all-streams ∙ omega (arith, gr .number, count-distrs flagsId us (g .scene .trees) done))
 
-            -- the words
-            abbrev base : ℕ
-            base = sp - 3 - 5 * j
+              control-there : end .after .store ! length store ≡ some (units i)
+              control-there =
+                  ap (λ σ. σ ! length store) (gr .store)
+                  ∙ kept (u .after .store) (gr .streams) (length store) (units i) (ap (λ σ. σ ! length store) units-stored ∙ newest store (units i))
 
-            entries : List ℕ
-            entries = spelled (listedNames (g .list)) (places (end .after .store) (numbered (suc (length store)) us))
+              whole : walked (length buf) n (code (terms.each (g .pointer) us (g .body)) (g .scene .trees) (length store)) (g .scene .machine)
+                  ≡ walked (length buf) i (code (g .body) (innerTrees g) (length (end .after .store))) (end .after)
+              whole =
+                  distrs-code
+                  ∙ (onward-as (walked (length buf) n control) (end .went-to)
+                  ∙ (walked-with (length buf) n i _ (length store) _ (code (g .body) (innerTrees g) inside-at) done (end .after) control-there units-quiet
+                  ∙ (onward-done (length buf) n (walked (length buf) i (code (g .body) (innerTrees g) inside-at) (end .after))
+                  ∙ ap (λ a. walked (length buf) i (code (g .body) (innerTrees g) a) (end .after)) (sym number))))
 
-            entries-long : length entries ≡ 5 * j
-            unfolding entries
-            entries-long = length-entries (g .list) (end .after .store) (suc (length store)) ∙ ap (λ l. 5 * l) as-many
+              controlled-fed : feed (length (end .after .store)) control sink₂
+                  ≡ closed (feed (length (end .after .store)) (code (g .body) (innerTrees g) (length (end .after .store))) (opens g (length (end .after .store)) sink₂))
+              unfolding feed
+              controlled-fed = ap (λ a. closed (feed (length (end .after .store)) (code (g .body) (innerTrees g) a) (opens g a sink₂))) (sym number)
 
-            entries-written : env₂ ≡ written base entries env₁
-            unfolding entries
-            entries-written =
-                end .left .words
-                ∙ ap (λ a. written base (spelled (listedNames (g .list)) (places (end .after .store) (numbered a us))) env₁) units-next
+              fed : feed (length store) (code (terms.each (g .pointer) us (g .body)) (g .scene .trees) (length store)) (g .scene .sink)
+                  ≡ closed (feed (length (end .after .store)) (code (g .body) (innerTrees g) (length (end .after .store))) (opens g (length (end .after .store)) sink₂))
+              unfolding code count
+              fed =
+                  let one : length store + 1 ≡ length (u .after .store) = omega (arith, units-next) in
+                  let up : length (u .after .store) + count (distrs flagsId us (g .scene .trees) done) ≡ length (end .after .store) =
+                  omega (arith, number, units-next, count-distrs flagsId us (g .scene .trees) done) in
+                  ap (λ p. feed (length store) (define (Usum (id flagsId)) p) (g .scene .sink)) (distrs-then flagsId us (g .scene .trees) control)
+                  ∙ (define-fed (length store) (Usum (id flagsId)) (distrs flagsId us (g .scene .trees) done ⨾ control) (g .scene .sink)
+                  ∙ (ap (λ s. feed s (distrs flagsId us (g .scene .trees) done ⨾ control) sink₁) one
+                  ∙ (fed-then (length (u .after .store)) (distrs flagsId us (g .scene .trees) done) control sink₁
+                  ∙ (ap (λ s. feed s control sink₂) up ∙ controlled-fed))))
 
-            after-entries : base + length entries ≡ sp - 3
-            after-entries = omega (arith, entries-long, g .space, g .most)
+              -- the words
+              abbrev base : ℕ
+              base = sp - 3 - 5 * j
 
-            entries-fit : base + length entries ≤ length env₁
-            entries-fit = omega (arith, after-entries, same-long, g .scene .within)
+              entries : List ℕ
+              entries = spelled (listedNames (g .list)) (places (end .after .store) (numbered (suc (length store)) us))
 
-            from-base : drop base env₂ ≡ entries ++ drop (sp - 3) env₁
-            from-base =
-                ap (drop base) entries-written
-                ∙ (from-written env₁ base entries entries-fit ∙ ap (λ a. entries ++ drop a env₁) after-entries)
+              entries-long : length entries ≡ 5 * j
+              unfolding entries
+              entries-long = length-entries (g .list) (end .after .store) (suc (length store)) ∙ ap (λ l. 5 * l) as-many
 
-            flags-still : drop (sp - 3) env₂ ≡ drop (sp - 3) env₁
-            flags-still =
-                ap (drop (sp - 3)) entries-written
-                ∙ drop-written env₁ base (sp - 3) entries (omega (arith, after-entries)) (omega (arith, same-long, g .scene .within))
+              entries-written : env₂ ≡ written base entries env₁
+              unfolding entries
+              entries-written =
+                  end .left .words
+                  ∙ ap (λ a. written base (spelled (listedNames (g .list)) (places (end .after .store) (numbered a us))) env₁) units-next
 
-            above-still : drop sp env₂ ≡ drop sp env
-            above-still = drop-above env₂ env₁ (sp - 3) sp flags-still (omega arith) ∙ same-above
+              after-entries : base + length entries ≡ sp - 3
+              after-entries = omega (arith, entries-long, g .space, g .most)
 
-            itemsTree : Tree ℕ (g .inside)
-            itemsTree = inner (lookup (g .pointer) (g .scene .trees))
+              entries-fit : base + length entries ≤ length env₁
+              entries-fit = omega (arith, after-entries, same-long, g .scene .within)
 
-            items-shapely : Shapely store (g .inside) itemsTree
-            unfolding itemsTree
-            items-shapely = inner-shapely (lookup-shapely (g .pointer) (g .scene .shaped))
+              from-base : drop base env₂ ≡ entries ++ drop (sp - 3) env₁
+              from-base =
+                  ap (drop base) entries-written
+                  ∙ (from-written env₁ base entries entries-fit ∙ ap (λ a. entries ++ drop a env₁) after-entries)
 
-            items : List ℕ
-            items = treeWords (mapTree (place (end .after .store)) itemsTree)
+              flags-still : drop (sp - 3) env₂ ≡ drop (sp - 3) env₁
+              flags-still =
+                  ap (drop (sp - 3)) entries-written
+                  ∙ drop-written env₁ base (sp - 3) entries (omega (arith, after-entries)) (omega (arith, same-long, g .scene .within))
 
-            items-are : part (p + 2) (treeSize (g .inside)) env₂ ≡ items
-            unfolding items itemsTree
-            items-are =
-                part-drop env₂ env (p + 2) (treeSize (g .inside)) (drop-above env₂ env sp (p + 2) above-still (omega (arith, e .above)))
-                ∙ (items-words (g .scene) (g .pointer) e
-                ∙ ap treeWords (sym (ap (λ σ. mapTree (place σ) itemsTree) stored ∙ tree-kept store all-streams items-shapely)))
+              above-still : drop sp env₂ ≡ drop sp env
+              above-still = drop-above env₂ env₁ (sp - 3) sp flags-still (omega arith) ∙ same-above
 
-            items-long : length items ≡ treeSize (g .inside)
-            unfolding items
-            items-long = length-tree (mapTree (place (end .after .store)) itemsTree)
+              itemsTree : Tree ℕ (g .inside)
+              itemsTree = inner (lookup (g .pointer) (g .scene .trees))
 
-            abbrev itemsAt : ℕ
-            itemsAt = base - treeSize (g .inside)
+              items-shapely : Shapely store (g .inside) itemsTree
+              unfolding itemsTree
+              items-shapely = inner-shapely (lookup-shapely (g .pointer) (g .scene .shaped))
 
-            room-below : treeSize (g .inside) + 2 + 69 * levels ≤ base
-            room-below = omega (arith, g .space, g .most, depth-most)
+              items : List ℕ
+              items = treeWords (mapTree (place (end .after .store)) itemsTree)
 
-            base-within : base ≤ length env₂
-            base-within = omega (arith, long₂, same-long, g .scene .within)
+              items-are : part (p + 2) (treeSize (g .inside)) env₂ ≡ items
+              unfolding items itemsTree
+              items-are =
+                  part-drop env₂ env (p + 2) (treeSize (g .inside)) (drop-above env₂ env sp (p + 2) above-still (omega (arith, e .above)))
+                  ∙ (items-words (g .scene) (g .pointer) e
+                  ∙ ap treeWords (sym (ap (λ σ. mapTree (place σ) itemsTree) stored ∙ tree-kept store all-streams items-shapely)))
 
-            env₂′ : List ℕ
-            env₂′ = written itemsAt items env₂
+              items-long : length items ≡ treeSize (g .inside)
+              unfolding items
+              items-long = length-tree (mapTree (place (end .after .store)) itemsTree)
 
-            bound-written : env₃ ≡ written (itemsAt - 2) (x .0 ∷ g .inside ∷ []) env₂′
-            unfolding env₂′
-            bound-written =
-                w₃
-                ∙ (ap (λ c. written (base - treeSize c - 2) (x .0 ∷ c ∷ []) (written (base - treeSize c) (part (p + 2) (treeSize c) env₂) env₂)) depth-is
-                ∙ ap (λ l. written (itemsAt - 2) (x .0 ∷ g .inside ∷ []) (written itemsAt l env₂)) items-are)
+              abbrev itemsAt : ℕ
+              itemsAt = base - treeSize (g .inside)
 
-            from-items : drop itemsAt env₂′ ≡ items ++ (entries ++ drop (sp - 3) env₁)
-            unfolding env₂′
-            from-items =
-                lowered env₂ base (treeSize (g .inside)) items items-long (omega (arith, room-below)) base-within ∙ ap (λ l. items ++ l) from-base
+              room-below : treeSize (g .inside) + 2 + words (g .body) ≤ base
+              room-below = omega (arith, g .space, g .most, depth-most)
 
-            items-fit : itemsAt + length items ≤ length env₂
-            items-fit = omega (arith, items-long, room-below, base-within)
+              base-within : base ≤ length env₂
+              base-within = omega (arith, long₂, same-long, g .scene .within)
 
-            long₂′ : length env₂′ ≡ length env₂
-            unfolding env₂′
-            long₂′ = length-written env₂ itemsAt items items-fit
+              env₂′ : List ℕ
+              env₂′ = written itemsAt items env₂
 
-            two-up : itemsAt - 2 + 2 ≡ itemsAt
-            two-up = back-up base (treeSize (g .inside)) (omega (arith, room-below))
+              bound-written : env₃ ≡ written (itemsAt - 2) (x .0 ∷ g .inside ∷ []) env₂′
+              unfolding env₂′
+              bound-written =
+                  w₃
+                  ∙ (ap (λ c. written (base - treeSize c - 2) (x .0 ∷ c ∷ []) (written (base - treeSize c) (part (p + 2) (treeSize c) env₂) env₂)) depth-is
+                  ∙ ap (λ l. written (itemsAt - 2) (x .0 ∷ g .inside ∷ []) (written itemsAt l env₂)) items-are)
 
-            name-fits : itemsAt - 2 + 2 ≤ length env₂′
-            name-fits = subst (λ a. a ≤ length env₂′) (sym two-up) (fits-below base (treeSize (g .inside)) (length env₂) (length env₂′) base-within long₂′)
+              from-items : drop itemsAt env₂′ ≡ items ++ (entries ++ drop (sp - 3) env₁)
+              unfolding env₂′
+              from-items =
+                  lowered env₂ base (treeSize (g .inside)) items items-long (omega (arith, room-below)) base-within ∙ ap (λ l. items ++ l) from-base
 
-            place-is : sp′ ≡ itemsAt - 2
-            place-is = at ∙ ap (λ c. base - treeSize c - 2) depth-is
+              items-fit : itemsAt + length items ≤ length env₂
+              items-fit = omega (arith, items-long, room-below, base-within)
 
-            spells-it : drop sp′ env₃ ≡ spelled (x ▹ listedNames (g .list)) (places (end .after .store) innerTrees) ++ drop (sp - 3) env₁
-            unfolding items entries itemsTree places
-            spells-it =
-                ap (λ a. drop a env₃) place-is
-                ∙ (ap (drop (itemsAt - 2)) bound-written
-                ∙ bound env₂′ (itemsAt - 2) x (listedNames (g .list)) (mapTree (place (end .after .store)) (inner (lookup (g .pointer) (g .scene .trees))))
-                (places (end .after .store) (numbered (suc (length store)) us)) (drop (sp - 3) env₁) name-fits
-                (ap (λ a. drop a env₂′) two-up ∙ from-items))
+              long₂′ : length env₂′ ≡ length env₂
+              unfolding env₂′
+              long₂′ = length-written env₂ itemsAt items items-fit
 
-            flags-there-still : drop (sp - 3) env₃ ≡ placeWords (place (end .after .store) flagsId) ++ drop sp env
-            unfolding env₂′
-            flags-there-still =
-                ap (drop (sp - 3)) bound-written
-                ∙ (drop-written env₂′ (itemsAt - 2) (sp - 3) (x .0 ∷ g .inside ∷ []) (subst (λ a. a ≤ sp - 3) (sym two-up) (sub-twice (sp - 3) (5 * j) (treeSize (g .inside)))) (omega (arith, long₂′, long₂, same-long, g .scene .within))
-                ∙ (drop-written env₂ itemsAt (sp - 3) items (omega (arith, items-long, room-below)) (omega (arith, long₂, same-long, g .scene .within))
-                ∙ (flags-still
-                ∙ (upper
-                ∙ ap (λ q. placeWords q ++ drop sp env)
-                (sym (ap (λ σ. place σ flagsId) stored ∙ place-kept store all-streams flagsId (flags (flagged .content)) (flagged .stream)))))))
+              two-up : itemsAt - 2 + 2 ≡ itemsAt
+              two-up = back-up base (treeSize (g .inside)) (omega (arith, room-below))
 
-            inside-shaped : Shaped (end .after .store) (g .inside ∷ listedTypes us) innerTrees
-            unfolding itemsTree
-            inside-shaped =
-                shaped-more (subst (λ σ. Shapely σ (g .inside) (inner (lookup (g .pointer) (g .scene .trees)))) (sym stored) (shapely-kept store all-streams items-shapely))
-                (subst (λ a. Shaped (end .after .store) (listedTypes us) (numbered a us)) units-next (end .left .shaped))
+              name-fits : itemsAt - 2 + 2 ≤ length env₂′
+              name-fits = subst (λ a. a ≤ length env₂′) (sym two-up) (fits-below base (treeSize (g .inside)) (length env₂) (length env₂′) base-within long₂′)
 
-            pub inside : Inside g n sp′ i env₃ buf₂ state₂
-            inside =
-                record {
-                  after = end .after;
-                  streams = all-streams;
-                  rest = drop (sp - 3) env₁;
-                  whole = whole;
-                  store = stored;
-                  number = number;
-                  held = end .left .held;
-                  kept = keeps-then (u .after .store) (gr .streams) (end .after .store) buf buf₁ buf₂ (u .kept) (end .left .kept) (gr .store);
-                  shaped = inside-shaped;
-                  spells = spells-it;
-                  flags = flags-there-still;
-                  space = subst (λ q. wordsFor levels ≤ q) (sym place-is) (low-enough base (treeSize (g .inside)) (69 * levels) room-below);
-                  below = subst (λ q. q + 3 ≤ sp) (sym place-is) (far-below sp (5 * j) (treeSize (g .inside)) (69 * levels) room-below);
-                }
+              place-is : sp′ ≡ itemsAt - 2
+              place-is = at ∙ ap (λ c. base - treeSize c - 2) depth-is
 
-            pub enters-inside : Enters g n env₃ buf₂ state₂ (entered.Body sp′ i)
-            enters-inside =
-                record {
-                  goes-in =
-                      λ a b q.
-                      let same : sp′ ≡ a = cc in
-                      let too : i ≡ b = cc in
-                      subst (λ c. Inside g n c b env₃ buf₂ state₂) same (subst (λ c. Inside g n sp′ c env₃ buf₂ state₂) too inside);
-                  stops = λ q f. never (cc);
-                }
+              spells-it : drop sp′ env₃ ≡ spelled (x ▹ listedNames (g .list)) (places (end .after .store) (innerTrees g)) ++ drop (sp - 3) env₁
+              unfolding items entries itemsTree places
+              spells-it =
+                  ap (λ a. drop a env₃) place-is
+                  ∙ (ap (drop (itemsAt - 2)) bound-written
+                  ∙ bound env₂′ (itemsAt - 2) x (listedNames (g .list)) (mapTree (place (end .after .store)) (inner (lookup (g .pointer) (g .scene .trees))))
+                  (places (end .after .store) (numbered (suc (length store)) us)) (drop (sp - 3) env₁) name-fits
+                  (ap (λ a. drop a env₂′) two-up ∙ from-items))
+
+              flags-there-still : drop (sp - 3) env₃ ≡ placeWords (place (end .after .store) flagsId) ++ drop sp env
+              unfolding env₂′
+              flags-there-still =
+                  ap (drop (sp - 3)) bound-written
+                  ∙ (drop-written env₂′ (itemsAt - 2) (sp - 3) (x .0 ∷ g .inside ∷ []) (subst (λ a. a ≤ sp - 3) (sym two-up) (sub-twice (sp - 3) (5 * j) (treeSize (g .inside)))) (omega (arith, long₂′, long₂, same-long, g .scene .within))
+                  ∙ (drop-written env₂ itemsAt (sp - 3) items (omega (arith, items-long, room-below)) (omega (arith, long₂, same-long, g .scene .within))
+                  ∙ (flags-still
+                  ∙ (upper
+                  ∙ ap (λ q. placeWords q ++ drop sp env)
+                  (sym (ap (λ σ. place σ flagsId) stored ∙ place-kept store all-streams flagsId (flags (flags-stream .0)) (flags-stream .1)))))))
+
+              inside-shaped : Shaped (end .after .store) (g .inside ∷ listedTypes us) (innerTrees g)
+              unfolding itemsTree
+              inside-shaped =
+                  shaped-more (subst (λ σ. Shapely σ (g .inside) (inner (lookup (g .pointer) (g .scene .trees)))) (sym stored) (shapely-kept store all-streams items-shapely))
+                  (subst (λ a. Shaped (end .after .store) (listedTypes us) (numbered a us)) units-next (end .left .shaped))
+
+              pub inside : Inside g n sp′ i env₃ buf₂ state₂ text₂
+              inside =
+                  record {
+                    after = end .after;
+                    sink = sink₂;
+                    streams = all-streams;
+                    rest = drop (sp - 3) env₁;
+                    whole = whole;
+                    fed = fed;
+                    store = stored;
+                    number = number;
+                    held = end .left .held;
+                    sunk = end .left .sunk;
+                    wide = wide-like (like-fed (length (u .after .store)) (distrs flagsId us (g .scene .trees) done) sink₁) (scene₁ .wide);
+                    kept = keeps-then (u .after .store) (gr .streams) (end .after .store) buf buf₁ buf₂ (u .kept) (end .left .kept) (gr .store);
+                    shaped = inside-shaped;
+                    spells = spells-it;
+                    flags = flags-there-still;
+                    space = subst (λ q. words (g .body) ≤ q) (sym place-is) (low-enough base (treeSize (g .inside)) (words (g .body)) room-below);
+                    below = subst (λ q. q + 3 ≤ sp) (sym place-is) (far-below sp (5 * j) (treeSize (g .inside)) (words (g .body)) room-below);
+                  }
+
+              pub enters-inside : Enters g n env₃ buf₂ state₂ text₂ (entered.Body sp′ i)
+              enters-inside =
+                  record {
+                    goes-in =
+                        λ a b q.
+                        let same : sp′ ≡ a = cc in
+                        let too : i ≡ b = cc in
+                        subst (λ c. Inside g n c b env₃ buf₂ state₂ text₂) same (subst (λ c. Inside g n sp′ c env₃ buf₂ state₂ text₂) too inside);
+                    stops = λ q f. never (cc);
+                  }

@@ -10,10 +10,13 @@ use Rattle.snesl.specs.Machine.{State}
 use Rattle.environment.specs.Words.{spelled}
 use Rattle.steps.specs.Holding.{Held}
 use Rattle.leaves.specs.Places.{places, Shaped}
+use Rattle.sink.specs.Sinks.{Sink}
+use Rattle.sink.specs.Sunk.{Sunk}
 use Rattle.leaves.specs.Scenes.{Scene}
+use Rattle.bodies.proofs.Feeding.{Like, wide-like}
 use Rattle.leaves.proofs.Places.{places-kept, shaped-kept}
 
-module _ {env : List ℕ} {sp : ℕ} {buf : List ℤ} {state : List ℕ} (s : Scene env sp buf state) (m : State) (τ : Store) (e : m .store ≡ s .machine .store ++ τ) where
+module _ {env : List ℕ} {sp : ℕ} {buf : List ℤ} {state text : List ℕ} (s : Scene env sp buf state text) (m : State) (τ : Store) (e : m .store ≡ s .machine .store ++ τ) where
   grown-places : places (m .store) (s .trees) ≡ places (s .machine .store) (s .trees)
   grown-places = ap (λ σ. places σ (s .trees)) e ∙ places-kept (s .machine .store) τ (s .shaped)
 
@@ -23,9 +26,9 @@ module _ {env : List ℕ} {sp : ℕ} {buf : List ℤ} {state : List ℕ} (s : Sc
   pub grown-spells : (env′ : List ℕ) → drop sp env′ ≡ drop sp env → drop sp env′ ≡ spelled (s .names) (places (m .store) (s .trees)) ++ s .rest
   grown-spells env′ d = d ∙ (s .spells ∙ ap (λ δ. spelled (s .names) δ ++ s .rest) (sym grown-places))
 
-  abbrev pub later : {env′ : List ℕ} {buf′ : List ℤ} {state′ : List ℕ} → Held m buf′ state′ → drop sp env′ ≡ drop sp env → length env′ ≡ length env
-      → Scene env′ sp buf′ state′
-  later {env′} h d l =
+  abbrev pub later : {env′ : List ℕ} {buf′ : List ℤ} {state′ text′ : List ℕ} → Held m buf′ state′ → drop sp env′ ≡ drop sp env → length env′ ≡ length env
+      → (k : Sink) → Sunk k text′ state′ → Like (s .sink) k → Scene env′ sp buf′ state′ text′
+  later {env′} h d l k u w =
       record {
         context = s .context;
         names = s .names;
@@ -37,4 +40,7 @@ module _ {env : List ℕ} {sp : ℕ} {buf : List ℤ} {state : List ℕ} (s : Sc
         shallow = s .shallow;
         held = h;
         within = omega (arith, s .within, l);
+        sink = k;
+        sunk = u;
+        wide = wide-like w (s .wide);
       }

@@ -31,7 +31,7 @@ use Rattle.valuetext.proofs.Represented.{order-length}
 use Rattle.inputs.specs.declared.loading.Loaded.{Loaded}
 use Rattle.inputs.specs.declared.loading.Loaded.the-variants.{At, Full}
 use Rattle.inputs.specs.Supply.{Valued}
-use Rattle.inputs.specs.Loading.{bindingWords, Bound, bindOne, Stands, Next, Takes, takes, passes, inputsBound, Loads, loads, fills}
+use Rattle.inputs.specs.Loading.{idle, bindingWords, Bound, bindOne, Stands, Next, Takes, takes, passes, inputsBound, Loads, loads, fills}
 use Rattle.inputs.proofs.Supplying.{Supplied, supplied-none, supplied-more, inputs-supplied}
 use Rattle.inputs.proofs.Checking.{textFrom, text-span, Bounds}
 
@@ -127,7 +127,7 @@ module _ {t : List ℕ} {n k₀ : ℕ} (g : Given t n k₀) (env₀ : List ℕ) 
     pub over : inputOver (length buf₀) (room store) (length store) given ≡ inputOver (length buf₀) 0 0 (g .given)
     pub partly : Partly n env₀ buf₀ bound store left sp env buf state
 
-  pub loading-start : n ≤ mostInputs → bindingWords * mostInputs ≤ length env₀ → length buf₀ ≤ mostElements → (state : List ℕ) → state ≡ 0 ∷ 0 ∷ 0 ∷ 0 ∷ []
+  pub loading-start : n ≤ mostInputs → bindingWords * mostInputs ≤ length env₀ → length buf₀ ≤ mostElements → (state : List ℕ) → state ≡ 0 ∷ 0 ∷ 0 ∷ 0 ∷ idle
       → Loading n 0 k₀ (length env₀) env₀ buf₀ state
   unfolding contents spelled places
   loading-start few wide small state z =
@@ -151,7 +151,7 @@ module _ {t : List ℕ} {n k₀ : ℕ} (g : Given t n k₀) (env₀ : List ℕ) 
                     shallow = shallow-none;
                     held =
                         record {
-                          words = z;
+                          words = ap (take 4) z;
                           contents-are = refl;
                           fits = omega arith;
                           short = omega arith;
@@ -159,6 +159,7 @@ module _ {t : List ℕ} {n k₀ : ℕ} (g : Given t n k₀) (env₀ : List ℕ) 
                           slow = omega arith;
                           cheap = omega arith;
                         };
+                    behind = ap (drop 4) z;
                     within = omega arith;
                   };
               kept = refl;

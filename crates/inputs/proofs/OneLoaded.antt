@@ -25,9 +25,10 @@ use Rattle.snesl.specs.Machine.{State, sumOf}
 use Rattle.snesl.specs.Representation.{concat, segments, represent}
 use Rattle.snesl.specs.Text.{valueOf}
 use Rattle.snesl.specs.Inputs.{inputTree}
-use Rattle.steps.specs.Holding.{counters, Held, keeps}
+use Rattle.steps.specs.Holding.{counters, Held, place, keeps}
+use Rattle.steps.proofs.Executing.{next-id, next-element, spent-is, counted-is, four-words}
 use Rattle.steps.proofs.Stores.{contents-append, room-append, newest}
-use Rattle.leaves.specs.Places.{place, places, Shapely, shapely-leaf, shapely-node, Shaped, shaped-more, Shallow, shallow-more}
+use Rattle.leaves.specs.Places.{places, Shapely, shapely-leaf, shapely-node, Shaped, shaped-more, Shallow, shallow-more}
 use Rattle.leaves.proofs.Places.{tree-kept, places-kept, shapely-kept, shaped-kept, place-newest}
 use Rattle.decimals.specs.Numbers.{pick}
 use Rattle.valuetext.specs.Storing.{valueStore, valueStoreIf, textElements, measured, measuredIf, countsFor, countsAfter, textStore, Fillable}
@@ -100,7 +101,7 @@ module _ {σ : Store} {buf : List ℤ} {state : List ℕ} (h : Held (unspent σ)
       length-append (take (room σ) buf) (contents τ)
       ∙ (ap (λ (n : ℕ). n + room τ) (length-take-le (room σ) buf (omega arith)) ∙ sym (room-append σ τ))
 
-  behind-held : (state′ : List ℕ) → state′ ≡ counters (unspent (σ ++ τ)) → Held (unspent (σ ++ τ)) (sets buf (room σ) (contents τ)) state′
+  behind-held : (state′ : List ℕ) → take 4 state′ ≡ counters (unspent (σ ++ τ)) → Held (unspent (σ ++ τ)) (sets buf (room σ) (contents τ)) state′
   behind-held state′ w =
       let long : length (sets buf (room σ) (contents τ)) ≡ length buf = length-sets buf (room σ) (contents τ) in
       record {
@@ -122,6 +123,20 @@ module _ {σ : Store} {buf : List ℤ} {state : List ℕ} (h : Held (unspent σ)
       ∙ (drop-at (take (room σ) buf ++ contents τ) (drop (room σ + room τ) buf) (room (σ ++ τ)) front-long
       ∙ ap (λ (n : ℕ). drop n buf) (sym (room-append σ τ)))
 
+-- ---- two words written
+
+front-set : (l : List ℕ) (a b : ℕ) → 4 ≤ length l → take 4 (set (set l 0 a) 1 b) ≡ a ∷ b ∷ getD l 2 0 ∷ getD l 3 0 ∷ []
+front-set [] a b e = absurd (omega arith)
+front-set (p ∷ []) a b e = absurd (omega arith)
+front-set (p ∷ q ∷ []) a b e = absurd (omega arith)
+front-set (p ∷ q ∷ r ∷ []) a b e = absurd (omega arith)
+front-set (p ∷ q ∷ r ∷ s ∷ l) a b e = refl
+
+behind-set : (l : List ℕ) (a b : ℕ) → drop 4 (set (set l 0 a) 1 b) ≡ drop 4 l
+behind-set [] a b = refl
+behind-set (p ∷ []) a b = refl
+behind-set (p ∷ q ∷ l) a b = refl
+
 -- ---- the input
 
 module _ {text : List ℕ} {x : Variable} {d sp : ℕ} {env : List ℕ} {buf : List ℤ} {state : List ℕ} (g : Next text x d sp env buf state) where
@@ -131,14 +146,14 @@ module _ {text : List ℕ} {x : Variable} {d sp : ℕ} {env : List ℕ} {buf : L
   abbrev τ : Store
   τ = valueStore d (g .value)
 
-  pub four : length state ≡ 4
-  four = ap length (g .stands .held .words)
+  pub four : 4 ≤ length state
+  four = four-words (g .stands .held)
 
   pub first-free : getD state 0 0 ≡ length σ
-  first-free = ap (λ (l : List ℕ). getD l 0 0) (g .stands .held .words)
+  first-free = next-id (g .stands .held)
 
   pub first-room : getD state 1 0 ≡ room σ
-  first-room = ap (λ (l : List ℕ). getD l 1 0) (g .stands .held .words)
+  first-room = next-element (g .stands .held)
 
   -- what measuring says
   measure-is : measured d text ≡ pick (leb (room τ) mostElements) (Elements (room τ)) Over
@@ -205,12 +220,12 @@ module _ {text : List ℕ} {x : Variable} {d sp : ℕ} {env : List ℕ} {buf : L
         grown : length (σ ++ τ) ≡ length σ + suc d
         grown = length-append σ τ ∙ ap (λ (k : ℕ). length σ + k) (order-length (represent d (g .value ∷ [])))
 
-        new-state : set (set state 0 (getD state 0 0 + (d + 1))) 1 (getD state 1 0 + n) ≡ counters (unspent (σ ++ τ))
+        new-state : take 4 (set (set state 0 (getD state 0 0 + (d + 1))) 1 (getD state 1 0 + n)) ≡ counters (unspent (σ ++ τ))
         new-state =
             let i : getD state 0 0 + (d + 1) ≡ length (σ ++ τ) = omega (arith, grown, first-free) in
             let r : getD state 1 0 + n ≡ room (σ ++ τ) = omega (arith, first-room, total n e, room-append σ τ) in
-            ap₂ (λ (i r : ℕ). set (set state 0 i) 1 r) i r
-            ∙ ap (λ (s : List ℕ). set (set s 0 (length (σ ++ τ))) 1 (room (σ ++ τ))) (g .stands .held .words)
+            front-set state (getD state 0 0 + (d + 1)) (getD state 1 0 + n) four
+            ∙ (λ j. i j ∷ r j ∷ spent-is (g .stands .held) j ∷ counted-is (g .stands .held) j ∷ [])
 
         module _ (buf′ : List ℤ) (b : buf′ ≡ sets buf (getD state 1 0) (textElements d text)) where
           stored : buf′ ≡ sets buf (room σ) (contents τ)
@@ -253,7 +268,7 @@ module _ {text : List ℕ} {x : Variable} {d sp : ℕ} {env : List ℕ} {buf : L
                 → Takes g env′ buf′ state′ (At (top - 2))
             taken {env′} {state′} v s =
                 let few : length (σ ++ τ) ≤ mostElements = omega (arith, grown, g .few, g .shallow) in
-                let h = behind-held (g .stands .held) τ few fits state′ (s ∙ new-state) in
+                let h = behind-held (g .stands .held) τ few fits state′ (ap (take 4) s ∙ new-state) in
                 let k = behind-kept (g .stands .held) τ few fits in
                 let r = rowed σ d (g .value ∷ []) in
                 takes {top = top - 2}
@@ -263,6 +278,7 @@ module _ {text : List ℕ} {x : Variable} {d sp : ℕ} {env : List ℕ} {buf : L
                   shaped = shaped-more (r .shapely) (shaped-kept σ τ (g .stands .shaped));
                   shallow = shallow-more (g .shallow) (g .stands .shallow);
                   held = subst (λ (l : List ℤ). Held (unspent (σ ++ τ)) l state′) (sym stored) h;
+                  behind = ap (drop 4) s ∙ (behind-set state (getD state 0 0 + (d + 1)) (getD state 1 0 + n) ∙ g .stands .behind);
                   within = omega (arith, ap length v, length-written env₁ (top - 2) (x .0 ∷ d ∷ []) before-named, top-room .1);
                 })
                 (ap (drop (room (σ ++ τ))) stored ∙ k)

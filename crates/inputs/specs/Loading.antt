@@ -44,12 +44,17 @@ pub record Bound : Type 0 where
 abbrev pub bindOne : Bound → Variable → (s d : ℕ) → Bound
 bindOne b x s d = record { context = d ∷ b .context; names = x ▹ b .names; trees = inputTree s d ▹ b .trees }
 
+-- the words behind the machine's four, of a walk that only runs
+abbrev pub idle : List ℕ
+idle = 0 ∷ 0 ∷ 0 ∷ 0 ∷ []
+
 -- the inputs' words from sp on, and their streams in the buffer
 pub record Stands (b : Bound) (σ : Store) (env : List ℕ) (sp : ℕ) (buf : List ℤ) (state : List ℕ) : Type 0 where
   pub spells : drop sp env ≡ spelled (b .names) (places σ (b .trees))
   pub shaped : Shaped σ (b .context) (b .trees)
   pub shallow : Shallow (b .context)
   pub held : Held (unspent σ) buf state
+  pub behind : drop 4 state ≡ idle
   pub within : sp ≤ length env
 
 -- ---- one input

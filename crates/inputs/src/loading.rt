@@ -9,13 +9,13 @@ use valuetext::storing::Measured;
 use valuetext::storing::fill_text;
 use valuetext::storing::measure_text;
 ghost use mathlib.Core.Path.{_≡_};
-ghost use mathlib.Core.List.{[], _∷_};
+ghost use mathlib.Core.List.{_∷_};
 ghost use Prim.Native.Nat.{_+_, _*_, _≤_};
 ghost use lib.ListN.{length};
 ghost use Rattle.snesl.specs.Limits.{mostInputs, mostElements};
 ghost use Rattle.snesl.specs.Inputs.{inputOver};
 ghost use Rattle.inputs.specs.Supply.{Valued};
-ghost use Rattle.inputs.specs.Loading.{bindingWords, Next, Takes, Loads};
+ghost use Rattle.inputs.specs.Loading.{bindingWords, idle, Next, Takes, Loads};
 
 // Where the newest binding starts, or the first id of the input whose streams pass the room.
 pub enum Loaded {
@@ -65,7 +65,7 @@ pub fn load(
     state: &mut [usize],
 ) -> Loaded
     requires { ⌜ Valued (now job) formula ⌝ }
-    requires { ⌜ (bindingWords * mostInputs ≤ length (now env)) × (length (now buf) ≤ mostElements) × (now state ≡ 0 ∷ 0 ∷ 0 ∷ 0 ∷ []) ⌝ }
+    requires { ⌜ (bindingWords * mostInputs ≤ length (now env)) × (length (now buf) ≤ mostElements) × (now state ≡ 0 ∷ 0 ∷ 0 ∷ 0 ∷ idle) ⌝ }
     ensures { λ r. ⌜ ((g : Valued (now (job .entry)) formula) → Loads g (now (env .entry)) (now (env .exit)) (now (buf .entry)) (now (buf .exit)) (now (state .exit)) (inputOver (length (now (buf .entry))) 0 0 (g .given)) r) ⌝ }
 {
     let mut left = formula.inputs;

@@ -2,6 +2,8 @@ pub mod Places
 pub mod Running
 pub mod Operands
 pub mod Growing
+pub mod Told
+pub mod Making
 pub mod Singles
 pub mod CountingUp
 pub mod Iotas

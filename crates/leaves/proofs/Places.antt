@@ -1,17 +1,19 @@
 -- What the store's growth leaves as it is (the place and the kind of every stream in scope), and what a variable's tree says of its streams.
 use Prim.Native.Nat.{ℕ, suc, _≤_}
+use mathlib.Core.Bool.{Bool}
 use mathlib.Core.List.{List, [], _∷_, _++_}
 use mathlib.Core.Option.{some}
 use mathlib.Core.Path.{_≡_, refl, sym, _∙_, ap, ap₂}
 use native.Mathlib.Omega.{arith}
+use lib.IntN.{ℤ}
 use lib.ListN.{length}
 use Rattle.snesl.specs.Limits.{mostDepth}
 use Rattle.snesl.specs.Terms.{_∋_, here, there, All, _▹_, lookup}
 use Rattle.snesl.specs.Trees.{Tree, leaf, node, root, inner, outer, mapTree}
 use Rattle.snesl.specs.Streams.{Stream, ints, flags, Store, _!_, room}
-use Rattle.steps.specs.Holding.{startOf, lengthIn, lengthOf, IntsAt, FlagsAt}
+use Rattle.steps.specs.Holding.{place, startOf, lengthIn, lengthOf}
 use Rattle.steps.proofs.Stores.{named, kept, start-kept, newest, start-newest}
-use Rattle.leaves.specs.Places.{place, places, Shapely, shapely-leaf, shapely-node, Shaped, shaped-none, shaped-more, Shallow, shallow-more}
+use Rattle.leaves.specs.Places.{places, Shapely, shapely-leaf, shapely-node, Shaped, shaped-none, shaped-more, Shallow, shallow-more}
 
 -- ---- the store grows
 
@@ -76,13 +78,13 @@ module _ {A B : Type 0} (f : A → B) where
   unfolding outer mapTree
   outer-map (node t a) = refl
 
-pub root-ints : {σ : Store} {t : Tree ℕ 0} → Shapely σ 0 t → IntsAt σ (root t) (startOf σ (root t)) (lengthOf σ (root t))
+pub root-ints : {σ : Store} {t : Tree ℕ 0} → Shapely σ 0 t → (zs : List ℤ) × (σ ! root t ≡ some (ints zs))
 unfolding root
-root-ints (shapely-leaf zs e) = record { content = zs; stream = e; start = refl; long = refl }
+root-ints (shapely-leaf zs e) = (zs, e)
 
-pub outer-flags : {σ : Store} {d : ℕ} {t : Tree ℕ (suc d)} → Shapely σ (suc d) t → FlagsAt σ (outer t) (startOf σ (outer t)) (lengthOf σ (outer t))
+pub outer-flags : {σ : Store} {d : ℕ} {t : Tree ℕ (suc d)} → Shapely σ (suc d) t → (bs : List Bool) × (σ ! outer t ≡ some (flags bs))
 unfolding outer
-outer-flags (shapely-node bs h e) = record { content = bs; stream = e; start = refl; long = refl }
+outer-flags (shapely-node bs h e) = (bs, e)
 
 pub inner-shapely : {σ : Store} {d : ℕ} {t : Tree ℕ (suc d)} → Shapely σ (suc d) t → Shapely σ d (inner t)
 unfolding inner

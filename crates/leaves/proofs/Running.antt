@@ -1,27 +1,28 @@
 -- What a walk answers, from how it ends, and how it ended, from what it answered.
 use Prim.Native.Nat.{ℕ}
 use mathlib.Core.List.{List}
-use mathlib.Core.Path.{_≡_, refl, sym, _∙_, ap, subst}
+use mathlib.Core.Path.{_≡_, refl, sym, _∙_, ap, subst, transport}
 use lib.IntN.{ℤ}
 use Rattle.laws.proofs.Never.{never}
 use Rattle.snesl.specs.declared.refusal.Refusal.{Refusal}
 use Rattle.snesl.specs.Trees.{Tree}
 use Rattle.snesl.specs.Machine.{State, Result, went, stopped}
 use Rattle.snesl.specs.Outcome.{refusalOf}
+use Rattle.sink.specs.Sinks.{Sink}
 use Rattle.steps.specs.Holding.{Stopping}
 use Rattle.leaves.specs.declared.Walked.{Walked}
 use Rattle.leaves.specs.declared.Walked.the-variants as walked
 use Rattle.leaves.specs.Scenes.{answer, Left, Ran}
 
-module _ {res : Result} {d : ℕ} {t : Tree ℕ d} {next sp : ℕ} {env env′ : List ℕ} {buf buf′ : List ℤ} {state : List ℕ} where
-  pub ran-through : (m : State) → res ≡ went m → Left m t sp env env′ buf buf′ state → Ran res t next sp env env′ buf buf′ state (walked.Tree d next)
+module _ {res : Result} {k : Sink} {d : ℕ} {t : Tree ℕ d} {next sp : ℕ} {env env′ : List ℕ} {buf buf′ : List ℤ} {state text : List ℕ} where
+  pub ran-through : (m : State) → res ≡ went m → Left m k t sp env env′ buf buf′ state text → Ran res k t next sp env env′ buf buf′ state text (walked.Tree d next)
   ran-through m e l =
       record {
         says = ap (answer d next) (sym e);
-        leaves = λ m′ q. let both : went m ≡ went m′ = sym e ∙ q in let same : m ≡ m′ = cc in subst (λ u. Left u t sp env env′ buf buf′ state) same l;
+        leaves = λ m′ q. let both : went m ≡ went m′ = sym e ∙ q in let same : m ≡ m′ = cc in subst (λ u. Left u k t sp env env′ buf buf′ state text) same l;
       }
 
-  pub ran-stopped : {q : Refusal} → Stopping res q → Ran res t next sp env env′ buf buf′ state (walked.Stopped q)
+  pub ran-stopped : {q : Refusal} → Stopping res q → Ran res k t next sp env env′ buf buf′ state text (walked.Stopped q)
   ran-stopped s =
       record {
         says = ap walked.Stopped (s .refuses) ∙ ap (answer d next) (sym (s .stops));
@@ -29,23 +30,23 @@ module _ {res : Result} {d : ℕ} {t : Tree ℕ d} {next sp : ℕ} {env env′ :
       }
 
   -- a walk that answered a tree
-  module _ {r : Walked} (w : Ran res t next sp env env′ buf buf′ state r) where
-    pub record Through (c k : ℕ) : Type 0 where
+  module _ {r : Walked} (w : Ran res k t next sp env env′ buf buf′ state text r) where
+    pub record Through (c i : ℕ) : Type 0 where
       pub after : State
       pub went-to : res ≡ went after
       pub depth-is : c ≡ d
-      pub next-is : k ≡ next
-      pub left : Left after t sp env env′ buf buf′ state
+      pub next-is : i ≡ next
+      pub left : Left after k t sp env env′ buf buf′ state text
 
-    pub through : (c k : ℕ) → r ≡ walked.Tree c k → Through c k
-    through c k e = go res refl
+    pub through : (c i : ℕ) → r ≡ walked.Tree c i → Through c i
+    through c i e = go res refl
       where
-        go : (x : Result) → res ≡ x → Through c k
+        go : (x : Result) → res ≡ x → Through c i
         go (went m) q =
-            let both : walked.Tree c k ≡ walked.Tree d next = sym e ∙ (w .says ∙ ap (answer d next) q) in
+            let both : walked.Tree c i ≡ walked.Tree d next = sym e ∙ (w .says ∙ ap (answer d next) q) in
             record { after = m; went-to = q; depth-is = cc; next-is = cc; left = w .leaves m q }
         go (stopped why s) q =
-            let both : walked.Tree c k ≡ walked.Stopped (refusalOf why s) = sym e ∙ (w .says ∙ ap (answer d next) q) in
+            let both : walked.Tree c i ≡ walked.Stopped (refusalOf why s) = sym e ∙ (w .says ∙ ap (answer d next) q) in
             never (cc)
 
     pub halted : (q : Refusal) → r ≡ walked.Stopped q → Stopping res q
@@ -59,13 +60,13 @@ module _ {res : Result} {d : ℕ} {t : Tree ℕ d} {next sp : ℕ} {env env′ :
             let both : walked.Stopped q ≡ walked.Stopped (refusalOf why s) = sym e ∙ (w .says ∙ ap (answer d next) p) in
             record { why = why; where-at = s; stops = p; refuses = cc }
 
--- the same walk, with how it ends and its tree written in another way
-pub ran-as : {res res′ : Result} {d : ℕ} {t t′ : Tree ℕ d} {next sp : ℕ} {env env′ : List ℕ} {buf buf′ : List ℤ} {state : List ℕ} {r : Walked}
-    → res ≡ res′ → t ≡ t′ → Ran res t next sp env env′ buf buf′ state r → Ran res′ t′ next sp env env′ buf buf′ state r
-ran-as {res} {res′} {d} {t} {t′} {next} {sp} {env} {env′} {buf} {buf′} {state} {r} p q w =
-    subst (λ x. Ran x t′ next sp env env′ buf buf′ state r) p (subst (λ x. Ran res x next sp env env′ buf buf′ state r) q w)
+-- the same walk, with how it ends, its sink and its tree written in another way
+pub ran-as : {res res′ : Result} {k k′ : Sink} {d : ℕ} {t t′ : Tree ℕ d} {next sp : ℕ} {env env′ : List ℕ} {buf buf′ : List ℤ} {state text : List ℕ} {r : Walked}
+    → res ≡ res′ → k ≡ k′ → t ≡ t′ → Ran res k t next sp env env′ buf buf′ state text r → Ran res′ k′ t′ next sp env env′ buf buf′ state text r
+ran-as {next = next} {sp = sp} {env} {env′} {buf} {buf′} {state} {text} {r} p q u w =
+    transport (λ i. Ran (p i) (q i) (u i) next sp env env′ buf buf′ state text r) w
 
 -- the same walk, with its answer written in another way
-pub ran-answer : {res : Result} {d : ℕ} {t : Tree ℕ d} {next sp : ℕ} {env env′ : List ℕ} {buf buf′ : List ℤ} {state : List ℕ} {r r′ : Walked}
-    → r ≡ r′ → Ran res t next sp env env′ buf buf′ state r → Ran res t next sp env env′ buf buf′ state r′
-ran-answer {res} {d} {t} {next} {sp} {env} {env′} {buf} {buf′} {state} e w = subst (Ran res t next sp env env′ buf buf′ state) e w
+pub ran-answer : {res : Result} {k : Sink} {d : ℕ} {t : Tree ℕ d} {next sp : ℕ} {env env′ : List ℕ} {buf buf′ : List ℤ} {state text : List ℕ} {r r′ : Walked}
+    → r ≡ r′ → Ran res k t next sp env env′ buf buf′ state text r → Ran res k t next sp env env′ buf buf′ state text r′
+ran-answer {res} {k} {d} {t} {next} {sp} {env} {env′} {buf} {buf′} {state} {text} e w = subst (Ran res k t next sp env env′ buf buf′ state text) e w

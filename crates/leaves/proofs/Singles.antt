@@ -1,45 +1,56 @@
--- The laws of the records with no expression behind them.
-use Prim.Native.Nat.{ℕ, _+_, _*_, _-_, _≤_, _<_}
-use mathlib.Core.Bool.{true}
+-- The laws of a variable and of the forms that stand for one instruction.
+use Prim.Native.Nat.{ℕ, suc, _+_, _*_, _-_, _≤_, _<_}
 use mathlib.Core.List.{List, [], _∷_, _++_}
-use mathlib.Core.Path.{_≡_, refl, sym, _∙_, ap}
+use mathlib.Core.Option.{some}
+use mathlib.Core.Path.{_≡_, refl, sym, _∙_, ap, ap₂, subst, transport}
 use native.Mathlib.Omega.{arith}
 use lib.IntN.{ℤ}
 use lib.ListN.{length, getD, drop, length-append}
+use mir.Facts.{toZ-ofZ}
+use mir.Syntax.{w32}
+use mir.Val.{SFits, toZ, ofZ}
 use Rattle.laws.proofs.Never.{never}
 use Rattle.laws.specs.Parts.{part, written}
+use Rattle.snesl.specs.declared.code.Kind.{Kind}
+use Rattle.snesl.specs.declared.code.Kind.the-variants.{Ints}
 use Rattle.snesl.specs.declared.code.Variable.{Variable}
-use Rattle.snesl.specs.declared.code.Instruction.the-variants.{Define}
 use Rattle.snesl.specs.declared.code.Transducer.{Transducer}
-use Rattle.snesl.specs.declared.code.Transducer.the-variants.{Const, ToFlags, Usum, MapTwoPlus, ScanPlus, Distr, SumPlus}
+use Rattle.snesl.specs.declared.code.Transducer.the-variants.{Const, MapTwoPlus, SumPlus}
 use Rattle.snesl.specs.declared.refusal.Refusal.{Refusal}
-use Rattle.snesl.specs.Terms.{lookup}
-use Rattle.snesl.specs.Trees.{Tree, leaf, mapTree}
-use Rattle.snesl.specs.Streams.{Stream, ints, len, Store, _!_, room}
+use Rattle.snesl.specs.Terms.{_∋_, All, lookup}
+use Rattle.snesl.specs.Trees.{Tree, leaf, root, inner, outer, mapTree}
+use Rattle.snesl.specs.Streams.{Stream, ints, len, elements, Store, _!_, room}
+use Rattle.snesl.specs.Transducers.{operands, signature}
 use Rattle.snesl.specs.Programs.{define, done}
 use Rattle.snesl.specs.Machine.{State}
+use Rattle.snesl.specs.Checking.{Name, find, found}
+use Rattle.snesl.specs.Translation.{id, code, tree}
 use Rattle.environment.specs.Words.{Place, placeWords, treeWords, treeSize, Sought, Entry}
 use Rattle.environment.proofs.Stack.{lowered}
 use Rattle.environment.proofs.Finding.{length-tree}
+use Rattle.sink.specs.Sinks.{Sink, defined, feed}
 use Rattle.steps.specs.Walking.{stepped, walked}
-use Rattle.steps.specs.Holding.{Held, Performed, of-mapTwoPlus, of-sumPlus}
+use Rattle.steps.specs.Holding.{Held, place, PlacedAt, Placed, positions, Executable}
+use Rattle.steps.specs.declared.Operands.{Operands}
 use Rattle.steps.specs.declared.Executed.{Executed}
 use Rattle.steps.specs.declared.Executed.the-variants.{Made, Stopped}
 use Rattle.steps.proofs.Stores.{newest, room-more}
-use Rattle.steps.proofs.Stepping.{Output}
+use Rattle.steps.proofs.Stepping.{ints-of}
+use Rattle.steps.proofs.Spanning.{place-within}
 use Rattle.steps.proofs.Walking.{walked-one}
 use Rattle.steps.proofs.Executing.{next-id, next-element, four-words}
-use Rattle.steps.proofs.Due.{due}
-use Rattle.steps.proofs.Performing.{Making, making, stopping, stopping-as}
-use Rattle.leaves.specs.Places.{place, places, Shapely, shapely-leaf}
+use Rattle.steps.proofs.Performing.{stopping-as}
+use Rattle.leaves.specs.Places.{places, Shapely, shapely-leaf}
+use Rattle.leaves.specs.declared.Form.{Form}
+use Rattle.leaves.specs.declared.Form.the-variants as form
 use Rattle.leaves.specs.declared.Walked.{Walked}
 use Rattle.leaves.specs.declared.Walked.the-variants as walked-as
-use Rattle.leaves.specs.Scenes.{Ran, Runs}
-use Rattle.leaves.specs.Arms.{givesInts, Single, One, Two}
+use Rattle.leaves.specs.Scenes.{Runs}
+use Rattle.leaves.specs.Making.{Makes, Instructed}
+use Rattle.leaves.specs.Arms.{Named, named-const, named-plus, named-sum, Sole, Located}
 use Rattle.leaves.proofs.Places.{place-newest}
-use Rattle.leaves.proofs.Operands.{int-there, int-named, flags-in, flags-named, data-in, data-named}
-use Rattle.snesl.specs.Terms as terms
-use Rattle.snesl.specs.Translation.{id, code, tree}
+use Rattle.leaves.proofs.Operands.{sought, named-there, int-placed, flags-placed, data-placed}
+use Rattle.leaves.proofs.Making.{Making, making, stopping}
 use Rattle.leaves.proofs.Running.{ran-through, ran-stopped, ran-as}
 
 -- ---- a variable
@@ -64,27 +75,18 @@ module _ {env : List ℕ} {sp p : ℕ} {x : Variable} (g : Sought env sp x) (e :
             ∙ lowered env sp (treeSize (g .depth)) (treeWords t) (length-tree t) (omega (arith, size-is)) high,
       )
 
--- ---- one instruction
+-- ---- the place of a stream that was just made and takes as many elements as it has
 
-ints-given : (t : Transducer) (a : Stream) → givesInts t ≡ true → Output t a → (zs : List ℤ) × (a ≡ ints zs)
-ints-given (Const z) a g o = o
-ints-given (ToFlags s) a g o = never (cc)
-ints-given (Usum s) a g o = never (cc)
-ints-given (MapTwoPlus s t) a g o = o
-ints-given (ScanPlus z s t) a g o = o
-ints-given (Distr s t) a g o = o
-ints-given (SumPlus s t) a g o = o
-
--- the place of ints that were just made
-module _ {m : State} {buf : List ℤ} {state : List ℕ} {made : ℕ} (h : Held m buf state) (σ : Store) (zs : List ℤ) (e : m .store ≡ σ ++ ints zs ∷ []) (l : made ≡ length zs) where
+module _ {m : State} {buf : List ℤ} {state : List ℕ} {made : ℕ} (h : Held m buf state) (σ : Store) (a : Stream) (e : m .store ≡ σ ++ a ∷ []) (full : length (elements a) ≡ len a)
+    (l : made ≡ len a) where
   next-is : getD state 0 0 ≡ length σ + 1
-  next-is = next-id h ∙ (ap length e ∙ length-append σ (ints zs ∷ []))
+  next-is = next-id h ∙ (ap length e ∙ length-append σ (a ∷ []))
 
   room-is : getD state 1 0 ≡ room σ + made
-  room-is = next-element h ∙ (ap room e ∙ (room-more σ (ints zs) ∙ ap (λ k. room σ + k) (sym l)))
+  room-is = next-element h ∙ (ap room e ∙ (room-more σ a ∙ ap (λ k. room σ + k) (full ∙ sym l)))
 
   -- what `push` asks, beside its place on the stack
-  pub pushable : (length state ≡ 4) × (1 ≤ getD state 0 0) × (getD state 0 0 < 4294967296) × (made ≤ getD state 1 0) × (getD state 1 0 < 4294967296)
+  pub pushable : (4 ≤ length state) × (1 ≤ getD state 0 0) × (getD state 0 0 < 4294967296) × (made ≤ getD state 1 0) × (getD state 1 0 < 4294967296)
   pushable =
       (four-words h, omega (arith, next-is), omega (arith, next-id h, h .few), omega (arith, room-is), omega (arith, next-element h, h .fits, h .short))
 
@@ -92,106 +94,176 @@ module _ {m : State} {buf : List ℤ} {state : List ℕ} {made : ℕ} (h : Held 
   pushed-words =
       let i : getD state 0 0 - 1 ≡ length σ = omega (arith, next-is) in
       let f : getD state 1 0 - made ≡ room σ = omega (arith, room-is) in
-      (λ j. i j ∷ f j ∷ l j ∷ []) ∙ ap placeWords (sym (place-newest σ (ints zs)) ∙ ap (λ τ. place τ (length σ)) (sym e))
+      (λ j. i j ∷ f j ∷ l j ∷ []) ∙ ap placeWords (sym (place-newest σ a) ∙ ap (λ τ. place τ (length σ)) (sym e))
 
-  pub made-shapely : Shapely (m .store) 0 (leaf (length σ))
-  made-shapely = shapely-leaf zs (ap (λ τ. τ ! length σ) e ∙ newest σ (ints zs))
+pub made-shapely : (m : State) (σ : Store) (zs : List ℤ) → m .store ≡ σ ++ ints zs ∷ [] → Shapely (m .store) 0 (leaf (length σ))
+made-shapely m σ zs e = shapely-leaf zs (ap (λ τ. τ ! length σ) e ∙ newest σ (ints zs))
 
--- of one instruction
-module _ {cap n : ℕ} {t : Transducer} {m : State} {old new : List ℤ} {state : List ℕ} {made : ℕ} (k : Making cap n t m old new state made) (g : givesInts t ≡ true) where
-  given : (zs : List ℤ) × (k .added-to .stream ≡ ints zs)
-  given = ints-given t (k .added-to .stream) g (k .added-to .kind)
+-- of one instruction that gives ints
+module _ {cap n : ℕ} {t : Transducer} {m : State} {k : Sink} {old new : List ℤ} {state text : List ℕ} {made : ℕ} (u : Making cap n t m k old new state text made)
+    (g : signature t .output ≡ Ints) where
+  given : (zs : List ℤ) × (u .added-to .stream ≡ ints zs)
+  given = ints-of (u .added-to .stream) (u .added-to .kind ∙ g)
 
   pub items : List ℤ
   items = given .0
 
-  pub items-stored : k .after .store ≡ m .store ++ ints items ∷ []
+  pub items-stored : u .after .store ≡ m .store ++ ints items ∷ []
   unfolding items
-  items-stored = k .added-to .store ∙ ap (λ a. m .store ++ a ∷ []) (given .1)
+  items-stored = u .added-to .store ∙ ap (λ a. m .store ++ a ∷ []) (given .1)
 
   pub items-long : made ≡ length items
   unfolding items
-  items-long = k .long ∙ ap len (given .1)
+  items-long = u .long ∙ ap len (given .1)
 
-module _ (cap n : ℕ) (t : Transducer) {m : State} {old new : List ℤ} {state : List ℕ} {r : Executed} where
-  pub single-push : {made : ℕ} → Performed (stepped cap n t m) m old new state r → r ≡ Made made → givesInts t ≡ true
-      → (length state ≡ 4) × (1 ≤ getD state 0 0) × (getD state 0 0 < 4294967296) × (made ≤ getD state 1 0) × (getD state 1 0 < 4294967296)
-  single-push {made} p e g =
-      let k = making cap n t p made e in
-      pushable (k .held) (m .store) (items k g) (items-stored k g) (items-long k g)
+-- ---- a form by its shape
 
-  -- an instruction whose output is the whole result
-  pub single-made : {sp : ℕ} {env : List ℕ} {made : ℕ} (next : ℕ) → Performed (stepped cap n t m) m old new state r → r ≡ Made made → givesInts t ≡ true → 3 ≤ sp → sp ≤ length env
-      → {env′ : List ℕ} → env′ ≡ written (sp - 3) ((getD state 0 0 - 1) ∷ (getD state 1 0 - made) ∷ made ∷ []) env
-      → Ran (walked cap n (define t done) m) (leaf (length (m .store))) next sp env env′ old new state (walked-as.Tree 0 next)
-  unfolding treeWords mapTree
-  single-made {sp} {env} {made} next p e g low high {env′} w =
-      let k = making cap n t p made e in
-      ran-through (k .after) (walked-one cap n t m ∙ k .went-to)
-      (record {
-        held = k .held;
-        kept = k .kept;
-        shapely = made-shapely (k .held) (m .store) (items k g) (items-stored k g) (items-long k g);
-        words =
-            ap (drop (sp - 3)) w
-            ∙ (lowered env sp 3 ((getD state 0 0 - 1) ∷ (getD state 1 0 - made) ∷ made ∷ []) refl low high
-            ∙ ap (λ l. l ++ drop sp env) (pushed-words (k .held) (m .store) (items k g) (items-stored k g) (items-long k g)));
-      })
+module _ {Γ : List ℕ} {names : All Name Γ} {δ : All (Tree ℕ) Γ} where
+  const-of : {f : Form} {t : Transducer} {z : ℤ} → Named names δ f t → f ≡ form.Const z → t ≡ Const z
+  const-of {z = z} (named-const {z = w}) e = let same : w ≡ z = cc in ap Const same
+  const-of (named-plus p q) e = never (cc)
+  const-of (named-sum p) e = never (cc)
 
-  pub single-stopped : {sp : ℕ} {env env′ : List ℕ} {q : Refusal} (next : ℕ) → Performed (stepped cap n t m) m old new state r → r ≡ Stopped q
-      → Ran (walked cap n (define t done) m) (leaf (length (m .store))) next sp env env′ old new state (walked-as.Stopped q)
-  single-stopped {q = q} next p e = ran-stopped (stopping-as (walked-one cap n t m) (stopping cap n t p q e))
+  plus-of : {f : Form} {t : Transducer} {x y : Variable} → Named names δ f t → f ≡ form.Plus x y
+      → (v : Γ ∋ 0) × (w : Γ ∋ 0) × (find x names ≡ found 0 v) × (find y names ≡ found 0 w) × (t ≡ MapTwoPlus (id (root (lookup v δ))) (id (root (lookup w δ))))
+  plus-of named-const e = never (cc)
+  plus-of {x = x} {y = y} (named-plus {x = x′} {y = y′} {v = v} {w = w} p q) e =
+      let one : x ≡ x′ = cc in
+      let two : y ≡ y′ = cc in
+      (v, w, ap (λ z. find z names) one ∙ p, ap (λ z. find z names) two ∙ q, refl)
+  plus-of (named-sum p) e = never (cc)
 
--- ---- two ints, and a sequence of ints
+  sum-of : {f : Form} {t : Transducer} {x : Variable} → Named names δ f t → f ≡ form.Sum x
+      → (v : Γ ∋ 1) × (find x names ≡ found 1 v) × (t ≡ SumPlus (id (outer (lookup v δ))) (id (root (inner (lookup v δ)))))
+  sum-of named-const e = never (cc)
+  sum-of (named-plus p q) e = never (cc)
+  sum-of {x = x} (named-sum {x = x′} {v = v} p) e = let one : x ≡ x′ = cc in (v, ap (λ z. find z names) one ∙ p, refl)
 
-module _ {env : List ℕ} {sp : ℕ} {buf : List ℤ} {state : List ℕ} where
-  module _ {x y : Variable} (g : Two env sp buf state x y) {p q : ℕ} (e : Entry env sp p (lookup (g .left) (places (g .scene .machine .store) (g .scene .trees))))
-      (f : Entry env sp q (lookup (g .right) (places (g .scene .machine .store) (g .scene .trees)))) where
-    pub plus-ready : Single (Define (id (getD state 0 0)) (MapTwoPlus (id (getD env (p + 2) 0)) (id (getD env (q + 2) 0)))) (MapTwoPlus (id (getD env (p + 2) 0)) (id (getD env (q + 2) 0))) (getD env (p + 2 + 1) 0) (getD env (p + 2 + 2) 0) (getD env (q + 2 + 1) 0) (getD env (q + 2 + 2) 0) sp env buf state (g .scene .machine)
-    plus-ready =
+  gives-ints : {f : Form} {t : Transducer} → Named names δ f t → signature t .output ≡ Ints
+  gives-ints named-const = refl
+  gives-ints (named-plus p q) = refl
+  gives-ints (named-sum p) = refl
+
+module _ {f : Form} {sp : ℕ} {env : List ℕ} {buf : List ℤ} {state text : List ℕ} (g : Sole f sp env buf state text) where
+  placed-as : (at : Operands) {t : Transducer} → g .transducer ≡ t
+      → Placed (g .scene .machine .store) env (signature t .inputs) (operands t) (positions at) → Located g at
+  placed-as at e p =
+      record {
+        placed =
+            subst (λ t. Placed (g .scene .machine .store) env (signature t .inputs) (operands t) (positions at)) (sym e)
+            p;
+      }
+
+  pub const-located : {z : ℤ} (at : Operands) → f ≡ form.Const z → Located g at
+  const-located at e = placed-as at (const-of (g .named) e) tt
+
+  pub left-sought : {x y : Variable} → f ≡ form.Plus x y → Sought env sp x
+  left-sought e = let o = plus-of (g .named) e in sought (g .scene) (o .0) (o .2)
+
+  pub right-sought : {x y : Variable} → f ≡ form.Plus x y → Sought env sp y
+  right-sought e = let o = plus-of (g .named) e in sought (g .scene) (o .1) (o .3)
+
+  pub sum-sought : {x : Variable} → f ≡ form.Sum x → Sought env sp x
+  sum-sought e = let o = sum-of (g .named) e in sought (g .scene) (o .0) (o .1)
+
+  pub plus-located : {x y : Variable} {p q : ℕ} → f ≡ form.Plus x y → ((s : Sought env sp x) → Entry env sp p (lookup (s .pointer) (s .trees)))
+      → ((s : Sought env sp y) → Entry env sp q (lookup (s .pointer) (s .trees))) → Located g (record { first = p + 2; second = q + 2 })
+  plus-located {p = p} {q = q} e h i =
+      let o = plus-of (g .named) e in
+      placed-as (record { first = p + 2; second = q + 2 }) (o .4)
+      (int-placed (g .scene) (o .0) (h (sought (g .scene) (o .0) (o .2))), (int-placed (g .scene) (o .1) (i (sought (g .scene) (o .1) (o .3))), tt))
+
+  pub sum-located : {x : Variable} {p : ℕ} → f ≡ form.Sum x → ((s : Sought env sp x) → Entry env sp p (lookup (s .pointer) (s .trees)))
+      → Located g (record { first = p + 2 + 3; second = p + 2 })
+  sum-located {p = p} e h =
+      let o = sum-of (g .named) e in
+      let at = h (sought (g .scene) (o .0) (o .1)) in
+      placed-as (record { first = p + 2 + 3; second = p + 2 }) (o .2) (flags-placed (g .scene) (o .0) at, (data-placed (g .scene) (o .0) at, tt))
+
+  -- the transducer that is made, from the words at those places
+  module _ {at : Operands} (l : Located g at) where
+    placed-of : {t : Transducer} → g .transducer ≡ t → Placed (g .scene .machine .store) env (signature t .inputs) (operands t) (positions at)
+    placed-of e = subst (λ t. Placed (g .scene .machine .store) env (signature t .inputs) (operands t) (positions at)) e (l .placed)
+
+    pub const-chosen : {z : ℤ} → f ≡ form.Const z → SFits w32 z → Const (toZ w32 (ofZ w32 z)) ≡ g .transducer
+    const-chosen e h = ap Const (toZ-ofZ h) ∙ sym (const-of (g .named) e)
+
+    pub plus-chosen : {x y : Variable} → f ≡ form.Plus x y → MapTwoPlus (id (getD env (at .first) 0)) (id (getD env (at .second) 0)) ≡ g .transducer
+    plus-chosen e =
+        let o = plus-of (g .named) e in
+        let p = placed-of (o .4) in
+        ap₂ (λ a b. MapTwoPlus (id a) (id b)) (named-there (p .0)) (named-there (p .1 .0)) ∙ sym (o .4)
+
+    pub sum-chosen : {x : Variable} → f ≡ form.Sum x → SumPlus (id (getD env (at .first) 0)) (id (getD env (at .second) 0)) ≡ g .transducer
+    sum-chosen e =
+        let o = sum-of (g .named) e in
+        let p = placed-of (o .2) in
+        ap₂ (λ a b. SumPlus (id a) (id b)) (named-there (p .0)) (named-there (p .1 .0)) ∙ sym (o .2)
+
+    both-within : {c d : Kind} {i j : ℕ} → PlacedAt (g .scene .machine .store) env c i (at .first) → PlacedAt (g .scene .machine .store) env d j (at .second)
+        → (at .first + 3 ≤ length env) × (at .second + 3 ≤ length env)
+    both-within o p = (place-within env (at .first) _ (o .words), place-within env (at .second) _ (p .words))
+
+    pub plus-within : {x y : Variable} → f ≡ form.Plus x y → (at .first + 3 ≤ length env) × (at .second + 3 ≤ length env)
+    plus-within e = let p = placed-of (plus-of (g .named) e .4) in both-within (p .0) (p .1 .0)
+
+    pub sum-within : {x : Variable} → f ≡ form.Sum x → (at .first + 3 ≤ length env) × (at .second + 3 ≤ length env)
+    sum-within e = let p = placed-of (sum-of (g .named) e .2) in both-within (p .0) (p .1 .0)
+
+    pub sole-ready : {t : Transducer} → t ≡ g .transducer → Makes t at env buf state text (g .scene .machine) (g .scene .sink)
+    sole-ready e =
         record {
-          due =
-              due
-              (record {
-                held = g .scene .held;
-                operands = of-mapTwoPlus (int-there (g .scene) (g .left) e) (int-there (g .scene) (g .right) f);
-                more = omega (arith, g .few);
-              });
-          ints = refl;
-          low = omega (arith, g .low);
-          high = g .scene .within;
+          executable =
+              subst (λ t. Executable t at env buf state (g .scene .machine)) (sym e)
+              (record { held = g .scene .held; placed = l .placed; more = omega (arith, g .few) });
+          sunk = g .scene .sunk;
         }
 
-    pub plus-runs : (n : ℕ) {next : ℕ} {env′ : List ℕ} {buf′ : List ℤ} {state′ : List ℕ} {r : Walked}
-        → Ran (walked (length buf) n (define (MapTwoPlus (id (getD env (p + 2) 0)) (id (getD env (q + 2) 0))) done) (g .scene .machine)) (leaf (length (g .scene .machine .store))) next sp env env′ buf buf′ state′ r
-        → Runs (g .scene) (terms.plus (g .left) (g .right)) n next env′ buf′ state′ r
-    unfolding code tree
-    plus-runs n w =
-        ran-as
-        (λ i. walked (length buf) n (define (MapTwoPlus (id (int-named (g .scene) (g .left) e i)) (id (int-named (g .scene) (g .right) f i))) done) (g .scene .machine))
-        refl w
+  -- what it made
+  module _ (n : ℕ) {t : Transducer} (c : t ≡ g .transducer) {new : List ℤ} {state₁ text₁ : List ℕ} {r : Executed}
+      (p : Instructed (stepped (length buf) n t (g .scene .machine)) t (g .scene .machine) (g .scene .sink) buf new state₁ text₁ r) where
+    own : Instructed (stepped (length buf) n (g .transducer) (g .scene .machine)) (g .transducer) (g .scene .machine) (g .scene .sink) buf new state₁ text₁ r
+    own = subst (λ u. Instructed (stepped (length buf) n u (g .scene .machine)) u (g .scene .machine) (g .scene .sink) buf new state₁ text₁ r) c p
 
-  module _ {x : Variable} (g : One env sp buf state x 1) {p : ℕ} (e : Entry env sp p (lookup (g .pointer) (places (g .scene .machine .store) (g .scene .trees)))) where
-    pub sum-ready : Single (Define (id (getD state 0 0)) (SumPlus (id (getD env (p + 2 + 3) 0)) (id (getD env (p + 2) 0)))) (SumPlus (id (getD env (p + 2 + 3) 0)) (id (getD env (p + 2) 0))) (getD env (p + 2 + 3 + 1) 0) (getD env (p + 2 + 3 + 2) 0) (getD env (p + 2 + 1) 0) (getD env (p + 2 + 2) 0) sp env buf state (g .scene .machine)
-    sum-ready =
-        record {
-          due =
-              due
-              (record {
-                held = g .scene .held;
-                operands = of-sumPlus (flags-in (g .scene) (g .pointer) e) (data-in (g .scene) (g .pointer) e);
-                more = omega (arith, g .few);
-              });
-          ints = refl;
-          low = omega (arith, g .low);
-          high = g .scene .within;
-        }
+    whole : walked (length buf) n (define (g .transducer) done) (g .scene .machine)
+        ≡ walked (length buf) n (code (g .term) (g .scene .trees) (length (g .scene .machine .store))) (g .scene .machine)
+    whole = ap (λ q. walked (length buf) n q (g .scene .machine)) (sym (g .code-is (length (g .scene .machine .store))))
 
-    pub sum-runs : (n : ℕ) {next : ℕ} {env′ : List ℕ} {buf′ : List ℤ} {state′ : List ℕ} {r : Walked}
-        → Ran (walked (length buf) n (define (SumPlus (id (getD env (p + 2 + 3) 0)) (id (getD env (p + 2) 0))) done) (g .scene .machine)) (leaf (length (g .scene .machine .store))) next sp env env′ buf buf′ state′ r
-        → Runs (g .scene) (terms.sum (g .pointer)) n next env′ buf′ state′ r
-    unfolding code tree
-    sum-runs n w =
-        ran-as
-        (λ i. walked (length buf) n (define (SumPlus (id (flags-named (g .scene) (g .pointer) e i)) (id (data-named (g .scene) (g .pointer) e i))) done) (g .scene .machine))
-        refl w
+    fed : defined (length (g .scene .machine .store)) (g .transducer) (g .scene .sink)
+        ≡ feed (length (g .scene .machine .store)) (code (g .term) (g .scene .trees) (length (g .scene .machine .store))) (g .scene .sink)
+    unfolding feed
+    fed = ap (λ q. feed (length (g .scene .machine .store)) q (g .scene .sink)) (sym (g .code-is (length (g .scene .machine .store))))
+
+    pub single-stopped : {env′ : List ℕ} {q : Refusal} (next : ℕ) → r ≡ Stopped q → Runs (g .scene) (g .term) n next env′ new state₁ text₁ (walked-as.Stopped q)
+    single-stopped {q = q} next e =
+        ran-stopped (stopping-as (sym whole ∙ walked-one (length buf) n (g .transducer) (g .scene .machine)) (stopping (length buf) n (g .transducer) own q e))
+
+    module _ {made : ℕ} (e : r ≡ Made made) where
+      done-so : Making (length buf) n (g .transducer) (g .scene .machine) (g .scene .sink) buf new state₁ text₁ made
+      done-so = making (length buf) n (g .transducer) own made e
+
+      ints-so : signature (g .transducer) .output ≡ Ints
+      ints-so = gives-ints (g .named)
+
+      pub single-push : (4 ≤ length state₁) × (1 ≤ getD state₁ 0 0) × (getD state₁ 0 0 < 4294967296) × (made ≤ getD state₁ 1 0) × (getD state₁ 1 0 < 4294967296)
+      single-push =
+          pushable (done-so .held) (g .scene .machine .store) (ints (items done-so ints-so)) (items-stored done-so ints-so) refl (items-long done-so ints-so)
+
+      pub single-made : {env′ : List ℕ} (next : ℕ) → env′ ≡ written (sp - 3) ((getD state₁ 0 0 - 1) ∷ (getD state₁ 1 0 - made) ∷ made ∷ []) env
+          → Runs (g .scene) (g .term) n next env′ new state₁ text₁ (walked-as.Tree 0 next)
+      unfolding treeWords mapTree
+      single-made next w =
+          let u = done-so in
+          ran-as whole fed (sym (g .tree-is (length (g .scene .machine .store))))
+          (ran-through (u .after) (walked-one (length buf) n (g .transducer) (g .scene .machine) ∙ u .went-to)
+          (record {
+            held = u .held;
+            sunk = u .sunk;
+            kept = u .kept;
+            shapely = made-shapely (u .after) (g .scene .machine .store) (items u ints-so) (items-stored u ints-so);
+            words =
+                ap (drop (sp - 3)) w
+                ∙ (lowered env sp 3 ((getD state₁ 0 0 - 1) ∷ (getD state₁ 1 0 - made) ∷ made ∷ []) refl (g .low) (g .scene .within)
+                ∙ ap (λ l. l ++ drop sp env)
+                (pushed-words (u .held) (g .scene .machine .store) (ints (items u ints-so)) (items-stored u ints-so) refl (items-long u ints-so)));
+          }))

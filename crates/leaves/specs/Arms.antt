@@ -1,76 +1,104 @@
 -- What the walk's arms need: the streams of the variables that a record names, and room for their result on the stack and for their streams' ids.
-use Prim.Native.Nat.{ℕ, _+_, _≤_}
-use mathlib.Core.Bool.{Bool, true, false}
+use Prim.Native.Nat.{ℕ, _+_, _-_, _≤_}
 use mathlib.Core.List.{List, [], _∷_, _++_}
 use mathlib.Core.Path.{_≡_}
 use lib.IntN.{ℤ, pos}
-use lib.ListN.{length}
+use lib.ListN.{length, drop}
+use Rattle.laws.specs.Parts.{written}
+use Rattle.snesl.specs.declared.code.Kind.the-variants.{Flags}
 use Rattle.snesl.specs.declared.code.Variable.{Variable}
-use Rattle.snesl.specs.declared.code.Instruction.{Instruction}
 use Rattle.snesl.specs.declared.code.Transducer.{Transducer}
-use Rattle.snesl.specs.declared.code.Transducer.the-variants.{Const, ToFlags, Usum, MapTwoPlus, ScanPlus, Distr, SumPlus}
-use Rattle.snesl.specs.Terms.{_∋_}
-use Rattle.snesl.specs.Checking.{find, found}
-use Rattle.snesl.specs.Trees.{leaf}
-use Rattle.snesl.specs.Streams.{Stream, ints}
+use Rattle.snesl.specs.declared.code.Transducer.the-variants as transducer
+use Rattle.snesl.specs.Terms.{_∋_, Term, All, lookup}
+use Rattle.snesl.specs.Checking.{Name, find, found}
+use Rattle.snesl.specs.Trees.{Tree, leaf, root, inner, outer}
+use Rattle.snesl.specs.Transducers.{operands, signature}
+use Rattle.snesl.specs.Streams.{Stream, ints, Store}
 use Rattle.snesl.specs.Programs.{Program, define, done, _⨾_}
-use Rattle.snesl.specs.Translation.{id, controlled}
+use Rattle.snesl.specs.Translation.{id, code, tree, controlled}
 use Rattle.snesl.specs.Machine.{State, Stop, Result, went, stopped}
 use Rattle.snesl.specs.Outcome.{refusalOf}
+use Rattle.environment.specs.Words.{placeWords}
+use Rattle.sink.specs.Sinks.{Sink, defined, opened, closed, feed}
+use Rattle.sink.specs.Sunk.{Sunk}
+use Rattle.steps.specs.declared.Operands.{Operands}
 use Rattle.steps.specs.declared.Executed.{Executed}
 use Rattle.steps.specs.declared.Executed.the-variants.{Made, Stopped}
-use Rattle.steps.specs.Holding.{Held, keeps, Due, FlagsAt, mostStreams}
+use Rattle.steps.specs.Holding.{Held, keeps, place, PlacedAt, Placed, positions, mostStreams}
+use Rattle.leaves.specs.declared.Form.{Form}
+use Rattle.leaves.specs.declared.Form.the-variants as form
 use Rattle.leaves.specs.Scenes.{Scene}
 
--- the transducers whose output are ints
-abbrev pub givesInts : Transducer → Bool
-givesInts (Const z) = true
-givesInts (ToFlags s) = false
-givesInts (Usum s) = false
-givesInts (MapTwoPlus s t) = true
-givesInts (ScanPlus z s t) = true
-givesInts (Distr s t) = true
-givesInts (SumPlus s t) = true
+-- the transducer that a form stands for, over the variables that it names
+pub data Named {Γ : List ℕ} (names : All Name Γ) (δ : All (Tree ℕ) Γ) : Form → Transducer → Type 0 where
+  named-const : {z : ℤ} → Named names δ (form.Const z) (transducer.Const z)
+  named-plus : {x y : Variable} {v w : Γ ∋ 0} → find x names ≡ found 0 v → find y names ≡ found 0 w
+      → Named names δ (form.Plus x y) (transducer.MapTwoPlus (id (root (lookup v δ))) (id (root (lookup w δ))))
+  named-sum : {x : Variable} {v : Γ ∋ 1} → find x names ≡ found 1 v
+      → Named names δ (form.Sum x) (transducer.SumPlus (id (outer (lookup v δ))) (id (root (inner (lookup v δ)))))
 
--- one instruction whose output is the whole result
-pub record Single (i : Instruction) (t : Transducer) (at n at′ n′ sp : ℕ) (env : List ℕ) (buf : List ℤ) (state : List ℕ) (m : State) : Type 0 where
-  pub due : Due i t at n at′ n′ buf state m
-  pub ints : givesInts t ≡ true
+-- a record that stands for one instruction, whose output is the whole result
+pub record Sole (f : Form) (sp : ℕ) (env : List ℕ) (buf : List ℤ) (state text : List ℕ) : Type 0 where
+  pub scene : Scene env sp buf state text
+  pub term : Term (scene .context) 0
+  pub transducer : Transducer
+  pub named : Named (scene .names) (scene .trees) f transducer
+  pub code-is : (s : ℕ) → code term (scene .trees) s ≡ define transducer done
+  pub tree-is : (s : ℕ) → tree term (scene .trees) s ≡ leaf s
+  pub low : 3 ≤ sp
+  pub few : length (scene .machine .store) + 1 ≤ mostStreams
+
+-- its operands have their places there
+pub record Located {f : Form} {sp : ℕ} {env : List ℕ} {buf : List ℤ} {state text : List ℕ} (g : Sole f sp env buf state text) (at : Operands) : Type 0 where
+  pub placed : Placed (g .scene .machine .store) env (signature (g .transducer) .inputs) (operands (g .transducer)) (positions at)
+
+-- an iota over the int x
+pub record Counting (x : Variable) (sp : ℕ) (env : List ℕ) (buf : List ℤ) (state text : List ℕ) : Type 0 where
+  pub scene : Scene env sp buf state text
+  pub pointer : scene .context ∋ 0
+  pub finds : find x (scene .names) ≡ found 0 pointer
+  pub low : 6 ≤ sp
+  pub few : length (scene .machine .store) + 4 ≤ mostStreams
+
+-- units are the newest stream
+pub record Bare (sp : ℕ) (env : List ℕ) (buf : List ℤ) (state text : List ℕ) (m : State) (k : Sink) : Type 0 where
+  pub held : Held m buf state
+  pub sunk : Sunk k text state
+  pub some : 1 ≤ length (m .store)
+  pub few : length (m .store) + 1 ≤ mostStreams
   pub low : 3 ≤ sp
   pub high : sp ≤ length env
 
--- a record that names one variable of depth d, or two ints
-pub record One (env : List ℕ) (sp : ℕ) (buf : List ℤ) (state : List ℕ) (x : Variable) (d : ℕ) : Type 0 where
-  pub scene : Scene env sp buf state
-  pub pointer : scene .context ∋ d
-  pub finds : find x (scene .names) ≡ found d pointer
-  pub low : 6 ≤ sp
-  pub few : length (scene .machine .store) + 4 ≤ mostStreams
+-- the sink after a WithCtrl on the newest stream whose body is a Const_1
+abbrev pub filling : (s : ℕ) → Sink → Sink
+filling s k = closed (defined s (transducer.Const (pos 1)) (opened (s ∷ []) (s - 1) [] k))
 
-pub record Two (env : List ℕ) (sp : ℕ) (buf : List ℤ) (state : List ℕ) (x y : Variable) : Type 0 where
-  pub scene : Scene env sp buf state
-  pub left : scene .context ∋ 0
-  pub right : scene .context ∋ 0
-  pub finds-left : find x (scene .names) ≡ found 0 left
-  pub finds-right : find y (scene .names) ≡ found 0 right
-  pub low : 6 ≤ sp
-  pub few : length (scene .machine .store) + 4 ≤ mostStreams
+-- what that answers and leaves, where it ends like `res`: the ones' place just below sp
+pub record Filled (res : Result) (m : State) (k : Sink) (sp : ℕ) (env env′ : List ℕ) (old new : List ℤ) (state text : List ℕ) (r : Executed) : Type 0 where
+  pub went-on : (m′ : State) → res ≡ went m′
+      → (zs : List ℤ) × (m′ .store ≡ m .store ++ ints zs ∷ []) × (r ≡ Made (length zs)) × Held m′ new state × keeps (m′ .store) old new
+      × Sunk (filling (length (m .store)) k) text state × (env′ ≡ written (sp - 3) (placeWords (place (m′ .store) (length (m .store)))) env)
+  pub gave-up : (why : Stop) (s : ℕ) → res ≡ stopped why s → r ≡ Stopped (refusalOf why s)
 
--- flags with id a that are the newest stream
-pub record Flagged (a at n : ℕ) (buf : List ℤ) (state : List ℕ) (m : State) : Type 0 where
+-- flags with id a are the newest stream, and their place stands just below sp
+pub record Flagged (a sp : ℕ) (env : List ℕ) (buf : List ℤ) (state text : List ℕ) (m : State) (k : Sink) : Type 0 where
   pub held : Held m buf state
-  pub flagged : FlagsAt (m .store) a at n
+  pub sunk : Sunk k text state
+  pub flagged : PlacedAt (m .store) env Flags a (sp - 3)
   pub newest : length (m .store) ≡ a + 1
   pub few : length (m .store) + 3 ≤ mostStreams
+  pub low : 6 ≤ sp
+  pub high : sp ≤ length env
 
 -- iota's code from its flags a on: their units, a one for each of these, and the ones added up
 abbrev pub countingUp : (a : ℕ) → Program
 countingUp a =
-    define (Usum (id a))
-    (controlled (a + 1) (a + 2) (define (Const (pos 1)) done) (leaf (a + 2)) ⨾ define (ScanPlus (pos 0) (id a) (id (a + 2))) done)
+    define (transducer.Usum (id a))
+    (controlled (a + 1) (a + 2) (define (transducer.Const (pos 1)) done) (leaf (a + 2)) ⨾ define (transducer.ScanPlus (pos 0) (id a) (id (a + 2))) done)
 
--- what it answers and leaves, where it ends like `res`: three more streams, the last of them the ints that were counted
-pub record Counted (res : Result) (m : State) (old new : List ℤ) (state : List ℕ) (r : Executed) : Type 0 where
+-- what it answers and leaves, where it ends like `res` and makes the sink k: three more streams, the last of them the ints that were counted, and the flags' place
+pub record Counted (res : Result) (k : Sink) (m : State) (sp : ℕ) (env env′ : List ℕ) (old new : List ℤ) (state text : List ℕ) (r : Executed) : Type 0 where
   pub went-on : (m′ : State) → res ≡ went m′
-      → (τ : List Stream) × (zs : List ℤ) × (m′ .store ≡ m .store ++ τ ++ ints zs ∷ []) × (length τ ≡ 2) × (r ≡ Made (length zs)) × Held m′ new state × keeps (m′ .store) old new
+      → (τ : List Stream) × (zs : List ℤ) × (m′ .store ≡ m .store ++ τ ++ ints zs ∷ []) × (length τ ≡ 2) × (r ≡ Made (length zs)) × Held m′ new state
+      × keeps (m′ .store) old new × Sunk k text state × (drop (sp - 3) env′ ≡ drop (sp - 3) env)
   pub gave-up : (why : Stop) (s : ℕ) → res ≡ stopped why s → r ≡ Stopped (refusalOf why s)

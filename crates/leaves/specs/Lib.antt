@@ -1,3 +1,4 @@
 pub mod Places
 pub mod Scenes
 pub mod Arms
+pub mod Making

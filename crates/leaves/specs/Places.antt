@@ -10,10 +10,7 @@ use Rattle.snesl.specs.Terms.{All, ∅, _▹_}
 use Rattle.snesl.specs.Trees.{Tree, leaf, node, mapTree}
 use Rattle.snesl.specs.Streams.{ints, flags, Store, _!_}
 use Rattle.environment.specs.Words.{Place}
-use Rattle.steps.specs.Holding.{startOf, lengthOf}
-
-abbrev pub place : Store → ℕ → Place
-place σ s = record { id = s; first = startOf σ s; second = lengthOf σ s }
+use Rattle.steps.specs.Holding.{place}
 
 unfoldable pub places : {Γ : List ℕ} → Store → All (Tree ℕ) Γ → All (Tree Place) Γ
 places σ ∅ = ∅

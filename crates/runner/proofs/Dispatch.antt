@@ -1,76 +1,128 @@
--- The walk's arms: for each head of a record, what its arm needs follows from what the walk was given, and what the arm answers is the walk's answer.
+-- The walk's arms: for each route of a record, what its arm needs follows from what the walk was given, and what the arm answers is the walk's answer.
 use Prim.Native.Nat.{ℕ, suc, _+_, _-_, _≤_, _<_}
 use mathlib.Core.List.{List, _∷_, _++_}
+use mathlib.Core.Logic.{_⊎_, inl, inr}
 use mathlib.Core.Path.{_≡_, refl, sym, _∙_, ap, subst}
 use native.Mathlib.Omega.{arith}
+use borrow.Author.Tests.{ltb-true}
 use lib.IntN.{ℤ}
-use mir.Facts.{toZ-ofZ}
-use mir.Syntax.{w32}
-use mir.Val.{SFits, toZ, ofZ}
-use lib.ListN.{length, getD, drop}
+use lib.ListN.{length, drop}
 use Rattle.laws.proofs.Never.{never}
 use Rattle.snesl.specs.declared.code.Variable.{Variable}
-use Rattle.snesl.specs.declared.code.Instruction.the-variants.{Define}
-use Rattle.snesl.specs.declared.code.Transducer.the-variants.{Const}
-use Rattle.snesl.specs.Limits.{mostDepth}
+use Rattle.snesl.specs.Limits.{mostDepth, mostListed}
 use Rattle.snesl.specs.Terms as terms
-use Rattle.snesl.specs.Terms.{_∋_, Term, listedTypes, All, _▹_, lookup}
-use Rattle.snesl.specs.Trees.{leaf}
+use Rattle.snesl.specs.Terms.{Term, listedTypes, _▹_, lookup}
+use Rattle.snesl.specs.declared.code.Transducer.{Transducer}
+use Rattle.snesl.specs.declared.code.Transducer.the-variants as transducer
+use Rattle.snesl.specs.Trees.{leaf, root, inner, outer}
 use Rattle.snesl.specs.Programs.{define, done}
-use Rattle.snesl.specs.Records as records
-use Rattle.snesl.specs.Records.{headAt, variablesAt}
-use mathlib.Core.Option.{some}
-use Rattle.snesl.specs.Checking.{Name, find, found, listedInts, listedNames, pointers}
+use Rattle.snesl.specs.Records.{byteAt, variableAt, variablesAt, eaching, headAt}
+use Rattle.snesl.specs.Checking.{find, listedNames, pointers}
 use Rattle.snesl.specs.Translation.{id, code, tree}
-use Rattle.snesl.specs.Formed.{Formed, formed-var, formed-bind, formed-const, formed-iota, formed-plus, formed-sum, formed-each}
+use Rattle.snesl.specs.Formed.{Formed}
+use Rattle.snesl.proofs.Views.{by-var, by-const, by-iota, by-plus, by-sum, by-bind, by-each, not-absent, not-over}
 use Rattle.environment.specs.Words.{treeWords, treeSize, Sought}
-use Rattle.steps.specs.Walking.{walked}
-use Rattle.steps.specs.Holding.{of-const, mostStreams}
-use Rattle.steps.proofs.Due.{due}
+use Rattle.environment.specs.Needs.{words}
+use Rattle.sink.specs.Sinks.{feed}
+use Rattle.steps.specs.Holding.{mostStreams}
 use Rattle.steps.proofs.Walking.{walked-done}
-use Rattle.leaves.specs.Scenes.{Ran, Runs}
-use Rattle.runner.specs.Walks.{Ready, Binding}
-use Rattle.leaves.specs.Arms.{Single, One, Two}
+use Rattle.leaves.specs.Scenes.{Runs}
+use Rattle.leaves.specs.Arms.{Named, named-const, named-plus, named-sum, Sole, Counting}
 use Rattle.bodies.specs.Bodies.{Each}
+use Rattle.leaves.specs.declared.Form.{Form}
+use Rattle.leaves.specs.declared.Form.the-variants as form
 use Rattle.leaves.specs.declared.Walked.{Walked}
 use Rattle.leaves.specs.declared.Walked.the-variants as walked-as
-use Rattle.runner.proofs.Reading.{at-var, at-bind, at-const, at-iota, at-plus, at-sum, at-each}
+use Rattle.records.specs.declared.head.Head.{Head}
 use Rattle.records.specs.declared.head.Head.the-variants as head
 use Rattle.records.specs.Heads.{headOf}
 use Rattle.records.proofs.Heads.{told}
-use Rattle.runner.proofs.Measures.{nested, spans}
 use Rattle.leaves.proofs.Places.{lookup-places, lookup-shapely, lookup-shallow}
 use Rattle.leaves.proofs.Operands.{sought}
-use Rattle.leaves.proofs.Running.{ran-through, ran-as, ran-answer}
+use Rattle.leaves.proofs.Running.{ran-through, ran-answer}
+use Rattle.bodies.proofs.Fields.{let-field, each-fields}
+use Rattle.bodies.proofs.Lists.{found-int, length-listed}
+use Rattle.records.proofs.Variables.{length-variables}
+use Rattle.runner.specs.declared.Route.the-variants as route
+use Rattle.runner.specs.Walks.{routed, Ready, Binding}
+use Rattle.runner.proofs.Reading.{found-sequence, found-ints}
+use Rattle.runner.proofs.Measures.{spans}
 
--- and a whole record within its limits
-absent-not : {X : Type 0} {t : List ℕ} {levels k : ℕ} {Γ : List ℕ} {names : All Name Γ} {d next : ℕ} {e : Term Γ d} → Formed t levels k Γ names d e next
-    → headAt t k ≡ records.absent → X
-absent-not (formed-var h f) q = never (cc)
-absent-not (formed-bind h f g) q = never (cc)
-absent-not (formed-const h) q = never (cc)
-absent-not (formed-iota h f) q = never (cc)
-absent-not (formed-plus h f g) q = never (cc)
-absent-not (formed-sum h f) q = never (cc)
-absent-not (formed-each h f g b l) q = never (cc)
+-- ---- a route comes from its heads alone
 
-over-not : {X : Type 0} {t : List ℕ} {levels k : ℕ} {Γ : List ℕ} {names : All Name Γ} {d next : ℕ} {e : Term Γ d} → Formed t levels k Γ names d e next
-    → headAt t k ≡ records.over → X
-over-not (formed-var h f) q = never (cc)
-over-not (formed-bind h f g) q = never (cc)
-over-not (formed-const h) q = never (cc)
-over-not (formed-iota h f) q = never (cc)
-over-not (formed-plus h f g) q = never (cc)
-over-not (formed-sum h f) q = never (cc)
-over-not (formed-each h f g b l) q = never (cc)
+module _ (k : ℕ) where
+  named-head : {x : Variable} (h : Head) → route.Name x ≡ routed k h → head.Var x ≡ h
+  named-head head.Absent e = never (cc)
+  named-head head.Over e = never (cc)
+  named-head (head.Var y) e = cc
+  named-head (head.Let y) e = never (cc)
+  named-head (head.Const z) e = never (cc)
+  named-head (head.Iota y) e = never (cc)
+  named-head (head.Plus y z) e = never (cc)
+  named-head (head.Sum y) e = never (cc)
+  named-head (head.Each y z j) e = never (cc)
 
-module _ {t : List ℕ} {k levels sp : ℕ} {env : List ℕ} {buf : List ℤ} {state : List ℕ} (g : Ready t k levels sp env buf state) where
-  pub some-levels : 0 < levels
-  some-levels = nested (g .formed)
+  iota-head : {x : Variable} (h : Head) → route.Iota x ≡ routed k h → head.Iota x ≡ h
+  iota-head head.Absent e = never (cc)
+  iota-head head.Over e = never (cc)
+  iota-head (head.Var y) e = never (cc)
+  iota-head (head.Let y) e = never (cc)
+  iota-head (head.Const z) e = never (cc)
+  iota-head (head.Iota y) e = cc
+  iota-head (head.Plus y z) e = never (cc)
+  iota-head (head.Sum y) e = never (cc)
+  iota-head (head.Each y z j) e = never (cc)
 
-  pub some-space : 69 ≤ sp
-  some-space = omega (arith, g .space, some-levels)
+  let-head : (h : Head) → route.Let ≡ routed k h → (x : Variable) × (head.Let x ≡ h)
+  let-head head.Absent e = never (cc)
+  let-head head.Over e = never (cc)
+  let-head (head.Var y) e = never (cc)
+  let-head (head.Let y) e = (y, refl)
+  let-head (head.Const z) e = never (cc)
+  let-head (head.Iota y) e = never (cc)
+  let-head (head.Plus y z) e = never (cc)
+  let-head (head.Sum y) e = never (cc)
+  let-head (head.Each y z j) e = never (cc)
 
+  each-head : (h : Head) → route.Each ≡ routed k h → (x : Variable) × (y : Variable) × (j : ℕ) × (head.Each x y j ≡ h)
+  each-head head.Absent e = never (cc)
+  each-head head.Over e = never (cc)
+  each-head (head.Var y) e = never (cc)
+  each-head (head.Let y) e = never (cc)
+  each-head (head.Const z) e = never (cc)
+  each-head (head.Iota y) e = never (cc)
+  each-head (head.Plus y z) e = never (cc)
+  each-head (head.Sum y) e = never (cc)
+  each-head (head.Each y z j) e = (y, z, j, refl)
+
+  no-head : (h : Head) → route.Missing ≡ routed k h → (head.Absent ≡ h) ⊎ (head.Over ≡ h)
+  no-head head.Absent e = inl refl
+  no-head head.Over e = inr refl
+  no-head (head.Var y) e = never (cc)
+  no-head (head.Let y) e = never (cc)
+  no-head (head.Const z) e = never (cc)
+  no-head (head.Iota y) e = never (cc)
+  no-head (head.Plus y z) e = never (cc)
+  no-head (head.Sum y) e = never (cc)
+  no-head (head.Each y z j) e = never (cc)
+
+  -- a form, by the head that it comes from
+  single-head : {X : Type 0} {f : Form} {i : ℕ} (h : Head) → route.Single f i ≡ routed k h
+      → ((z : ℤ) → head.Const z ≡ h → form.Const z ≡ f → k + 6 ≡ i → X)
+      → ((x y : Variable) → head.Plus x y ≡ h → form.Plus x y ≡ f → k + 4 ≡ i → X)
+      → ((x : Variable) → head.Sum x ≡ h → form.Sum x ≡ f → k + 3 ≡ i → X)
+      → X
+  single-head head.Absent e a b c = never (cc)
+  single-head head.Over e a b c = never (cc)
+  single-head (head.Var y) e a b c = never (cc)
+  single-head (head.Let y) e a b c = never (cc)
+  single-head (head.Const z) e a b c = a z refl (cc) (cc)
+  single-head (head.Iota y) e a b c = never (cc)
+  single-head (head.Plus y z) e a b c = b y z refl (cc) (cc)
+  single-head (head.Sum y) e a b c = c y refl (cc) (cc)
+  single-head (head.Each y z j) e a b c = never (cc)
+
+module _ {t : List ℕ} {k sp : ℕ} {env : List ℕ} {buf : List ℤ} {state text : List ℕ} (g : Ready t k sp env buf state text) where
   pub room-behind : k ≤ 65536
   room-behind = omega (arith, g .short, spans (g .formed) .some-bytes, spans (g .formed) .within)
 
@@ -79,164 +131,184 @@ module _ {t : List ℕ} {k levels sp : ℕ} {env : List ℕ} {buf : List ℤ} {s
 
   -- ---- a variable
 
-  pub var-sought : (x : Variable) → head.Var x ≡ headOf (headAt t k) → (s : Sought env sp x) × (s .depth ≤ mostDepth)
-  var-sought x h =
-      at-var (λ d e next. (s : Sought env sp x) × (s .depth ≤ mostDepth)) (g .formed) x (told t k (head.Var x) h .0)
-      (λ c v f. (sought (g .scene) v f, lookup-shallow v (g .scene .shallow)))
+  pub name-sought : {x : Variable} → route.Name x ≡ routed k (headOf (headAt t k)) → ((s : Sought env sp x) × (s .depth ≤ mostDepth) × (treeSize (s .depth) ≤ sp)) × (sp ≤ length env)
+  unfolding words
+  name-sought {x} h = (
+    by-var (λ d e next. words e ≤ sp → (s : Sought env sp x) × (s .depth ≤ mostDepth) × (treeSize (s .depth) ≤ sp)) (g .formed) (told t k (head.Var x) (named-head k _ h) .0)
+        (λ c v f w. (sought (g .scene) v f, lookup-shallow v (g .scene .shallow), w)) (g .space),
+    g .scene .within,
+  )
 
-  pub var-runs : {env′ : List ℕ} {r : Walked} (x : Variable) (n : ℕ) → head.Var x ≡ headOf (headAt t k)
+  pub name-runs : {env′ : List ℕ} {r : Walked} {x : Variable} (n : ℕ) → route.Name x ≡ routed k (headOf (headAt t k))
       → ((s : Sought env sp x) → (r ≡ walked-as.Tree (s .depth) (k + 3)) × (drop (sp - treeSize (s .depth)) env′ ≡ treeWords (lookup (s .pointer) (s .trees)) ++ drop sp env))
-      → Runs (g .scene) (g .term) n (g .next) env′ buf state r
-  unfolding code tree
-  var-runs {env′} {r} x n h w =
-      at-var (λ d e next. Runs (g .scene) e n next env′ buf state r) (g .formed) x (told t k (head.Var x) h .0)
+      → Runs (g .scene) (g .term) n (g .next) env′ buf state text r
+  unfolding code tree feed
+  name-runs {env′} {r} {x} n h w =
+      by-var (λ d e next. Runs (g .scene) e n next env′ buf state text r) (g .formed) (told t k (head.Var x) (named-head k _ h) .0)
       (λ c v f.
       let a = w (sought (g .scene) v f) in
       ran-answer (sym (a .0))
       (ran-through (g .scene .machine) (walked-done (length buf) n (g .scene .machine))
       (record {
         held = g .scene .held;
+        sunk = g .scene .sunk;
         kept = refl;
         shapely = lookup-shapely v (g .scene .shaped);
         words = a .1 ∙ ap (λ u. treeWords u ++ drop sp env) (lookup-places (g .scene .machine .store) v (g .scene .trees));
       })))
 
-  -- ---- a constant, which is handed on as its bits
+  -- ---- one instruction
 
-  pub const-ready : (z u : ℤ) → head.Const z ≡ headOf (headAt t k) → Single (Define (id (getD state 0 0)) (Const u)) (Const u) 0 0 0 0 sp env buf state (g .scene .machine)
-  const-ready z u h =
+  -- a form at k, and that its walk is the walk of what stands there
+  pub record SoleAt (f : Form) (i : ℕ) {d : ℕ} (e : Term (g .scene .context) d) (next : ℕ) : Type 0 where
+    pub sole : Sole f sp env buf state text
+    pub runs : (n : ℕ) {env′ : List ℕ} {buf′ : List ℤ} {state′ text′ : List ℕ} {r : Walked} → Runs (sole .scene) (sole .term) n i env′ buf′ state′ text′ r
+        → Runs (g .scene) e n next env′ buf′ state′ text′ r
+
+  sole-of : {f : Form} (e : Term (g .scene .context) 0) (t₁ : Transducer) → Named (g .scene .names) (g .scene .trees) f t₁ → ((s : ℕ) → code e (g .scene .trees) s ≡ define t₁ done)
+      → ((s : ℕ) → tree e (g .scene .trees) s ≡ leaf s) → 3 ≤ sp → length (g .scene .machine .store) + 1 ≤ mostStreams → (i : ℕ) → SoleAt f i e i
+  sole-of e t₁ m c u low few i =
       record {
-        due = due (record { held = g .scene .held; operands = of-const refl refl; more = omega (arith, g .few, told t k (head.Const z) h .1) });
-        ints = refl;
-        low = omega (arith, some-space);
-        high = g .scene .within;
+        sole = record { scene = g .scene; term = e; transducer = t₁; named = m; code-is = c; tree-is = u; low = low; few = few };
+        runs = λ n w. w;
       }
 
-  pub const-runs : {env′ : List ℕ} {buf′ : List ℤ} {state′ : List ℕ} {r : Walked} (z : ℤ) (n : ℕ) → head.Const z ≡ headOf (headAt t k) → SFits w32 z
-      → Ran (walked (length buf) n (define (Const (toZ w32 (ofZ w32 z))) done) (g .scene .machine)) (leaf (length (g .scene .machine .store))) (k + 6) sp env env′ buf buf′ state′ r
-      → Runs (g .scene) (g .term) n (g .next) env′ buf′ state′ r
-  unfolding code tree
-  const-runs {env′} {buf′} {state′} {r} z n h f w =
-      at-const (λ d e next. Runs (g .scene) e n next env′ buf′ state′ r) (g .formed) z (told t k (head.Const z) h .0)
-      (ran-as (ap (λ u. walked (length buf) n (define (Const u) done) (g .scene .machine)) (toZ-ofZ f)) refl w)
+  const-at : (z : ℤ) → head.Const z ≡ headOf (headAt t k) → SoleAt (form.Const z) (k + 6) (g .term) (g .next)
+  unfolding code tree words
+  const-at z e =
+      by-const (λ d e next. words e ≤ sp → SoleAt (form.Const z) (k + 6) e next) (g .formed) (told t k (head.Const z) e .0)
+      (λ w. sole-of (terms.const z) (transducer.Const z) named-const (λ s. refl) (λ s. refl) w (omega (arith, g .few, told t k (head.Const z) e .1)) (k + 6)) (g .space)
 
-  -- ---- iota, sum and plus
+  plus-at : (x y : Variable) → head.Plus x y ≡ headOf (headAt t k) → SoleAt (form.Plus x y) (k + 4) (g .term) (g .next)
+  unfolding code tree words
+  plus-at x y e =
+      by-plus (λ d e next. words e ≤ sp → SoleAt (form.Plus x y) (k + 4) e next) (g .formed) (told t k (head.Plus x y) e .0)
+      (λ v w p q r.
+      sole-of (terms.plus v w) (transducer.MapTwoPlus (id (root (lookup v (g .scene .trees)))) (id (root (lookup w (g .scene .trees))))) (named-plus (found-int _ p) (found-int _ q)) (λ s. refl) (λ s. refl) r
+      (omega (arith, g .few, told t k (head.Plus x y) e .1)) (k + 4))
+      (g .space)
 
-  pub iota-ready : (x : Variable) → head.Iota x ≡ headOf (headAt t k) → One env sp buf state x 0
-  iota-ready x h =
-      at-iota (λ d e next. One env sp buf state x 0) (g .formed) x (told t k (head.Iota x) h .0)
-      (λ v f. record { scene = g .scene; pointer = v; finds = f; low = omega (arith, some-space); few = enough (told t k (head.Iota x) h .1) })
+  sum-at : (x : Variable) → head.Sum x ≡ headOf (headAt t k) → SoleAt (form.Sum x) (k + 3) (g .term) (g .next)
+  unfolding code tree words
+  sum-at x e =
+      by-sum (λ d e next. words e ≤ sp → SoleAt (form.Sum x) (k + 3) e next) (g .formed) (told t k (head.Sum x) e .0)
+      (λ v p r.
+      sole-of (terms.sum v) (transducer.SumPlus (id (outer (lookup v (g .scene .trees)))) (id (root (inner (lookup v (g .scene .trees)))))) (named-sum (found-ints _ p)) (λ s. refl) (λ s. refl) r
+      (omega (arith, g .few, told t k (head.Sum x) e .1)) (k + 3))
+      (g .space)
 
-  pub iota-runs : {env′ : List ℕ} {buf′ : List ℤ} {state′ : List ℕ} {r : Walked} (x : Variable) (n : ℕ) → head.Iota x ≡ headOf (headAt t k)
-      → ((o : One env sp buf state x 0) → Runs (o .scene) (terms.iota (o .pointer)) n (k + 3) env′ buf′ state′ r)
-      → Runs (g .scene) (g .term) n (g .next) env′ buf′ state′ r
-  iota-runs {env′} {buf′} {state′} {r} x n h w =
-      at-iota (λ d e next. Runs (g .scene) e n next env′ buf′ state′ r) (g .formed) x (told t k (head.Iota x) h .0)
-      (λ v f. w (record { scene = g .scene; pointer = v; finds = f; low = omega (arith, some-space); few = enough (told t k (head.Iota x) h .1) }))
+  pub sole-at : {f : Form} {i : ℕ} → route.Single f i ≡ routed k (headOf (headAt t k)) → SoleAt f i (g .term) (g .next)
+  sole-at {f} {i} h =
+      single-head k (headOf (headAt t k)) h
+      (λ z e q j. subst (λ u. SoleAt u i (g .term) (g .next)) q (subst (λ u. SoleAt (form.Const z) u (g .term) (g .next)) j (const-at z e)))
+      (λ x y e q j. subst (λ u. SoleAt u i (g .term) (g .next)) q (subst (λ u. SoleAt (form.Plus x y) u (g .term) (g .next)) j (plus-at x y e)))
+      (λ x e q j. subst (λ u. SoleAt u i (g .term) (g .next)) q (subst (λ u. SoleAt (form.Sum x) u (g .term) (g .next)) j (sum-at x e)))
 
-  pub sum-ready : (x : Variable) → head.Sum x ≡ headOf (headAt t k) → One env sp buf state x 1
-  sum-ready x h =
-      at-sum (λ d e next. One env sp buf state x 1) (g .formed) x (told t k (head.Sum x) h .0)
-      (λ v f. record { scene = g .scene; pointer = v; finds = f; low = omega (arith, some-space); few = enough (told t k (head.Sum x) h .1) })
+  -- ---- iota
 
-  pub sum-runs : {env′ : List ℕ} {buf′ : List ℤ} {state′ : List ℕ} {r : Walked} (x : Variable) (n : ℕ) → head.Sum x ≡ headOf (headAt t k)
-      → ((o : One env sp buf state x 1) → Runs (o .scene) (terms.sum (o .pointer)) n (k + 3) env′ buf′ state′ r)
-      → Runs (g .scene) (g .term) n (g .next) env′ buf′ state′ r
-  sum-runs {env′} {buf′} {state′} {r} x n h w =
-      at-sum (λ d e next. Runs (g .scene) e n next env′ buf′ state′ r) (g .formed) x (told t k (head.Sum x) h .0)
-      (λ v f. w (record { scene = g .scene; pointer = v; finds = f; low = omega (arith, some-space); few = enough (told t k (head.Sum x) h .1) }))
+  pub record CountingAt (x : Variable) {d : ℕ} (e : Term (g .scene .context) d) (next : ℕ) : Type 0 where
+    pub counting : Counting x sp env buf state text
+    pub runs : (n : ℕ) {env′ : List ℕ} {buf′ : List ℤ} {state′ text′ : List ℕ} {r : Walked} → Runs (counting .scene) (terms.iota (counting .pointer)) n (k + 3) env′ buf′ state′ text′ r
+        → Runs (g .scene) e n next env′ buf′ state′ text′ r
 
-  pub plus-ready : (x y : Variable) → head.Plus x y ≡ headOf (headAt t k) → Two env sp buf state x y
-  plus-ready x y h =
-      at-plus (λ d e next. Two env sp buf state x y) (g .formed) x y (told t k (head.Plus x y) h .0)
-      (λ v w f i.
-      record { scene = g .scene; left = v; right = w; finds-left = f; finds-right = i; low = omega (arith, some-space); few = enough (omega (arith, told t k (head.Plus x y) h .1)) })
-
-  pub plus-runs : {env′ : List ℕ} {buf′ : List ℤ} {state′ : List ℕ} {r : Walked} (x y : Variable) (n : ℕ) → head.Plus x y ≡ headOf (headAt t k)
-      → ((o : Two env sp buf state x y) → Runs (o .scene) (terms.plus (o .left) (o .right)) n (k + 4) env′ buf′ state′ r)
-      → Runs (g .scene) (g .term) n (g .next) env′ buf′ state′ r
-  plus-runs {env′} {buf′} {state′} {r} x y n h z =
-      at-plus (λ d e next. Runs (g .scene) e n next env′ buf′ state′ r) (g .formed) x y (told t k (head.Plus x y) h .0)
-      (λ v w f i.
-      z (record { scene = g .scene; left = v; right = w; finds-left = f; finds-right = i; low = omega (arith, some-space); few = enough (omega (arith, told t k (head.Plus x y) h .1)) }))
+  pub counting-at : {x : Variable} → route.Iota x ≡ routed k (headOf (headAt t k)) → CountingAt x (g .term) (g .next)
+  unfolding words
+  counting-at {x} h =
+      by-iota (λ d e next. words e ≤ sp → CountingAt x e next) (g .formed) (told t k (head.Iota x) (iota-head k _ h) .0)
+      (λ v p w.
+      record {
+        counting = record { scene = g .scene; pointer = v; finds = found-int _ p; low = w; few = enough (told t k (head.Iota x) (iota-head k _ h) .1) };
+        runs = λ n r. r;
+      })
+      (g .space)
 
   -- ---- let
 
-  abbrev binding-of : (x : Variable) (l c d k₁ k₂ : ℕ) (e₁ : Term (g .scene .context) c) (e₂ : Term (c ∷ g .scene .context) d) → levels ≡ suc l
-      → Formed t l (k + 3) (g .scene .context) (g .scene .names) c e₁ k₁ → Formed t l k₁ (c ∷ g .scene .context) (x ▹ g .scene .names) d e₂ k₂
-      → Binding t (k + 3) (levels - 1) sp env buf state x
-  binding-of x l c d k₁ k₂ e₁ e₂ lv f₁ f₂ =
-      let one : l ≡ levels - 1 = omega (arith, lv) in
+  pub record BindingAt {d : ℕ} (e : Term (g .scene .context) d) (next : ℕ) : Type 0 where
+    pub binding : Binding t k sp env buf state text
+    pub runs : (n : ℕ) {env′ : List ℕ} {buf′ : List ℤ} {state′ text′ : List ℕ} {r : Walked}
+        → Runs (binding .scene) (terms.bind (binding .bound) (binding .body)) n (binding .next) env′ buf′ state′ text′ r → Runs (g .scene) e n next env′ buf′ state′ text′ r
+
+  pub binding-at : route.Let ≡ routed k (headOf (headAt t k)) → BindingAt (g .term) (g .next)
+  unfolding words
+  binding-at h =
+      let l = let-head k (headOf (headAt t k)) h in
+      by-bind (λ d e next. words e ≤ sp → BindingAt e next) (g .formed) (told t k (head.Let (l .0)) (l .1) .0)
+      (λ c d e₁ e₂ k₁ k₂ some f₁ f₂ w.
       record {
-        scene = g .scene;
-        depth₁ = c;
-        depth = d;
-        bound = e₁;
-        body = e₂;
-        middle = k₁;
-        next = k₂;
-        first = subst (λ i. Formed t i (k + 3) (g .scene .context) (g .scene .names) c e₁ k₁) one f₁;
-        second = subst (λ i. Formed t i k₁ (c ∷ g .scene .context) (x ▹ g .scene .names) d e₂ k₂) one f₂;
-        short = g .short;
-        space = omega (arith, g .space, lv);
-        few = omega (arith, g .few, spans f₁ .some-bytes, spans f₁ .within);
-      }
-
-  pub let-ready : (x : Variable) → head.Let x ≡ headOf (headAt t k) → Binding t (k + 3) (levels - 1) sp env buf state x
-  let-ready x h = at-bind (λ d e next. Binding t (k + 3) (levels - 1) sp env buf state x) (g .formed) x (told t k (head.Let x) h .0) (binding-of x)
-
-  pub let-runs : {env′ : List ℕ} {buf′ : List ℤ} {state′ : List ℕ} {r : Walked} (x : Variable) (n : ℕ) → head.Let x ≡ headOf (headAt t k)
-      → ((b : Binding t (k + 3) (levels - 1) sp env buf state x) → Runs (b .scene) (terms.bind (b .bound) (b .body)) n (b .next) env′ buf′ state′ r)
-      → Runs (g .scene) (g .term) n (g .next) env′ buf′ state′ r
-  let-runs {env′} {buf′} {state′} {r} x n h w =
-      at-bind (λ d e next. Runs (g .scene) e n next env′ buf′ state′ r) (g .formed) x (told t k (head.Let x) h .0)
-      (λ l c d k₁ k₂ e₁ e₂ lv f₁ f₂. w (binding-of x l c d k₁ k₂ e₁ e₂ lv f₁ f₂))
+        binding =
+            record {
+              scene = g .scene;
+              levels = g .levels - 1;
+              depth₁ = c;
+              depth = d;
+              bound = e₁;
+              body = e₂;
+              middle = k₁;
+              next = k₂;
+              first = f₁;
+              second = subst (λ x. Formed t (g .levels - 1) k₁ (c ∷ g .scene .context) (x ▹ g .scene .names) d e₂ k₂) (let-field t k (l .0) (l .1)) f₂;
+              short = g .short;
+              space = w;
+              few = g .few;
+            };
+        runs = λ n r. r;
+      })
+      (g .space)
 
   -- ---- a comprehension
 
-  module _ (x y : Variable) (j : ℕ) (h : head.Each x y j ≡ headOf (headAt t k)) where
-    abbrev each-of : (l c d next : ℕ) (v : g .scene .context ∋ suc c) (ls : List (Variable × (g .scene .context ∋ 0))) (e : Term (c ∷ listedTypes (pointers ls)) d)
-        → levels ≡ suc l → find y (g .scene .names) ≡ found (suc c) v → listedInts (g .scene .names) (variablesAt t (k + 5) j) ≡ some ls
-        → Formed t l (k + (5 + j)) (c ∷ listedTypes (pointers ls)) (x ▹ listedNames ls) d e next → d < mostDepth
-        → Each t k (levels - 1) sp env buf state x y j
-    each-of l c d next v ls e lv f i body deep =
-        let one : l ≡ levels - 1 = omega (arith, lv) in
-        let at : k + (5 + j) ≡ k + 5 + j = omega arith in
-        record {
-          scene = g .scene;
-          inside = c;
-          pointer = v;
-          list = ls;
-          depth = d;
-          body = e;
-          next = next;
-          finds = f;
-          lists = i;
-          formed =
-              subst (λ m. Formed t m (k + 5 + j) (c ∷ listedTypes (pointers ls)) (x ▹ listedNames ls) d e next) one
-              (subst (λ m. Formed t l m (c ∷ listedTypes (pointers ls)) (x ▹ listedNames ls) d e next) at body);
-          most = told t k (head.Each x y j) h .2;
-          bytes = omega (arith, told t k (head.Each x y j) h .1);
-          short = g .short;
-          shallow = deep;
-          space = omega (arith, g .space, lv);
-          few = g .few;
-        }
+  pub record EachAt {d : ℕ} (e : Term (g .scene .context) d) (next : ℕ) : Type 0 where
+    pub each : Each t k sp env buf state text
+    pub runs : (n : ℕ) {env′ : List ℕ} {buf′ : List ℤ} {state′ text′ : List ℕ} {r : Walked}
+        → Runs (each .scene) (terms.each (each .pointer) (pointers (each .list)) (each .body)) n (each .next) env′ buf′ state′ text′ r → Runs (g .scene) e n next env′ buf′ state′ text′ r
 
-    pub each-ready : Each t k (levels - 1) sp env buf state x y j
-    each-ready = at-each (λ d e next. Each t k (levels - 1) sp env buf state x y j) (g .formed) x y (variablesAt t (k + 5) j) (5 + j) (told t k (head.Each x y j) h .0) each-of
+  each-fields-at : (h : route.Each ≡ routed k (headOf (headAt t k)))
+      → (headAt t k ≡ eaching (variableAt t (k + 2)) (variableAt t (k + 3)) (variablesAt t (k + 5) (byteAt t (k + 4))) (5 + byteAt t (k + 4))) × (k + (5 + byteAt t (k + 4)) ≤ length t) × (byteAt t (k + 4) ≤ mostListed)
+  each-fields-at h =
+      let l = each-head k (headOf (headAt t k)) h in
+      let f = each-fields t k (l .0) (l .1) (l .2) (l .3) in
+      let same : head.Each (l .0) (l .1) (l .2) ≡ head.Each (variableAt t (k + 2)) (variableAt t (k + 3)) (byteAt t (k + 4)) = λ i. head.Each (f .0 i) (f .1 i) (f .2 i) in
+      told t k (head.Each (variableAt t (k + 2)) (variableAt t (k + 3)) (byteAt t (k + 4))) (sym same ∙ l .3)
 
-    pub each-runs : {env′ : List ℕ} {buf′ : List ℤ} {state′ : List ℕ} {r : Walked} (n : ℕ)
-        → ((b : Each t k (levels - 1) sp env buf state x y j) → Runs (b .scene) (terms.each (b .pointer) (pointers (b .list)) (b .body)) n (b .next) env′ buf′ state′ r)
-        → Runs (g .scene) (g .term) n (g .next) env′ buf′ state′ r
-    each-runs {env′} {buf′} {state′} {r} n w =
-        at-each (λ d e next. Runs (g .scene) e n next env′ buf′ state′ r) (g .formed) x y (variablesAt t (k + 5) j) (5 + j) (told t k (head.Each x y j) h .0)
-        (λ l c d next v ls e lv f i body deep. w (each-of l c d next v ls e lv f i body deep))
+  pub each-at : route.Each ≡ routed k (headOf (headAt t k)) → EachAt (g .term) (g .next)
+  unfolding words
+  each-at h =
+      let p = each-fields-at h in
+      by-each (λ d e next. words e ≤ sp → EachAt e next) (g .formed) (p .0)
+      (λ c d n v ls e some f i body deep w.
+      let at : k + (5 + byteAt t (k + 4)) ≡ k + 5 + byteAt t (k + 4) = omega arith in
+      let long : length (pointers ls) ≡ byteAt t (k + 4) = length-listed (g .scene .names) (variablesAt t (k + 5) (byteAt t (k + 4))) ls i ∙ length-variables t (k + 5) (byteAt t (k + 4)) in
+      record {
+        each =
+            record {
+              scene = g .scene;
+              levels = g .levels - 1;
+              inside = c;
+              pointer = v;
+              list = ls;
+              depth = d;
+              body = e;
+              next = n;
+              finds = found-sequence _ f;
+              lists = i;
+              formed = subst (λ m. Formed t (g .levels - 1) m (c ∷ listedTypes (pointers ls)) (variableAt t (k + 2) ▹ listedNames ls) d e n) at body;
+              most = p .2;
+              bytes = omega (arith, p .1);
+              short = g .short;
+              shallow = ltb-true d mostDepth deep;
+              space = omega (arith, w, long);
+              few = g .few;
+            };
+        runs = λ m r. r;
+      })
+      (g .space)
 
   -- ---- no record
 
-  pub no-record : {X : Type 0} → head.Absent ≡ headOf (headAt t k) → X
-  no-record h = absent-not (g .formed) (told t k head.Absent h)
-
-  pub no-limits : {X : Type 0} → head.Over ≡ headOf (headAt t k) → X
-  no-limits h = over-not (g .formed) (told t k head.Over h)
+  pub no-record : {X : Type 0} → route.Missing ≡ routed k (headOf (headAt t k)) → X
+  no-record {X} h = go (no-head k (headOf (headAt t k)) h)
+    where
+      go : (head.Absent ≡ headOf (headAt t k)) ⊎ (head.Over ≡ headOf (headAt t k)) → X
+      go (inl e) = not-absent (λ d e next. X) (g .formed) (told t k head.Absent e)
+      go (inr e) = not-over (λ d e next. X) (g .formed) (told t k head.Over e)

@@ -11,41 +11,53 @@ use Rattle.snesl.specs.declared.refusal.Refusal.{Refusal}
 use Rattle.snesl.specs.Terms as terms
 use Rattle.snesl.specs.Terms.{_▹_}
 use Rattle.snesl.specs.Trees.{Tree, mapTree}
+use Rattle.snesl.specs.Programs.{count}
 use Rattle.snesl.specs.Machine.{onward}
+use Rattle.snesl.specs.Records.{byteAt, variableAt}
 use Rattle.snesl.specs.Formed.{Formed}
 use Rattle.snesl.specs.Translation.{size, within, tree, code}
 use Rattle.environment.specs.Words.{treeWords, treeSize, spelled}
+use Rattle.environment.specs.Needs.{words}
 use Rattle.environment.proofs.Stack.{drop-written, length-written}
 use Rattle.environment.proofs.Entries.{bound}
 use Rattle.steps.specs.Walking.{walked}
-use Rattle.steps.specs.Holding.{mostStreams}
+use Rattle.steps.specs.Holding.{place, mostStreams}
 use Rattle.steps.proofs.Stores.{kept}
 use Rattle.steps.proofs.Walking.{walked-seq, Grown, walked-grown}
 use Rattle.steps.proofs.Performing.{stopping-as}
-use Rattle.leaves.specs.Places.{place, places, Shapely, Shaped, shaped-more, shallow-more, wordsFor}
+use Rattle.sink.specs.Sinks.{feed}
+use Rattle.sink.specs.Sunk.{Sunk}
+use Rattle.sink.proofs.Feeding.{feed-seq}
+use Rattle.leaves.specs.Places.{places, Shapely, Shaped, shaped-more, shallow-more}
 use Rattle.leaves.specs.Scenes.{Ran, Runs}
 use Rattle.runner.specs.Walks.{Ready, Binding}
 use Rattle.leaves.specs.declared.Walked.{Walked}
 use Rattle.leaves.specs.declared.Walked.the-variants as walked-as
 use Rattle.bodies.proofs.Differences.{back-up}
-use Rattle.runner.proofs.Measures.{nested, spans, shallow-type, count-code}
+use Rattle.snesl.proofs.Compiled.Freshness.{count-code}
+use Rattle.runner.proofs.Measures.{spans, shallow-type, words-hold}
 use Rattle.leaves.proofs.Growing.{keeps-then, onward-as, onward-stop}
+use Rattle.bodies.proofs.Feeding.{like-fed, wide-like}
 use Rattle.bodies.proofs.Scenes.{grown-shaped, grown-spells}
 use Rattle.leaves.proofs.Running.{ran-through, ran-stopped, Through, through, halted, ran-answer}
 use Rattle.runner.proofs.Lifting.{behind, lifted-words}
 
-module _ {t : List ℕ} {k levels sp : ℕ} {env : List ℕ} {buf : List ℤ} {state : List ℕ} {x : Variable} (g : Binding t k levels sp env buf state x) where
-  abbrev pub bound-ready : Ready t k levels sp env buf state
+module _ {t : List ℕ} {k sp : ℕ} {env : List ℕ} {buf : List ℤ} {state text : List ℕ} (g : Binding t k sp env buf state text) where
+  abbrev x : Variable
+  x = variableAt t (k + 2)
+
+  abbrev pub bound-ready : Ready t (k + 3) sp env buf state text
   bound-ready =
       record {
         scene = g .scene;
+        levels = g .levels;
         depth = g .depth₁;
         term = g .bound;
         next = g .middle;
         formed = g .first;
         short = g .short;
         space = omega (arith, g .space);
-        few = g .few;
+        few = omega (arith, g .few);
       }
 
   abbrev start : ℕ
@@ -54,6 +66,9 @@ module _ {t : List ℕ} {k levels sp : ℕ} {env : List ℕ} {buf : List ℤ} {s
   abbrev tree₁ : Tree ℕ (g .depth₁)
   tree₁ = tree (g .bound) (g .scene .trees) (length (g .scene .machine .store))
 
+  pub let-bytes : (k + 3 < length t) × (length t ≤ 65536)
+  let-bytes = (omega (arith, spans (g .first) .some-bytes, spans (g .first) .within), g .short)
+
   module _ (n : ℕ) where
     both-code : walked (length buf) n (code (terms.bind (g .bound) (g .body)) (g .scene .trees) start) (g .scene .machine)
         ≡ onward (walked (length buf) n (code (g .bound) (g .scene .trees) start) (g .scene .machine))
@@ -61,12 +76,12 @@ module _ {t : List ℕ} {k levels sp : ℕ} {env : List ℕ} {buf : List ℤ} {s
     unfolding code
     both-code = walked-seq (length buf) n (code (g .bound) (g .scene .trees) start) (code (g .body) (tree₁ ▹ g .scene .trees) (start + size (g .bound))) (g .scene .machine)
 
-    module _ {env₁ : List ℕ} {buf₁ : List ℤ} {state₁ : List ℕ} {r : Walked} (w : Runs (g .scene) (g .bound) n (g .middle) env₁ buf₁ state₁ r) where
+    module _ {env₁ : List ℕ} {buf₁ : List ℤ} {state₁ text₁ : List ℕ} {r : Walked} (w : Runs (g .scene) (g .bound) n (g .middle) env₁ buf₁ state₁ text₁ r) where
       pub bound-stopped : {q : Refusal} {env′ : List ℕ} → r ≡ walked-as.Stopped q
-          → Runs (g .scene) (terms.bind (g .bound) (g .body)) n (g .next) env′ buf₁ state₁ (walked-as.Stopped q)
+          → Runs (g .scene) (terms.bind (g .bound) (g .body)) n (g .next) env′ buf₁ state₁ text₁ (walked-as.Stopped q)
       bound-stopped {q} e = ran-stopped (stopping-as both-code (onward-stop _ (halted w q e)))
 
-      module _ (c i : ℕ) (e : r ≡ walked-as.Tree c i) where
+      module _ {c i : ℕ} (e : r ≡ walked-as.Tree c i) where
         pub first-end : Through w c i
         first-end = through w c i e
 
@@ -76,12 +91,16 @@ module _ {t : List ℕ} {k levels sp : ℕ} {env : List ℕ} {buf : List ℤ} {s
         pub first-next : i ≡ g .middle
         first-next = first-end .next-is
 
+        pub second-later : (k + 3 < i) × (i ≤ length t)
+        second-later =
+            (omega (arith, first-next, spans (g .first) .some-bytes), omega (arith, first-next, spans (g .first) .within))
+
         pub first-shallow : g .depth₁ ≤ 8
         first-shallow = shallow-type (g .first) (g .scene .shallow)
 
         pub bind-fits : length env₁ ≡ length env → (c < 4294967296) × (treeSize c + 2 ≤ sp) × (sp ≤ length env₁)
         bind-fits long =
-            (omega (arith, first-depth, first-shallow), omega (arith, first-depth, first-shallow, g .space, nested (g .first)), omega (arith, long, g .scene .within))
+            (omega (arith, first-depth, first-shallow), omega (arith, first-depth, g .space), omega (arith, long, g .scene .within))
 
         gr : Grown (g .scene .machine) (code (g .bound) (g .scene .trees) start) (first-end .after)
         gr = walked-grown (length buf) n (code (g .bound) (g .scene .trees) start) (g .scene .machine) (first-end .after) (first-end .went-to)
@@ -91,13 +110,13 @@ module _ {t : List ℕ} {k levels sp : ℕ} {env : List ℕ} {buf : List ℤ} {s
             ap length (gr .store)
             ∙ (length-append (g .scene .machine .store) (gr .streams) ∙ omega (arith, gr .number, count-code (g .bound) (g .scene .trees) start))
 
-        module _ {env₂ : List ℕ} {inner : ℕ} (at : inner ≡ sp - treeSize c - 2) (w₂ : env₂ ≡ written (sp - treeSize c - 2) (x .0 ∷ c ∷ []) env₁)
+        module _ {env₂ : List ℕ} {inner : ℕ} (at : inner ≡ sp - treeSize c - 2) (w₂ : env₂ ≡ written (sp - treeSize c - 2) (byteAt t (k + 2) ∷ c ∷ []) env₁)
             (long₁ : length env₁ ≡ length env) where
           abbrev size₁ : ℕ
           size₁ = treeSize (g .depth₁)
 
-          room-below : size₁ + 2 + 69 * levels ≤ sp
-          room-below = omega (arith, g .space, first-shallow)
+          room-below : size₁ + 2 + words (g .body) ≤ sp
+          room-below = omega (arith, g .space)
 
           inner-is : inner ≡ sp - size₁ - 2
           inner-is = at ∙ ap (λ d. sp - treeSize d - 2) first-depth
@@ -118,7 +137,7 @@ module _ {t : List ℕ} {k levels sp : ℕ} {env : List ℕ} {buf : List ℤ} {s
           spells₁ = grown-spells (g .scene) (first-end .after) (gr .streams) (gr .store) env refl
 
           pub second-spells : drop inner env₂
-              ≡ spelled (x ▹ g .scene .names) (places (first-end .after .store) (tree₁ ▹ g .scene .trees)) ++ g .scene .rest
+              ≡ spelled (variableAt t (k + 2) ▹ g .scene .names) (places (first-end .after .store) (tree (g .bound) (g .scene .trees) (length (g .scene .machine .store)) ▹ g .scene .trees)) ++ g .scene .rest
           unfolding places
           second-spells =
               ap (λ a. drop a env₂) inner-is
@@ -134,11 +153,11 @@ module _ {t : List ℕ} {k levels sp : ℕ} {env : List ℕ} {buf : List ℤ} {s
           pub second-within : inner ≤ length env₂
           second-within = subst (λ a. a ≤ length env₂) (sym inner-is) (omega (arith, second-long, g .scene .within))
 
-          pub second-space : wordsFor levels ≤ inner
-          second-space = subst (λ a. wordsFor levels ≤ a) (sym inner-is) (omega (arith, room-below))
+          pub second-space : words (g .body) ≤ inner
+          second-space = subst (λ a. words (g .body) ≤ a) (sym inner-is) (omega (arith, room-below))
 
-          pub second-formed : Formed t levels i (g .depth₁ ∷ g .scene .context) (x ▹ g .scene .names) (g .depth) (g .body) (g .next)
-          second-formed = subst (λ a. Formed t levels a (g .depth₁ ∷ g .scene .context) (x ▹ g .scene .names) (g .depth) (g .body) (g .next)) (sym first-next) (g .second)
+          pub second-formed : Formed t (g .levels) i (g .depth₁ ∷ g .scene .context) (variableAt t (k + 2) ▹ g .scene .names) (g .depth) (g .body) (g .next)
+          second-formed = subst (λ a. Formed t (g .levels) a (g .depth₁ ∷ g .scene .context) (x ▹ g .scene .names) (g .depth) (g .body) (g .next)) (sym first-next) (g .second)
 
           pub second-few : length (first-end .after .store) + 2 * (length t - i) ≤ mostStreams
           second-few =
@@ -146,16 +165,16 @@ module _ {t : List ℕ} {k levels sp : ℕ} {env : List ℕ} {buf : List ℤ} {s
               let z = spans (g .second) in
               omega (arith, first-next, number, s .sized, s .within, s .some-bytes, z .within, z .some-bytes, g .few)
 
-          pub second-shaped : Shaped (first-end .after .store) (g .depth₁ ∷ g .scene .context) (tree₁ ▹ g .scene .trees)
+          pub second-shaped : Shaped (first-end .after .store) (g .depth₁ ∷ g .scene .context) (tree (g .bound) (g .scene .trees) (length (g .scene .machine .store)) ▹ g .scene .trees)
           second-shaped = shaped-more (first-end .left .shapely) (grown-shaped (g .scene) (first-end .after) (gr .streams) (gr .store))
 
-          abbrev pub second-ready : Ready t i levels inner env₂ buf₁ state₁
+          abbrev pub second-ready : Ready t i inner env₂ buf₁ state₁ text₁
           second-ready =
               record {
                 scene =
                     record {
                       context = g .depth₁ ∷ g .scene .context;
-                      names = x ▹ g .scene .names;
+                      names = variableAt t (k + 2) ▹ g .scene .names;
                       trees = tree (g .bound) (g .scene .trees) (length (g .scene .machine .store)) ▹ g .scene .trees;
                       machine = first-end .after;
                       rest = g .scene .rest;
@@ -164,7 +183,11 @@ module _ {t : List ℕ} {k levels sp : ℕ} {env : List ℕ} {buf : List ℤ} {s
                       shallow = shallow-more first-shallow (g .scene .shallow);
                       held = first-end .left .held;
                       within = second-within;
+                      sink = feed (length (g .scene .machine .store)) (code (g .bound) (g .scene .trees) (length (g .scene .machine .store))) (g .scene .sink);
+                      sunk = first-end .left .sunk;
+                      wide = wide-like (like-fed (length (g .scene .machine .store)) (code (g .bound) (g .scene .trees) (length (g .scene .machine .store))) (g .scene .sink)) (g .scene .wide);
                     };
+                levels = g .levels;
                 depth = g .depth;
                 term = g .body;
                 next = g .next;
@@ -181,13 +204,13 @@ module _ {t : List ℕ} {k levels sp : ℕ} {env : List ℕ} {buf : List ℤ} {s
               ∙ (onward-as (walked (length buf) n (code (g .body) (tree₁ ▹ g .scene .trees) (start + size (g .bound)))) (first-end .went-to)
               ∙ (λ j. walked (sym long j) n (code (g .body) (tree₁ ▹ g .scene .trees) (sym number j)) (first-end .after)))
 
-          module _ (long : length buf₁ ≡ length buf) {env₃ : List ℕ} {buf₂ : List ℤ} {state₂ : List ℕ} {r₂ : Walked}
-              (w₃ : Runs (second-ready .scene) (g .body) n (g .next) env₃ buf₂ state₂ r₂) where
+          module _ (long : length buf₁ ≡ length buf) {env₃ : List ℕ} {buf₂ : List ℤ} {state₂ text₂ : List ℕ} {r₂ : Walked}
+              (w₃ : Runs (second-ready .scene) (g .body) n (g .next) env₃ buf₂ state₂ text₂ r₂) where
             pub body-stopped : {q : Refusal} {env′ : List ℕ} → r₂ ≡ walked-as.Stopped q
-                → Runs (g .scene) (terms.bind (g .bound) (g .body)) n (g .next) env′ buf₂ state₂ (walked-as.Stopped q)
+                → Runs (g .scene) (terms.bind (g .bound) (g .body)) n (g .next) env′ buf₂ state₂ text₂ (walked-as.Stopped q)
             body-stopped {q} f = ran-stopped (stopping-as (then-second long) (halted w₃ q f))
 
-            module _ (d end : ℕ) (f : r₂ ≡ walked-as.Tree d end) where
+            module _ {d end : ℕ} (f : r₂ ≡ walked-as.Tree d end) where
               second-end : Through w₃ d end
               second-end = through w₃ d end f
 
@@ -198,7 +221,7 @@ module _ {t : List ℕ} {k levels sp : ℕ} {env : List ℕ} {buf : List ℤ} {s
               second-shallow = shallow-type (g .second) (shallow-more first-shallow (g .scene .shallow))
 
               low : treeSize (g .depth) ≤ inner
-              low = omega (arith, second-shallow, second-space, nested (g .second))
+              low = omega (arith, words-hold (g .body), second-space)
 
               below : inner ≤ sp
               below = subst (λ a. a ≤ sp) (sym inner-is) (omega arith)
@@ -225,19 +248,29 @@ module _ {t : List ℕ} {k levels sp : ℕ} {env : List ℕ} {buf : List ℤ} {s
                   ∙ (drop-written env₁ (sp - size₁ - 2) sp (x .0 ∷ g .depth₁ ∷ []) (subst (λ a. a ≤ sp) (sym two-up) (omega arith)) (omega (arith, long₁, g .scene .within))
                   ∙ above-first)
 
+              fed : feed (length (first-end .after .store)) (code (g .body) (tree₁ ▹ g .scene .trees) (length (first-end .after .store))) (feed start (code (g .bound) (g .scene .trees) start) (g .scene .sink))
+                  ≡ feed start (code (terms.bind (g .bound) (g .body)) (g .scene .trees) start) (g .scene .sink)
+              unfolding code
+              fed =
+                  let up : length (first-end .after .store) ≡ start + count (code (g .bound) (g .scene .trees) start) = omega (arith, number, count-code (g .bound) (g .scene .trees) start) in
+                  (λ j. feed (up j) (code (g .body) (tree₁ ▹ g .scene .trees) (number j)) (feed start (code (g .bound) (g .scene .trees) start) (g .scene .sink)))
+                  ∙ sym (feed-seq start (code (g .bound) (g .scene .trees) start) (code (g .body) (tree₁ ▹ g .scene .trees) (start + size (g .bound))) (g .scene .sink))
+
               pub let-runs : {env₄ : List ℕ} → length env₃ ≡ length env₂
                   → env₄ ≡ written (sp - treeSize d) (part (inner - treeSize d) (treeSize d) env₃) env₃
-                  → Runs (g .scene) (terms.bind (g .bound) (g .body)) n (g .next) env₄ buf₂ state₂ (walked-as.Tree d end)
+                  → Runs (g .scene) (terms.bind (g .bound) (g .body)) n (g .next) env₄ buf₂ state₂ text₂ (walked-as.Tree d end)
               let-runs {env₄} long₃ w₄ =
                   let moved : env₄ ≡ written (sp - treeSize (g .depth)) (part (inner - treeSize (g .depth)) (treeSize (g .depth)) env₃) env₃ =
                   w₄ ∙ ap (λ c. written (sp - treeSize c) (part (inner - treeSize c) (treeSize c) env₃) env₃) second-depth in
                   let words : drop (sp - treeSize (g .depth)) env₄ ≡ treeWords (mapTree (place (second-end .after .store)) tree₂) ++ drop sp env₂ =
                   lifted-words tree₂ (second-end .after) inner sp env₂ env₃ env₄ (second-end .left .words) low below (omega (arith, long₃, second-long, g .scene .within)) moved in
                   let ran : Ran (walked (length buf) n (code (terms.bind (g .bound) (g .body)) (g .scene .trees) start) (g .scene .machine))
-                  (tree (terms.bind (g .bound) (g .body)) (g .scene .trees) start) (g .next) sp env env₄ buf buf₂ state₂ (walked-as.Tree (g .depth) (g .next)) =
+                  (feed start (code (terms.bind (g .bound) (g .body)) (g .scene .trees) start) (g .scene .sink))
+                  (tree (terms.bind (g .bound) (g .body)) (g .scene .trees) start) (g .next) sp env env₄ buf buf₂ state₂ text₂ (walked-as.Tree (g .depth) (g .next)) =
                   ran-through (second-end .after) (then-second long ∙ second-end .went-to)
                   (record {
                     held = second-end .left .held;
+                    sunk = subst (λ z. Sunk z text₂ state₂) fed (second-end .left .sunk);
                     kept = keeps-then (first-end .after .store) (gr₂ .streams) (second-end .after .store) buf buf₁ buf₂ (first-end .left .kept) (second-end .left .kept) (gr₂ .store);
                     shapely = subst (Shapely (second-end .after .store) (g .depth)) tree-is (second-end .left .shapely);
                     words =

@@ -1,6 +1,7 @@
 pub mod Reading
 pub mod Measures
 pub mod Lifting
+pub mod Dispatch
+pub mod Surveys
 pub mod Lets
 pub mod Comprehensions
-pub mod Dispatch

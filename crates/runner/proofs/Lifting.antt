@@ -11,7 +11,7 @@ use Rattle.environment.specs.Words.{treeWords, treeSize}
 use Rattle.environment.proofs.Stack.{front-is, rest-is, drop-above, lowered}
 use Rattle.environment.proofs.Finding.{length-tree}
 use Rattle.bodies.proofs.Differences.{up-again}
-use Rattle.leaves.specs.Places.{place}
+use Rattle.steps.specs.Holding.{place}
 
 -- a tree's words with what stands behind them, after it was lifted
 module _ {d : ℕ} (t : Tree ℕ d) (m : State) (from to : ℕ) (env env′ lifted : List ℕ)

@@ -1,24 +1,24 @@
--- How far a formed expression reaches, how many streams its code defines, and how deep its type is.
+-- How far a formed expression reaches, how many streams its code defines, how deep its type is, and how many words its walk takes.
 use Prim.Native.Nat.{ℕ, _+_, _*_, _≤_, _<_}
-use mathlib.Core.List.{List}
+use mathlib.Core.List.{List, [], _∷_}
 use mathlib.Core.Path.{_≡_, refl, sym, ap}
 use native.Mathlib.Omega.{arith}
 use borrow.Author.Tests.{ltb-true}
 use lib.ListN.{length}
 use Rattle.snesl.specs.Limits.{mostDepth}
 use Rattle.snesl.specs.Terms as terms
-use Rattle.snesl.specs.Terms.{Term, All, _▹_, lookup}
-use Rattle.snesl.specs.Trees.{Tree, outer}
-use Rattle.snesl.specs.Programs.{Program, done, define, withCtrl, _⨾_, count}
-use Rattle.snesl.specs.Translation.{size, within, tree, controlled, code}
+use Rattle.snesl.specs.Terms.{_∋_, Term, listedTypes, All}
+use Rattle.snesl.specs.Translation.{size}
 use Rattle.snesl.specs.Checking.{Name, pointers}
 use Rattle.snesl.specs.Formed.{Formed, formed-var, formed-bind, formed-const, formed-iota, formed-plus, formed-sum, formed-each}
 use Rattle.records.specs.declared.head.Head.the-variants.{Var, Const, Iota, Plus, Sum, Each}
 use Rattle.records.specs.Heads.{headOf}
 use Rattle.records.proofs.Heads.{told}
-use Rattle.leaves.specs.Places.{Shallow, shallow-more}
+use Rattle.environment.specs.Words.{treeSize}
+use Rattle.environment.specs.Needs.{words}
+use Rattle.leaves.specs.Places.{Shallow, shallow-none, shallow-more, wordsFor}
 use Rattle.leaves.proofs.Places.{lookup-shallow}
-use Rattle.bodies.proofs.Lists.{length-listed, count-distrs}
+use Rattle.bodies.proofs.Lists.{length-listed}
 
 -- an expression's bytes
 pub record Spans {Γ : List ℕ} {d : ℕ} (t : List ℕ) (k : ℕ) (e : Term Γ d) (next : ℕ) : Type 0 where
@@ -57,6 +57,11 @@ spans {t} {k = k} {names = names} (formed-each {b = b} {x = x} {y = y} {us = us}
       sized = omega (arith, a .sized, bytes, long);
     }
 
+-- listed variables are ints
+pub ints-shallow : {Γ : List ℕ} → (us : List (Γ ∋ 0)) → Shallow (listedTypes us)
+ints-shallow [] = shallow-none
+ints-shallow (u ∷ us) = shallow-more {d = 0} (omega arith) (ints-shallow us)
+
 -- the type of a formed expression is not deeper than is allowed
 pub shallow-type : {t : List ℕ} {levels k : ℕ} {Γ : List ℕ} {names : All Name Γ} {d next : ℕ} {e : Term Γ d} → Formed t levels k Γ names d e next
     → Shallow Γ → d ≤ mostDepth
@@ -68,38 +73,32 @@ shallow-type (formed-plus h f g) s = omega arith
 shallow-type (formed-sum h f) s = omega arith
 shallow-type (formed-each {d = d} h f g body le) s = ltb-true d mostDepth le
 
--- an expression's code defines so many streams
-count-seq : (p q : Program) → count (p ⨾ q) ≡ count p + count q
-unfolding count _⨾_
-count-seq done q = omega arith
-count-seq (define t p) q = omega (arith, count-seq p q)
-count-seq (withCtrl outs c ins b p) q = omega (arith, count-seq p q)
+-- a walk's words hold its result's tree
+pub words-hold : {Γ : List ℕ} {d : ℕ} (e : Term Γ d) → treeSize d ≤ words e
+unfolding words
+words-hold (terms.var x) = omega arith
+words-hold (terms.bind e₁ e₂) = omega (arith, words-hold e₂)
+words-hold (terms.const n) = omega arith
+words-hold (terms.iota x) = omega arith
+words-hold (terms.plus x y) = omega arith
+words-hold (terms.sum x) = omega arith
+words-hold (terms.each y us e) = omega (arith, words-hold e)
 
-pub count-code : {Γ : List ℕ} {d : ℕ} → (e : Term Γ d) (δ : All (Tree ℕ) Γ) (s : ℕ) → count (code e δ s) ≡ size e
-unfolding code size count _⨾_
-count-code (terms.var x) δ s = refl
-count-code (terms.bind e₁ e₂) δ s =
-    let rest : Program = code e₂ (tree e₁ δ s ▹ δ) (s + size e₁) in
-    omega (arith, count-seq (code e₁ δ s) rest, count-code e₁ δ s, count-code e₂ (tree e₁ δ s ▹ δ) (s + size e₁))
-count-code (terms.const n) δ s = refl
-count-code (terms.iota x) δ s = omega arith
-count-code (terms.plus x y) δ s = refl
-count-code (terms.sum x) δ s = refl
-count-code (terms.each y us e) δ s =
-    let s′ : ℕ = s + (1 + length us) in
-    let body : Program = code e (within y us δ s) s′ in
-    omega (
-      arith,
-      count-distrs (outer (lookup y δ)) us δ (controlled s s′ body (tree e (within y us δ s) s′)),
-      count-code e (within y us δ s) s′,
-    )
-
--- a nesting is left wherever an expression stands
-pub nested : {t : List ℕ} {levels k : ℕ} {Γ : List ℕ} {names : All Name Γ} {d next : ℕ} {e : Term Γ d} → Formed t levels k Γ names d e next → 0 < levels
-nested (formed-var h f) = omega arith
-nested (formed-bind h f g) = omega arith
-nested (formed-const h) = omega arith
-nested (formed-iota h f) = omega arith
-nested (formed-plus h f g) = omega arith
-nested (formed-sum h f) = omega arith
-nested (formed-each h f g b l) = omega arith
+-- with so many nestings left it takes no more words than these: an EA takes three for its flags, five for each of eight listed variables and twenty-six for its x, a LT
+-- twenty-nine
+pub words-most : {t : List ℕ} {levels k : ℕ} {Γ : List ℕ} {names : All Name Γ} {d next : ℕ} {e : Term Γ d} → Formed t levels k Γ names d e next → Shallow Γ
+    → words e ≤ wordsFor levels
+unfolding words
+words-most (formed-var {v = v} h f) s = omega (arith, lookup-shallow v s)
+words-most (formed-bind h f g) s =
+    let one = shallow-type f s in
+    omega (arith, one, words-most f s, words-most g (shallow-more one s))
+words-most (formed-const h) s = omega arith
+words-most (formed-iota h f) s = omega arith
+words-most (formed-plus h f g) s = omega arith
+words-most (formed-sum h f) s = omega arith
+words-most {t} {k = k} {names = names} (formed-each {x = x} {y = y} {us = us} {v = v} {ls = ls} h f g body le) s =
+    let p = told t k (Each x y (length us)) (sym (ap headOf h)) in
+    let long : length (pointers ls) ≡ length us = length-listed names us ls g in
+    let deep = lookup-shallow v s in
+    omega (arith, p .2, long, deep, words-most body (shallow-more (omega (arith, deep)) (ints-shallow (pointers ls))))

@@ -20,11 +20,12 @@ use Rattle.snesl.specs.declared.code.Transducer.{Transducer}
 use Rattle.snesl.specs.declared.code.Transducer.the-variants.{Const, ToFlags, Usum, MapTwoPlus, ScanPlus, Distr, SumPlus}
 use Rattle.snesl.specs.Streams.{Stream, units, elements, Store, room}
 use Rattle.snesl.specs.Transducers as snesl
-use Rattle.snesl.specs.Transducers.{Answer, made, unfit, unless, alone, misfit, countF, apply, flagOf}
+use Rattle.snesl.specs.Transducers.{Answer, made, unfit, unless, alone, misfit, countF, apply, operands, signature, flagOf}
 use Rattle.streams.specs.Answers.{Answers, answered, after, widestBuffer}
 use Rattle.streams.specs.declared.output.Output.{Output}
 use Rattle.streams.proofs.Store.{Holds, apply-constant, apply-to-flags, apply-usum, apply-map-two-plus, apply-scan-plus, apply-distr, apply-sum-plus}
-use Rattle.steps.specs.Holding.{Operands, of-toFlags, of-usum, of-mapTwoPlus, of-scanPlus, of-distr, of-sumPlus, IntsAt, FlagsAt, Applies, Transduced}
+use Rattle.steps.specs.declared.Spans.{Spans}
+use Rattle.steps.specs.Holding.{IntsAt, FlagsAt, OperandsAt, spanList, Applies, Transduced}
 use Rattle.steps.proofs.Stores.{nothing-written, ints-within, ints-part, flags-within, flags-part}
 
 -- what a call that leaves exactly what its contract says of all its answers says of those that matter here
@@ -57,63 +58,44 @@ units-empty k part s e = go (misfit flagOf {B = ℤ} alone 0 k part []) e
     go none q = let same : units (countF flagOf part) ≡ s = cc in ap elements (sym same)
     go (some j) q = never (cc)
 
-module _ {at n at′ n′ : ℕ} {σ : Store} where
-  one-int : {s : StreamId} → Operands σ at n at′ n′ (ToFlags s) → IntsAt σ (s .0) at n
-  one-int (of-toFlags o q) = o
-
-  one-flags : {s : StreamId} → Operands σ at n at′ n′ (Usum s) → FlagsAt σ (s .0) at n
-  one-flags (of-usum o q) = o
-
-  two-ints : {s t : StreamId} → Operands σ at n at′ n′ (MapTwoPlus s t) → IntsAt σ (s .0) at n × IntsAt σ (t .0) at′ n′
-  two-ints (of-mapTwoPlus o p) = (o, p)
-
-  scan-both : {z : ℤ} {s t : StreamId} → Operands σ at n at′ n′ (ScanPlus z s t) → FlagsAt σ (s .0) at n × IntsAt σ (t .0) at′ n′
-  scan-both (of-scanPlus o p) = (o, p)
-
-  distr-both : {s t : StreamId} → Operands σ at n at′ n′ (Distr s t) → FlagsAt σ (s .0) at n × IntsAt σ (t .0) at′ n′
-  distr-both (of-distr o p) = (o, p)
-
-  sum-both : {s t : StreamId} → Operands σ at n at′ n′ (SumPlus s t) → FlagsAt σ (s .0) at n × IntsAt σ (t .0) at′ n′
-  sum-both (of-sumPlus o p) = (o, p)
-
-module _ {at n at′ n′ out : ℕ} {buf : List ℤ} {σ : Store} where
-  holds : {t : Transducer} → Applies t at n at′ n′ out buf σ → Holds buf σ
+module _ {w : Spans} {out : ℕ} {buf : List ℤ} {σ : Store} where
+  holds : {t : Transducer} → Applies t w out buf σ → Holds buf σ
   holds a = record { content = a .contents-are; fits = a .fits }
 
-  of : {t : Transducer} → Applies t at n at′ n′ out buf σ → (u : Transducer) → t ≡ u → Operands σ at n at′ n′ u
-  of a u e = subst (Operands σ at n at′ n′) e (a .operands)
+  of : {t : Transducer} → Applies t w out buf σ → (u : Transducer) → t ≡ u → OperandsAt σ (signature u .inputs) (operands u) (spanList w)
+  of a u e = subst (λ x. OperandsAt σ (signature x .inputs) (operands x) (spanList w)) e (a .stand)
 
   -- where the operands lie
-  module _ {t : Transducer} (a : Applies t at n at′ n′ out buf σ) where
+  module _ {t : Transducer} (a : Applies t w out buf σ) where
     pub room-left : out ≤ length buf
     room-left = omega (arith, a .next, a .fits)
 
-    first-int : {s : ℕ} → IntsAt σ s at n → at + n ≤ out
+    first-int : {s : ℕ} → IntsAt σ s (w .first .start) (w .first .length) → w .first .start + w .first .length ≤ out
     first-int o = omega (arith, a .next, ints-within (holds a) o)
 
-    second-int : {s : ℕ} → IntsAt σ s at′ n′ → at′ + n′ ≤ out
+    second-int : {s : ℕ} → IntsAt σ s (w .second .start) (w .second .length) → w .second .start + w .second .length ≤ out
     second-int o = omega (arith, a .next, ints-within (holds a) o)
 
-    first-flags : {s : ℕ} → FlagsAt σ s at n → at + n ≤ out
+    first-flags : {s : ℕ} → FlagsAt σ s (w .first .start) (w .first .length) → w .first .start + w .first .length ≤ out
     first-flags o = omega (arith, a .next, flags-within (holds a) o)
 
-    pub to-flags-fits : (s : StreamId) → t ≡ ToFlags s → (at + n ≤ out) × (out ≤ length buf)
-    to-flags-fits s e = (first-int (one-int (of a (ToFlags s) e)), room-left)
+    pub to-flags-fits : (s : StreamId) → t ≡ ToFlags s → (w .first .start + w .first .length ≤ out) × (out ≤ length buf)
+    to-flags-fits s e = (first-int (of a (ToFlags s) e .0), room-left)
 
-    pub usum-fits : (s : StreamId) → t ≡ Usum s → at + n ≤ length buf
-    usum-fits s e = omega (arith, first-flags (one-flags (of a (Usum s) e)), room-left)
+    pub usum-fits : (s : StreamId) → t ≡ Usum s → w .first .start + w .first .length ≤ length buf
+    usum-fits s e = omega (arith, first-flags (of a (Usum s) e .0), room-left)
 
-    pub map-two-plus-fits : (s u : StreamId) → t ≡ MapTwoPlus s u → (at + n ≤ out) × (at′ + n′ ≤ out) × (out ≤ length buf)
-    map-two-plus-fits s u e = let o = two-ints (of a (MapTwoPlus s u) e) in (first-int (o .0), second-int (o .1), room-left)
+    pub map-two-plus-fits : (s u : StreamId) → t ≡ MapTwoPlus s u → (w .first .start + w .first .length ≤ out) × (w .second .start + w .second .length ≤ out) × (out ≤ length buf)
+    map-two-plus-fits s u e = let o = of a (MapTwoPlus s u) e in (first-int (o .0), second-int (o .1 .0), room-left)
 
-    pub scan-plus-fits : (z : ℤ) (s u : StreamId) → t ≡ ScanPlus z s u → (at + n ≤ out) × (at′ + n′ ≤ out) × (out ≤ length buf)
-    scan-plus-fits z s u e = let o = scan-both (of a (ScanPlus z s u) e) in (first-flags (o .0), second-int (o .1), room-left)
+    pub scan-plus-fits : (z : ℤ) (s u : StreamId) → t ≡ ScanPlus z s u → (w .first .start + w .first .length ≤ out) × (w .second .start + w .second .length ≤ out) × (out ≤ length buf)
+    scan-plus-fits z s u e = let o = of a (ScanPlus z s u) e in (first-flags (o .0), second-int (o .1 .0), room-left)
 
-    pub distr-fits : (s u : StreamId) → t ≡ Distr s u → (at + n ≤ out) × (at′ + n′ ≤ out) × (out ≤ length buf)
-    distr-fits s u e = let o = distr-both (of a (Distr s u) e) in (first-flags (o .0), second-int (o .1), room-left)
+    pub distr-fits : (s u : StreamId) → t ≡ Distr s u → (w .first .start + w .first .length ≤ out) × (w .second .start + w .second .length ≤ out) × (out ≤ length buf)
+    distr-fits s u e = let o = of a (Distr s u) e in (first-flags (o .0), second-int (o .1 .0), room-left)
 
-    pub sum-plus-fits : (s u : StreamId) → t ≡ SumPlus s u → (at + n ≤ out) × (at′ + n′ ≤ out) × (out ≤ length buf) × (length buf ≤ widestBuffer)
-    sum-plus-fits s u e = let o = sum-both (of a (SumPlus s u) e) in (first-flags (o .0), second-int (o .1), room-left, a .short)
+    pub sum-plus-fits : (s u : StreamId) → t ≡ SumPlus s u → (w .first .start + w .first .length ≤ out) × (w .second .start + w .second .length ≤ out) × (out ≤ length buf) × (length buf ≤ widestBuffer)
+    sum-plus-fits s u e = let o = of a (SumPlus s u) e in (first-flags (o .0), second-int (o .1 .0), room-left, a .short)
 
     -- what they answer
     module _ {r : Output} (k : ℕ) where
@@ -123,60 +105,60 @@ module _ {at n at′ n′ out : ℕ} {buf : List ℤ} {σ : Store} where
       constant-answers z e f =
           transduced (ap (λ u. apply u k σ) e ∙ (apply-constant σ k z ∙ ap (λ x. snesl.constant x k) (sym (toZ-ofZ f))))
 
-      pub to-flags-answers : {new : List ℤ} (s : StreamId) → t ≡ ToFlags s → Answers out buf (snesl.toFlags k (part at n buf)) r new
+      pub to-flags-answers : {new : List ℤ} (s : StreamId) → t ≡ ToFlags s → Answers out buf (snesl.toFlags k (part (w .first .start) (w .first .length) buf)) r new
           → Transduced out buf (apply t k σ) r new
       to-flags-answers s e =
-          let o = one-int (of a (ToFlags s) e) in
+          let o = of a (ToFlags s) e .0 in
           transduced
           (ap (λ u. apply u k σ) e
           ∙ (apply-to-flags σ k s (o .content) (o .stream) ∙ ap (snesl.toFlags k) (sym (ints-part (holds a) o))))
 
-      pub usum-answers : (s : StreamId) → t ≡ Usum s → r ≡ answered 0 (snesl.usum flagOf k (part at n buf)) → Transduced out buf (apply t k σ) r buf
+      pub usum-answers : (s : StreamId) → t ≡ Usum s → r ≡ answered 0 (snesl.usum flagOf k (part (w .first .start) (w .first .length) buf)) → Transduced out buf (apply t k σ) r buf
       usum-answers s e q =
-          let o = one-flags (of a (Usum s) e) in
-          let is : apply t k σ ≡ snesl.usum flagOf k (part at n buf) =
+          let o = of a (Usum s) e .0 in
+          let is : apply t k σ ≡ snesl.usum flagOf k (part (w .first .start) (w .first .length) buf) =
           ap (λ u. apply u k σ) e
           ∙ (apply-usum σ k s (o .content) (o .stream) ∙ ap (snesl.usum flagOf k) (sym (flags-part (holds a) o))) in
           record {
-            says = q ∙ (units-answered k out buf (part at n buf) ∙ ap (answered (length buf - out)) (sym is));
+            says = q ∙ (units-answered k out buf (part (w .first .start) (w .first .length) buf) ∙ ap (answered (length buf - out)) (sym is));
             wrote =
-                λ w f h.
+                λ v f h.
                 nothing-written out buf
-                ∙ ap (λ l. written out l buf) (sym (units-empty k (part at n buf) w (sym is ∙ f)));
+                ∙ ap (λ l. written out l buf) (sym (units-empty k (part (w .first .start) (w .first .length) buf) v (sym is ∙ f)));
           }
 
       pub map-two-plus-answers : {new : List ℤ} (s u : StreamId) → t ≡ MapTwoPlus s u
-          → Answers out buf (snesl.mapTwoPlus k (part at n buf) (part at′ n′ buf)) r new → Transduced out buf (apply t k σ) r new
+          → Answers out buf (snesl.mapTwoPlus k (part (w .first .start) (w .first .length) buf) (part (w .second .start) (w .second .length) buf)) r new → Transduced out buf (apply t k σ) r new
       map-two-plus-answers s u e =
-          let o = two-ints (of a (MapTwoPlus s u) e) in
+          let o = of a (MapTwoPlus s u) e in
           transduced
-          (ap (λ w. apply w k σ) e
-          ∙ (apply-map-two-plus σ k s u (o .0 .content) (o .1 .content) (o .0 .stream) (o .1 .stream)
-          ∙ ap₂ (snesl.mapTwoPlus k) (sym (ints-part (holds a) (o .0))) (sym (ints-part (holds a) (o .1)))))
+          (ap (λ v. apply v k σ) e
+          ∙ (apply-map-two-plus σ k s u (o .0 .content) (o .1 .0 .content) (o .0 .stream) (o .1 .0 .stream)
+          ∙ ap₂ (snesl.mapTwoPlus k) (sym (ints-part (holds a) (o .0))) (sym (ints-part (holds a) (o .1 .0)))))
 
       pub scan-plus-answers : {new : List ℤ} (z : ℤ) (s u : StreamId) → t ≡ ScanPlus z s u → SFits w32 z
-          → Answers out buf (snesl.scanPlus flagOf (toZ w32 (ofZ w32 z)) k (part at n buf) (part at′ n′ buf)) r new → Transduced out buf (apply t k σ) r new
+          → Answers out buf (snesl.scanPlus flagOf (toZ w32 (ofZ w32 z)) k (part (w .first .start) (w .first .length) buf) (part (w .second .start) (w .second .length) buf)) r new → Transduced out buf (apply t k σ) r new
       scan-plus-answers z s u e f =
-          let o = scan-both (of a (ScanPlus z s u) e) in
+          let o = of a (ScanPlus z s u) e in
           transduced
-          (ap (λ w. apply w k σ) e
-          ∙ (apply-scan-plus σ k s (o .0 .content) (o .0 .stream) u (o .1 .content) (o .1 .stream) z
-          ∙ sym (λ i. snesl.scanPlus flagOf (toZ-ofZ f i) k (flags-part (holds a) (o .0) i) (ints-part (holds a) (o .1) i))))
+          (ap (λ v. apply v k σ) e
+          ∙ (apply-scan-plus σ k s (o .0 .content) (o .0 .stream) u (o .1 .0 .content) (o .1 .0 .stream) z
+          ∙ sym (λ i. snesl.scanPlus flagOf (toZ-ofZ f i) k (flags-part (holds a) (o .0) i) (ints-part (holds a) (o .1 .0) i))))
 
       pub distr-answers : {new : List ℤ} (s u : StreamId) → t ≡ Distr s u
-          → Answers out buf (snesl.distr flagOf k (part at n buf) (part at′ n′ buf)) r new → Transduced out buf (apply t k σ) r new
+          → Answers out buf (snesl.distr flagOf k (part (w .first .start) (w .first .length) buf) (part (w .second .start) (w .second .length) buf)) r new → Transduced out buf (apply t k σ) r new
       distr-answers s u e =
-          let o = distr-both (of a (Distr s u) e) in
+          let o = of a (Distr s u) e in
           transduced
-          (ap (λ w. apply w k σ) e
-          ∙ (apply-distr σ k s (o .0 .content) (o .0 .stream) u (o .1 .content) (o .1 .stream)
-          ∙ ap₂ (snesl.distr flagOf k) (sym (flags-part (holds a) (o .0))) (sym (ints-part (holds a) (o .1)))))
+          (ap (λ v. apply v k σ) e
+          ∙ (apply-distr σ k s (o .0 .content) (o .0 .stream) u (o .1 .0 .content) (o .1 .0 .stream)
+          ∙ ap₂ (snesl.distr flagOf k) (sym (flags-part (holds a) (o .0))) (sym (ints-part (holds a) (o .1 .0)))))
 
       pub sum-plus-answers : {new : List ℤ} (s u : StreamId) → t ≡ SumPlus s u
-          → Answers out buf (snesl.sumPlus flagOf k (part at n buf) (part at′ n′ buf)) r new → Transduced out buf (apply t k σ) r new
+          → Answers out buf (snesl.sumPlus flagOf k (part (w .first .start) (w .first .length) buf) (part (w .second .start) (w .second .length) buf)) r new → Transduced out buf (apply t k σ) r new
       sum-plus-answers s u e =
-          let o = sum-both (of a (SumPlus s u) e) in
+          let o = of a (SumPlus s u) e in
           transduced
-          (ap (λ w. apply w k σ) e
-          ∙ (apply-sum-plus σ k s (o .0 .content) (o .0 .stream) u (o .1 .content) (o .1 .stream)
-          ∙ ap₂ (snesl.sumPlus flagOf k) (sym (flags-part (holds a) (o .0))) (sym (ints-part (holds a) (o .1)))))
+          (ap (λ v. apply v k σ) e
+          ∙ (apply-sum-plus σ k s (o .0 .content) (o .0 .stream) u (o .1 .0 .content) (o .1 .0 .stream)
+          ∙ ap₂ (snesl.sumPlus flagOf k) (sym (flags-part (holds a) (o .0))) (sym (ints-part (holds a) (o .1 .0)))))

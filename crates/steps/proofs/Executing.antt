@@ -1,28 +1,30 @@
 -- `perform` meets its contract: what a transducer answers and leaves of the buffer is what one instruction does to the machine.
-use Prim.Native.Nat.{ℕ, zero, suc, _+_, _-_, _≤_, _<_}
+use Prim.Native.Nat.{ℕ, zero, suc, _+_, _*_, _-_, _≤_, _<_}
 use mathlib.Core.Bool.{Bool, true, false}
-use mathlib.Core.List.{List, [], _∷_, _++_, append-nil}
+use mathlib.Core.List.{List, [], _∷_, _++_, map}
 use mathlib.Core.Option.{Option, some, none}
 use mathlib.Core.Logic.{_⊎_, inl, inr}
 use mathlib.Core.Path.{_≡_, refl, sym, _∙_, ap, ap₂, subst}
 use native.Mathlib.Omega.{arith}
-use native.Mathlib.Nat.{add-zero}
+use native.Mathlib.Nat.{add-zero, suc-mul}
 use borrow.Author.Tests.{le-leb, lt-leb, leb-true, leb-false}
 use lib.Dec.{leb}
 use lib.IntN.{ℤ}
-use lib.ListN.{length, getD, take, drop, take-append-drop, length-append, length-map, length-drop}
-use lib.Seq.{take-at, drop-at}
+use lib.ListN.{length, getD, take, drop, length-append, length-take, length-map, length-drop}
+use lib.Seq.{take-at, drop-at, getD-take}
 use Rattle.laws.proofs.Never.{never}
 use Rattle.laws.specs.Parts.{written}
 use Rattle.snesl.specs.declared.code.StreamId.{StreamId}
 use Rattle.snesl.specs.declared.code.Transducer.{Transducer}
 use Rattle.snesl.specs.declared.code.Transducer.the-variants.{Const, ToFlags, Usum, MapTwoPlus, ScanPlus, Distr, SumPlus}
 use Rattle.snesl.specs.declared.refusal.Refusal.the-variants.{NoValue, NoRoom}
-use Rattle.snesl.specs.Streams.{Stream, ints, flags, units, len, bit, elements, Store, _!_, contents, room}
+use Rattle.snesl.specs.declared.code.Kind.{Kind}
+use Rattle.snesl.specs.declared.code.Kind.the-variants.{Ints, Flags, Units}
+use Rattle.snesl.specs.Streams.{Stream, ints, flags, units, kindOf, bare, len, bit, elements, Store, _!_, contents, room}
 use Rattle.snesl.specs.Transducers as snesl
-use Rattle.snesl.specs.Transducers.{Answer, made, unfit, negative, outside, apply, operands, empty, countF, alone, misfit, unless, onFlags}
+use Rattle.snesl.specs.Transducers.{Answer, made, unfit, negative, outside, apply, operands, signature, empty, countF, alone, misfit, unless, onFlags}
 use Rattle.snesl.specs.Programs.{define, done}
-use Rattle.snesl.specs.Machine.{State, Stop, full, unfitting, belowZero, outOfRange, Result, went, stopped, workOf, fetch, push, skip, skipped, holding}
+use Rattle.snesl.specs.Machine.{State, Stop, full, unfitting, belowZero, outOfRange, Result, went, stopped, sumOf, workOf, fetch, push, skip, skipped, holding}
 use Rattle.snesl.specs.Outcome.{refusalOf}
 use Rattle.streams.specs.Answers.{answered}
 use Rattle.streams.specs.declared.output.Output as output
@@ -30,9 +32,10 @@ use Rattle.streams.specs.declared.output.Output.the-variants as out
 use Rattle.steps.specs.declared.Executed.{Executed}
 use Rattle.steps.specs.declared.Executed.the-variants.{Made, Stopped}
 use Rattle.steps.specs.Walking.{stepped}
-use Rattle.steps.specs.Holding.{Held, lengthIn, lengthOf, Operands, of-const, of-toFlags, of-usum, of-mapTwoPlus, of-scanPlus, of-distr, of-sumPlus, keeps, taking, Executable, Performed, Applies, Transduced, Grows, grown, mostStreams}
+use Rattle.steps.specs.declared.Spans.{Spans}
+use Rattle.steps.specs.Holding.{Held, counters, lengthIn, lengthOf, FlagsAt, OperandAt, OperandsAt, spanList, keeps, taking, Performable, Performed, Applies, Transduced, Grows, grown, mostStreams}
 use Rattle.steps.proofs.Stores.{nothing-written, contents-more, room-more, newest, ints-within, flags-within}
-use Rattle.steps.proofs.Stepping.{same-state, Output, output-made, concluded, step-is, concluded-went, work-is, countF-most}
+use Rattle.steps.proofs.Stepping.{same-state, output-made, concluded, step-is, concluded-went, work-is, countF-most}
 use Rattle.streams.proofs.Store.{Holds}
 
 -- the newest of a store is known from the store
@@ -67,21 +70,40 @@ module _ (σ : Store) (a : Stream) (buf : List ℤ) (c : take (room σ) buf ≡ 
 
 -- One more stream, and what was spent on it.
 module _ {m : State} {buf : List ℤ} {state : List ℕ} (h : Held m buf state) where
+  -- the machine's words, one by one
+  word : (i : ℕ) → i < 4 → getD state i 0 ≡ getD (counters m) i 0
+  word i l = sym (getD-take 4 state i 0 l) ∙ ap (λ w. getD w i 0) (h .words)
+
+  pub next-id : getD state 0 0 ≡ length (m .store)
+  next-id = word 0 (omega arith)
+
+  pub next-element : getD state 1 0 ≡ room (m .store)
+  next-element = word 1 (omega arith)
+
+  pub spent-is : getD state 2 0 ≡ m .work
+  spent-is = word 2 (omega arith)
+
+  pub counted-is : getD state 3 0 ≡ m .steps
+  counted-is = word 3 (omega arith)
+
+  pub four-words : 4 ≤ length state
+  four-words = omega (arith, simp length-take at (ap length (h .words)))
+
   pub held-more : (a : Stream) (w c : ℕ) (new : List ℤ) (state′ : List ℕ) → room (m .store) + length (elements a) ≤ length buf
       → length (m .store) < mostStreams → w ≤ 196608 → c ≤ 1 → new ≡ written (room (m .store)) (elements a) buf
       → state′ ≡ grown state (length (elements a)) w c
       → (m′ : State) → m′ ≡ record { store = m .store ++ a ∷ []; work = m .work + w; steps = m .steps + c }
-      → Held m′ new state′ × keeps (m′ .store) buf new
+      → Held m′ new state′ × keeps (m′ .store) buf new × (drop 4 state′ ≡ drop 4 state)
   held-more a w c new state′ fits few cheap slow n s m′ e =
       let σ : Store = m .store in
       let r : room (σ ++ a ∷ []) ≡ room σ + length (elements a) = room-more σ a in
       let l : length (σ ++ a ∷ []) ≡ length σ + 1 = length-append σ (a ∷ []) in
       let long : length new ≡ length buf = ap length n ∙ long-more σ a buf (h .contents-are) fits in
-      let words : state′ ≡ length (σ ++ a ∷ []) ∷ room (σ ++ a ∷ []) ∷ (m .work + w) ∷ (m .steps + c) ∷ [] =
-      s
-      ∙ (ap (λ q. grown q (length (elements a)) w c) (h .words)
-      ∙ ap₂ (λ x y. x ∷ y ∷ (m .work + w) ∷ (m .steps + c) ∷ []) (sym l) (sym r)) in
-      subst (λ q. Held q new state′ × keeps (q .store) buf new) (sym e) (
+      let words : take 4 state′ ≡ length (σ ++ a ∷ []) ∷ room (σ ++ a ∷ []) ∷ (m .work + w) ∷ (m .steps + c) ∷ [] =
+      ap (take 4) s
+      ∙ (λ i. (next-id i + 1) ∷ (next-element i + length (elements a)) ∷ (spent-is i + w) ∷ (counted-is i + c) ∷ [])
+      ∙ ap₂ (λ x y. x ∷ y ∷ (m .work + w) ∷ (m .steps + c) ∷ []) (sym l) (sym r) in
+      subst (λ q. Held q new state′ × keeps (q .store) buf new × (drop 4 state′ ≡ drop 4 state)) (sym e) (
         record {
           words = words;
           contents-are = ap (take (room (σ ++ a ∷ []))) n ∙ front-more σ a buf (h .contents-are) fits;
@@ -92,16 +114,8 @@ module _ {m : State} {buf : List ℤ} {state : List ℕ} (h : Held m buf state) 
           cheap = omega (arith, h .cheap);
         },
         ap (drop (room (σ ++ a ∷ []))) n ∙ rest-more σ a buf (h .contents-are) fits,
+        ap (drop 4) s,
       )
-
-  pub next-id : getD state 0 0 ≡ length (m .store)
-  next-id = ap (λ l. getD l 0 0) (h .words)
-
-  pub next-element : getD state 1 0 ≡ room (m .store)
-  next-element = ap (λ l. getD l 1 0) (h .words)
-
-  pub four-words : length state ≡ 4
-  four-words = ap length (h .words)
 
   pub grows : (r w c : ℕ) → r ≤ 65536 → w ≤ 196608 → c ≤ 1 → Grows state r w c
   grows r w c p q s =
@@ -109,39 +123,31 @@ module _ {m : State} {buf : List ℤ} {state : List ℕ} (h : Held m buf state) 
         four = four-words;
         ids = omega (arith, next-id, h .few);
         rooms = omega (arith, next-element, h .fits, h .short);
-        works = omega (arith, ap (λ l. getD l 2 0) (h .words), h .cheap, h .few);
-        counts = omega (arith, ap (λ l. getD l 3 0) (h .words), h .slow, h .few);
+        works = omega (arith, spent-is, h .cheap, h .few);
+        counts = omega (arith, counted-is, h .slow, h .few);
       }
 
 -- ---- under an empty control
 
-empty-elements : (t : Transducer) → elements (empty t) ≡ []
-empty-elements (Const z) = refl
-empty-elements (ToFlags s) = refl
-empty-elements (Usum s) = refl
-empty-elements (MapTwoPlus s t) = refl
-empty-elements (ScanPlus z s t) = refl
-empty-elements (Distr s t) = refl
-empty-elements (SumPlus s t) = refl
+bare-elements : (k : Kind) → elements (bare k) ≡ []
+bare-elements Ints = refl
+bare-elements Flags = refl
+bare-elements Units = refl
 
-empty-len : (t : Transducer) → len (empty t) ≡ 0
-empty-len (Const z) = refl
-empty-len (ToFlags s) = refl
-empty-len (Usum s) = refl
-empty-len (MapTwoPlus s t) = refl
-empty-len (ScanPlus z s t) = refl
-empty-len (Distr s t) = refl
-empty-len (SumPlus s t) = refl
+bare-len : (k : Kind) → len (bare k) ≡ 0
+bare-len Ints = refl
+bare-len Flags = refl
+bare-len Units = refl
 
-module _ {t : Transducer} {at n at′ n′ : ℕ} {buf : List ℤ} {state : List ℕ} {m : State} (x : Executable t at n at′ n′ buf state m) where
+module _ {t : Transducer} {w : Spans} {buf : List ℤ} {state : List ℕ} {m : State} (x : Performable t w buf state m) where
   none-written : buf ≡ written (room (m .store)) (elements (empty t)) buf
-  none-written = nothing-written (room (m .store)) buf ∙ ap (λ l. written (room (m .store)) l buf) (sym (empty-elements t))
+  none-written = nothing-written (room (m .store)) buf ∙ ap (λ l. written (room (m .store)) l buf) (sym (bare-elements (signature t .output)))
 
   pub skipped-over : (cap k : ℕ) (state′ : List ℕ) → k ≡ 0 → state′ ≡ grown state 0 0 0
-      → Performed (stepped cap k t m) m buf buf state′ (Made 0)
+      → Performed (stepped cap k t m) m buf buf state state′ (Made 0)
   unfolding stepped skipped
   skipped-over cap zero state′ z s =
-      let none : length (elements (empty t)) ≡ 0 = ap length (empty-elements t) in
+      let none : length (elements (empty t)) ≡ 0 = ap length (bare-elements (signature t .output)) in
       record {
         went-on =
             λ m′ a e h.
@@ -153,7 +159,7 @@ module _ {t : Transducer} {at n at′ n′ : ℕ} {buf : List ℤ} {state : List
             held-more (x .held) (empty t) 0 0 buf state′ (omega (arith, none, x .held .fits)) (x .more) (omega arith) (omega arith) none-written
             (s ∙ ap (λ k. grown state k 0 0) (sym none)) m′
             (sym is ∙ (λ i. record { store = m .store ++ empty t ∷ []; work = sym w i; steps = sym c i })) in
-            (ap Made (sym (empty-len t) ∙ ap len a-is), both .0, both .1);
+            (ap Made (sym (bare-len (signature t .output)) ∙ ap len a-is), both .0, both .1, both .2);
         gave-up = λ why s e. never (cc);
       }
   skipped-over cap (suc k) state′ z s = absurd (omega arith)
@@ -244,24 +250,14 @@ unfolding stepped
 stepped-is cap t zero m h = absurd (omega arith)
 stepped-is cap t (suc n) m h = step-is cap t (suc n) m
 
--- how much an output takes and how long it is
-ints-taken : (a : Stream) → (zs : List ℤ) × (a ≡ ints zs) → len a ≡ length (elements a)
-ints-taken a o = subst (λ b. len b ≡ length (elements b)) (sym (o .1)) refl
+-- how much an output takes
+taken-is : (a : Stream) → taking (kindOf a) (len a) ≡ length (elements a)
+taken-is (ints zs) = refl
+taken-is (flags bs) = sym (length-map bs bit)
+taken-is (units n) = refl
 
-flags-taken : (a : Stream) → (bs : List Bool) × (a ≡ flags bs) → len a ≡ length (elements a)
-flags-taken a o = subst (λ b. len b ≡ length (elements b)) (sym (o .1)) (sym (length-map (o .0) bit))
-
-units-taken : (a : Stream) → (k : ℕ) × (a ≡ units k) → 0 ≡ length (elements a)
-units-taken a o = subst (λ b. 0 ≡ length (elements b)) (sym (o .1)) refl
-
-taken-is : (t : Transducer) (a : Stream) → Output t a → taking t (len a) ≡ length (elements a)
-taken-is (Const z) a o = ints-taken a o
-taken-is (ToFlags s) a o = flags-taken a o
-taken-is (Usum s) a o = units-taken a o
-taken-is (MapTwoPlus s t) a o = ints-taken a o
-taken-is (ScanPlus z s t) a o = ints-taken a o
-taken-is (Distr s t) a o = ints-taken a o
-taken-is (SumPlus s t) a o = ints-taken a o
+as-long : (a : Stream) → taking (kindOf a) (len a) ≡ len a → len a ≡ length (elements a)
+as-long a e = sym e ∙ taken-is a
 
 -- Usum's output is its F's
 units-made : (k : ℕ) (bs : List Bool) (a : Stream) → snesl.usum some k bs ≡ made a → a ≡ units (countF some bs)
@@ -277,69 +273,78 @@ usum-is σ s k bs e = ap (λ x. onFlags x (snesl.usum some k)) (sym e)
 
 module _ {σ : Store} {buf : List ℤ} (h : Holds buf σ) where
   -- no operand is longer than the room
-  operands-most : {at n at′ n′ : ℕ} {t : Transducer} → Operands σ at n at′ n′ t → (n ≤ room σ) × (n′ ≤ room σ)
-  operands-most (of-const p q) = (omega (arith, p), omega (arith, q))
-  operands-most (of-toFlags o q) = (omega (arith, ints-within h o), omega (arith, q))
-  operands-most (of-usum o q) = (omega (arith, flags-within h o), omega (arith, q))
-  operands-most (of-mapTwoPlus o p) = (omega (arith, ints-within h o), omega (arith, ints-within h p))
-  operands-most (of-scanPlus o p) = (omega (arith, flags-within h o), omega (arith, ints-within h p))
-  operands-most (of-distr o p) = (omega (arith, flags-within h o), omega (arith, ints-within h p))
-  operands-most (of-sumPlus o p) = (omega (arith, flags-within h o), omega (arith, ints-within h p))
+  operand-most : (k : Kind) (s at n : ℕ) → OperandAt σ k s at n → lengthOf σ s ≤ room σ
+  operand-most Ints s at n o = omega (arith, o .long, ints-within h o)
+  operand-most Flags s at n o = omega (arith, o .long, flags-within h o)
+  operand-most Units s at n o = absurd o
 
-  -- nor is an output that fits, units included
-  output-most : {at n at′ n′ : ℕ} {t : Transducer} → Operands σ at n at′ n′ t → (k : ℕ) (a : Stream) → apply t k σ ≡ made a
+  operands-most : (ks : List Kind) (ss : List ℕ) (ps : List (ℕ × ℕ)) → OperandsAt σ ks ss ps → sumOf (map (lengthOf σ) ss) ≤ length ps * room σ
+  unfolding sumOf
+  operands-most [] [] ps o = omega arith
+  operands-most [] (s ∷ ss) ps o = absurd o
+  operands-most (k ∷ ks) [] ps o = absurd o
+  operands-most (k ∷ ks) (s ∷ ss) [] o = absurd o
+  operands-most (k ∷ ks) (s ∷ ss) (p ∷ ps) o = omega (arith, operand-most k s (p .0) (p .1) (o .0), operands-most ks ss ps (o .1), suc-mul (length ps) (room σ))
+
+  -- nor is an output that fits, units included: only Usum makes units
+  output-most : (w : Spans) (t : Transducer) → OperandsAt σ (signature t .inputs) (operands t) (spanList w) → (k : ℕ) (a : Stream) → apply t k σ ≡ made a
       → (len a ≤ room σ) ⊎ (len a ≡ length (elements a))
-  output-most (of-const {z = z} p q) k a e = inr (ints-taken a (output-made (Const z) k σ a e))
-  output-most (of-toFlags {s = s} o q) k a e = inr (flags-taken a (output-made (ToFlags s) k σ a e))
-  output-most (of-usum {s = s} o q) k a e =
-      let u = units-made k (o .content) a (usum-is σ s k (o .content) (o .stream) ∙ e) in
-      let l : lengthOf σ (s .0) ≡ length (o .content) = ap lengthIn (o .stream) in
-      inl (omega (arith, ap len u, countF-most (o .content), o .long, l, flags-within h o))
-  output-most (of-mapTwoPlus {s = s} {t = t} o p) k a e = inr (ints-taken a (output-made (MapTwoPlus s t) k σ a e))
-  output-most (of-scanPlus {z = z} {s = s} {t = t} o p) k a e = inr (ints-taken a (output-made (ScanPlus z s t) k σ a e))
-  output-most (of-distr {s = s} {t = t} o p) k a e = inr (ints-taken a (output-made (Distr s t) k σ a e))
-  output-most (of-sumPlus {s = s} {t = t} o p) k a e = inr (ints-taken a (output-made (SumPlus s t) k σ a e))
+  output-most w (Usum s) o k a e =
+      let i : FlagsAt σ (s .0) (w .first .start) (w .first .length) = o .0 in
+      let u = units-made k (i .content) a (usum-is σ s k (i .content) (i .stream) ∙ e) in
+      let l : lengthOf σ (s .0) ≡ length (i .content) = ap lengthIn (i .stream) in
+      inl (omega (arith, ap len u, countF-most (i .content), i .long, l, flags-within h i))
+  output-most w (Const z) o k a e = inr (as-long a (ap (λ c. taking c (len a)) (output-made (Const z) k σ a e)))
+  output-most w (ToFlags s) o k a e = inr (as-long a (ap (λ c. taking c (len a)) (output-made (ToFlags s) k σ a e)))
+  output-most w (MapTwoPlus s t) o k a e = inr (as-long a (ap (λ c. taking c (len a)) (output-made (MapTwoPlus s t) k σ a e)))
+  output-most w (ScanPlus z s t) o k a e = inr (as-long a (ap (λ c. taking c (len a)) (output-made (ScanPlus z s t) k σ a e)))
+  output-most w (Distr s t) o k a e = inr (as-long a (ap (λ c. taking c (len a)) (output-made (Distr s t) k σ a e)))
+  output-most w (SumPlus s t) o k a e = inr (as-long a (ap (λ c. taking c (len a)) (output-made (SumPlus s t) k σ a e)))
 
-module _ {t : Transducer} {at n at′ n′ : ℕ} {buf : List ℤ} {state : List ℕ} {m : State} (x : Executable t at n at′ n′ buf state m) where
+module _ {t : Transducer} {w : Spans} {buf : List ℤ} {state : List ℕ} {m : State} (x : Performable t w buf state m) where
   holds : Holds buf (m .store)
   holds = record { content = x .held .contents-are; fits = x .held .fits }
 
-  pub applies : Applies t at n at′ n′ (getD state 1 0) buf (m .store)
+  pub applies : Applies t w (getD state 1 0) buf (m .store)
   applies =
       record {
-        operands = x .operands;
+        stand = x .spanned .stand;
         contents-are = x .held .contents-are;
         fits = x .held .fits;
         short = x .held .short;
         next = next-element (x .held);
       }
 
-  module _ (k : ℕ) {o : output.Output} {new : List ℤ} (w : Transduced (getD state 1 0) buf (apply t k (m .store)) o new) where
+  module _ (k : ℕ) {o : output.Output} {new : List ℤ} (v : Transduced (getD state 1 0) buf (apply t k (m .store)) o new) where
     -- what was answered, of the machine
     says : o ≡ answered (length buf - room (m .store)) (apply t k (m .store))
-    says = w .says ∙ ap (λ r. answered (length buf - r) (apply t k (m .store))) (next-element (x .held))
+    says = v .says ∙ ap (λ r. answered (length buf - r) (apply t k (m .store))) (next-element (x .held))
 
     -- the output that was made
     module _ {m′ : State} (g : Through (length buf) t k m (x .held .fits) (apply t k (m .store)) m′) where
-      kind : Output t (g .output)
+      kind : kindOf (g .output) ≡ signature t .output
       kind = output-made t k (m .store) (g .output) (g .is-made)
 
       fits : room (m .store) + length (elements (g .output)) ≤ length buf
       fits = omega (arith, g .fits, x .held .fits)
 
       most : len (g .output) ≤ 65536
-      most = go (output-most holds (x .operands) k (g .output) (g .is-made))
+      most = go (output-most holds w t (x .spanned .stand) k (g .output) (g .is-made))
         where
           go : (len (g .output) ≤ room (m .store)) ⊎ (len (g .output) ≡ length (elements (g .output))) → len (g .output) ≤ 65536
           go (inl l) = omega (arith, x .held .fits, x .held .short)
           go (inr l) = omega (arith, fits, x .held .short)
 
-      cheap : n + n′ + len (g .output) ≤ 196608
-      cheap = omega (arith, most, operands-most holds (x .operands), x .held .fits, x .held .short)
+      cheap : w .first .length + w .second .length + len (g .output) ≤ 196608
+      cheap =
+          omega (arith, most, x .spanned .total, operands-most holds (signature t .inputs) (operands t) (spanList w) (x .spanned .stand), x .held .fits, x .held .short)
+
+      takes-it : taking (signature t .output) (len (g .output)) ≡ length (elements (g .output))
+      takes-it = ap (λ c. taking c (len (g .output))) (sym kind) ∙ taken-is (g .output)
 
       wrote : new ≡ written (room (m .store)) (elements (g .output)) buf
       wrote =
-          w .wrote (g .output) (g .is-made) (omega (arith, g .fits, next-element (x .held)))
+          v .wrote (g .output) (g .is-made) (omega (arith, g .fits, next-element (x .held)))
           ∙ ap (λ r. written r (elements (g .output)) buf) (next-element (x .held))
 
     -- a stream that was made has an output behind it
@@ -356,17 +361,17 @@ module _ {t : Transducer} {at n at′ n′ : ℕ} {buf : List ℤ} {state : List
             never (cc)
 
     -- the words can grow by it
-    pub room-for : {r : ℕ} (j : ℕ) → o ≡ out.Made j → r ≡ taking t j → Grows state r (n + n′ + j) 1
+    pub room-for : {r : ℕ} (j : ℕ) → o ≡ out.Made j → r ≡ taking (signature t .output) j → Grows state r (w .first .length + w .second .length + j) 1
     room-for {r} j e q =
         let g = gone j e in
         let same : out.Made j ≡ out.Made (len (g .1 .output)) = sym e ∙ (says ∙ g .1 .said) in
         let j-is : j ≡ len (g .1 .output) = cc in
-        let takes : taking t j ≡ length (elements (g .1 .output)) = ap (taking t) j-is ∙ taken-is t (g .1 .output) (kind (g .1)) in
-        grows (x .held) r (n + n′ + j) 1 (omega (arith, q, fits (g .1), x .held .short)) (omega (arith, cheap (g .1))) (omega arith)
+        let takes : taking (signature t .output) j ≡ length (elements (g .1 .output)) = ap (taking (signature t .output)) j-is ∙ takes-it (g .1) in
+        grows (x .held) r (w .first .length + w .second .length + j) 1 (omega (arith, q, fits (g .1), x .held .short)) (omega (arith, cheap (g .1))) (omega arith)
 
     pub performed : {r : Executed} {state′ : List ℕ} → 0 < k → r ≡ told (getD state 0 0) o
-        → ((j : ℕ) → o ≡ out.Made j → state′ ≡ grown state (taking t j) (n + n′ + j) 1)
-        → Performed (stepped (length buf) k t m) m buf new state′ r
+        → ((j : ℕ) → o ≡ out.Made j → state′ ≡ grown state (taking (signature t .output) j) (w .first .length + w .second .length + j) 1)
+        → Performed (stepped (length buf) k t m) m buf new state state′ r
     performed {r} {state′} some-units q s =
         let is : stepped (length buf) k t m ≡ concluded (length buf) t k m (apply t k (m .store)) = stepped-is (length buf) t k m some-units in
         let id : told (getD state 0 0) o ≡ told (length (m .store)) o = ap (λ i. told i o) (next-id (x .held)) in
@@ -377,13 +382,13 @@ module _ {t : Transducer} {at n at′ n′ : ℕ} {buf : List ℤ} {state : List
               let b : Stream = g .output in
               let o-is : o ≡ out.Made (len b) = says ∙ g .said in
               let a-is : b ≡ a = same-newest (m .store) b a (ap (λ u. u .store) (g .pushed) ∙ h) in
-              let takes : taking t (len b) ≡ length (elements b) = taken-is t b (kind g) in
-              let spent : workOf k (fetch (m .store) (operands t)) b ≡ n + n′ + len b = work-is (x .operands) k b in
+              let takes : taking (signature t .output) (len b) ≡ length (elements b) = takes-it g in
+              let spent : workOf k (fetch (m .store) (operands t)) b ≡ w .first .length + w .second .length + len b = work-is (x .spanned) k b in
               let both =
-              held-more (x .held) b (n + n′ + len b) 1 new state′ (fits g) (x .more) (cheap g) (omega arith) (wrote g)
-              (s (len b) o-is ∙ ap (λ l. grown state l (n + n′ + len b) 1) takes) m′
+              held-more (x .held) b (w .first .length + w .second .length + len b) 1 new state′ (fits g) (x .more) (cheap g) (omega arith) (wrote g)
+              (s (len b) o-is ∙ ap (λ l. grown state l (w .first .length + w .second .length + len b) 1) takes) m′
               (sym (g .pushed) ∙ (λ i. record { store = m .store ++ b ∷ []; work = m .work + spent i; steps = m .steps + 1 })) in
-              (q ∙ (ap (told (getD state 0 0)) o-is ∙ ap (λ c. Made (len c)) a-is), both .0, both .1);
+              (q ∙ (ap (told (getD state 0 0)) o-is ∙ ap (λ c. Made (len c)) a-is), both .0, both .1, both .2);
           gave-up =
               λ why j e.
               q
@@ -394,23 +399,27 @@ module _ {t : Transducer} {at n at′ n′ : ℕ} {buf : List ℤ} {state : List
 
     -- an output of j elements
     module _ {j : ℕ} (e : o ≡ out.Made j) where
-      pub costs : n + n′ + j ≤ 196608
+      pub costs : w .first .length + w .second .length + j ≤ 196608
       costs =
           let g = gone j e in
           let same : out.Made j ≡ out.Made (len (g .1 .output)) = sym e ∙ (says ∙ g .1 .said) in
           let j-is : j ≡ len (g .1 .output) = cc in
           omega (arith, cheap (g .1))
 
-      pub performed-made : {state′ : List ℕ} {r : ℕ} → 0 < k → r ≡ taking t j → state′ ≡ grown state r (n + n′ + j) 1
-          → Performed (stepped (length buf) k t m) m buf new state′ (Made j)
+      pub performed-made : {state′ : List ℕ} {r : ℕ} → 0 < k → r ≡ taking (signature t .output) j → state′ ≡ grown state r (w .first .length + w .second .length + j) 1
+          → Performed (stepped (length buf) k t m) m buf new state state′ (Made j)
       performed-made {state′} {r} h q s =
           performed h (ap (told (getD state 0 0)) (sym e))
           (λ i f.
           let both : out.Made j ≡ out.Made i = sym e ∙ f in
           let same : j ≡ i = cc in
-          s ∙ (ap (λ u. grown state u (n + n′ + j) 1) q ∙ ap (λ u. grown state (taking t u) (n + n′ + u) 1) same))
+          s ∙ (ap (λ u. grown state u (w .first .length + w .second .length + j) 1) q ∙ ap (λ u. grown state (taking (signature t .output) u) (w .first .length + w .second .length + u) 1) same))
 
     -- none, for a reason that says so
     pub performed-none : (y : output.Output) → o ≡ y → ((j : ℕ) → y ≡ out.Made j → ⊥) → 0 < k
-        → Performed (stepped (length buf) k t m) m buf new state (told (getD state 0 0) y)
+        → Performed (stepped (length buf) k t m) m buf new state state (told (getD state 0 0) y)
     performed-none y e f h = performed h (ap (told (getD state 0 0)) (sym e)) (λ j q. absurd (f j (sym e ∙ q)))
+
+-- how much was taken, by the kind as it was asked for
+pub took : (j : ℕ) {r : ℕ} (k : Kind) {l : Kind} → r ≡ taking k j → k ≡ l → r ≡ taking l j
+took j k e q = e ∙ ap (λ c. taking c j) q

@@ -5,4 +5,4 @@ pub mod Applying
 pub mod Counting
 pub mod Executing
 pub mod Performing
-pub mod Due
+pub mod Spanning

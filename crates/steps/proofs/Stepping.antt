@@ -10,31 +10,36 @@ use lib.ListN.{length, replicate}
 use Rattle.laws.proofs.Never.{never}
 use Rattle.snesl.specs.declared.code.Transducer.{Transducer}
 use Rattle.snesl.specs.declared.code.Transducer.the-variants.{Const, ToFlags, Usum, MapTwoPlus, ScanPlus, Distr, SumPlus}
-use Rattle.snesl.specs.Streams.{Stream, ints, flags, units, len, Store, _!_, room}
-use Rattle.snesl.specs.Transducers.{Answer, made, unfit, negative, outside, apply, operands, empty, unless, exact, onInts, onFlags, toFlags, usum, mapTwoPlus, scanPlus, distr, sumPlus, countF, alone, eachF, eachT, misfit, spread, scans, sums, pluses, firstOutside, firstNegative, unary, lengthMisfit}
+use Rattle.snesl.specs.declared.code.Kind.{Kind}
+use Rattle.snesl.specs.declared.code.Kind.the-variants.{Ints, Flags, Units}
+use Rattle.snesl.specs.Streams.{Stream, ints, flags, units, kindOf, bare, len, Store, _!_, room}
+use Rattle.snesl.specs.Transducers.{Answer, made, unfit, negative, outside, apply, operands, signature, empty, unless, exact, onInts, onFlags, toFlags, usum, mapTwoPlus, scanPlus, distr, sumPlus, countF, alone, eachF, eachT, misfit, spread, scans, sums, pluses, firstOutside, firstNegative, unary, lengthMisfit}
 use Rattle.snesl.specs.Programs.{done, define}
 use Rattle.snesl.specs.Machine.{State, full, unfitting, belowZero, outOfRange, Result, went, stopped, sumOf, workOf, fetch, push, step, skip, skipped, holding}
 use Rattle.steps.specs.Walking.{stepped}
-use Rattle.steps.specs.Holding.{lengthIn, Operands, of-const, of-toFlags, of-usum, of-mapTwoPlus, of-scanPlus, of-distr, of-sumPlus}
+use Rattle.steps.specs.declared.Spans.{Spans}
+use Rattle.steps.specs.Holding.{lengthIn, lengthOf, Spanned}
 
--- the kind of a transducer's output
-abbrev pub Output : Transducer → Stream → Type 0
-Output (Const z) a = (zs : List ℤ) × (a ≡ ints zs)
-Output (ToFlags s) a = (bs : List Bool) × (a ≡ flags bs)
-Output (Usum s) a = (k : ℕ) × (a ≡ units k)
-Output (MapTwoPlus s t) a = (zs : List ℤ) × (a ≡ ints zs)
-Output (ScanPlus z s t) a = (zs : List ℤ) × (a ≡ ints zs)
-Output (Distr s t) a = (zs : List ℤ) × (a ≡ ints zs)
-Output (SumPlus s t) a = (zs : List ℤ) × (a ≡ ints zs)
+-- the stream of a kind
+pub kind-bare : (k : Kind) → kindOf (bare k) ≡ k
+kind-bare Ints = refl
+kind-bare Flags = refl
+kind-bare Units = refl
 
-output-empty : (t : Transducer) → Output t (empty t)
-output-empty (Const z) = ([], refl)
-output-empty (ToFlags s) = ([], refl)
-output-empty (Usum s) = (0, refl)
-output-empty (MapTwoPlus s t) = ([], refl)
-output-empty (ScanPlus z s t) = ([], refl)
-output-empty (Distr s t) = ([], refl)
-output-empty (SumPlus s t) = ([], refl)
+pub ints-of : (a : Stream) → kindOf a ≡ Ints → (zs : List ℤ) × (a ≡ ints zs)
+ints-of (ints zs) e = (zs, refl)
+ints-of (flags bs) e = never (cc)
+ints-of (units n) e = never (cc)
+
+pub flags-of : (a : Stream) → kindOf a ≡ Flags → (bs : List Bool) × (a ≡ flags bs)
+flags-of (ints zs) e = never (cc)
+flags-of (flags bs) e = (bs, refl)
+flags-of (units n) e = never (cc)
+
+pub units-of : (a : Stream) → kindOf a ≡ Units → (n : ℕ) × (a ≡ units n)
+units-of (ints zs) e = never (cc)
+units-of (flags bs) e = never (cc)
+units-of (units n) e = (n, refl)
 
 -- an answer that made something passed its tests
 fitted : (o : Option ℕ) (x : Answer) (a : Stream) → unless o unfit x ≡ made a → x ≡ made a
@@ -62,14 +67,14 @@ onFlags-made (some (ints zs)) f a e = never (cc)
 onFlags-made (some (flags bs)) f a e = (bs, e)
 onFlags-made (some (units n)) f a e = never (cc)
 
-is-ints : (zs : List ℤ) (a : Stream) → made (ints zs) ≡ made a → (l : List ℤ) × (a ≡ ints l)
-is-ints zs a e = (zs, cc)
+is-ints : (zs : List ℤ) (a : Stream) → made (ints zs) ≡ made a → kindOf a ≡ Ints
+is-ints zs a e = let same : ints zs ≡ a = cc in ap kindOf (sym same)
 
-made-ints : (o : Option ℕ) (x : List (ℕ × ℤ)) (a : Stream) → unless o unfit (exact x) ≡ made a → (zs : List ℤ) × (a ≡ ints zs)
+made-ints : (o : Option ℕ) (x : List (ℕ × ℤ)) (a : Stream) → unless o unfit (exact x) ≡ made a → kindOf a ≡ Ints
 made-ints o x a e =
     is-ints (map (λ r. r .1) x) a (valued (firstOutside x) (made (ints (map (λ r. r .1) x))) a (fitted o (exact x) a e))
 
-pub output-made : (t : Transducer) (n : ℕ) (σ : Store) (a : Stream) → apply t n σ ≡ made a → Output t a
+pub output-made : (t : Transducer) (n : ℕ) (σ : Store) (a : Stream) → apply t n σ ≡ made a → kindOf a ≡ signature t .output
 unfolding apply
 output-made (Const z) n σ a e = is-ints (replicate n z) a e
 output-made (ToFlags s) n σ a e =
@@ -78,12 +83,14 @@ output-made (ToFlags s) n σ a e =
     let q : made (flags (unary zs)) ≡ made a =
     counted (firstNegative 0 zs) (made (flags (unary zs))) a
     (fitted (lengthMisfit n (length zs) (length zs)) (unless (firstNegative 0 zs) negative (made (flags (unary zs)))) a (f .1)) in
-    (unary zs, cc)
+    let same : flags (unary zs) ≡ a = cc in
+    ap kindOf (sym same)
 output-made (Usum s) n σ a e =
     let f = onFlags-made (σ ! s .0) (usum some n) a e in
     let q : made (units (countF some (f .0))) ≡ made a =
     fitted (misfit some {B = ℤ} alone 0 n (f .0) []) (made (units (countF some (f .0)))) a (f .1) in
-    (countF some (f .0), cc)
+    let same : units (countF some (f .0)) ≡ a = cc in
+    ap kindOf (sym same)
 output-made (MapTwoPlus s t) n σ a e =
     let f = onInts-made (σ ! s .0) (λ xs. onInts (σ ! t .0) (mapTwoPlus n xs)) a e in
     let g = onInts-made (σ ! t .0) (mapTwoPlus n (f .0)) a (f .1) in
@@ -124,7 +131,7 @@ step-is cap t n m = go (apply t n (m .store)) refl
 pub record Added (m : State) (t : Transducer) (n : ℕ) (m′ : State) : Type 0 where
   pub stream : Stream
   pub store : m′ .store ≡ m .store ++ stream ∷ []
-  pub kind : Output t stream
+  pub kind : kindOf stream ≡ signature t .output
   pub quiet : n ≡ 0 → stream ≡ empty t
 
 pub same-state : (m m′ : State) → went m ≡ went m′ → m ≡ m′
@@ -148,7 +155,7 @@ added cap zero t m m′ e =
     record {
       stream = empty t;
       store = ap (λ s. s .store) (sym (same-state (skip (define t done) m) m′ e));
-      kind = output-empty t;
+      kind = kind-bare (signature t .output);
       quiet = λ z. refl;
     }
 added cap (suc n) t m m′ e =
@@ -166,20 +173,14 @@ len-fetched : (o : Option Stream) → len (Option·getD o (units 0)) ≡ lengthI
 len-fetched none = refl
 len-fetched (some a) = refl
 
-pub work-is : {σ : Store} {at n at′ n′ : ℕ} {t : Transducer} → Operands σ at n at′ n′ t → (k : ℕ) (a : Stream)
-    → workOf k (fetch σ (operands t)) a ≡ n + n′ + len a
+lengths-are : (σ : Store) (ss : List ℕ) → sumOf (map len (fetch σ ss)) ≡ sumOf (map (lengthOf σ) ss)
 unfolding sumOf
-work-is (of-const p q) k a = omega (arith, p, q)
-work-is {σ = σ} (of-toFlags {s = s} o q) k a = omega (arith, o .long, q, len-fetched (σ ! s .0))
-work-is {σ = σ} (of-usum {s = s} o q) k a = omega (arith, o .long, q, len-fetched (σ ! s .0))
-work-is {σ = σ} (of-mapTwoPlus {s = s} {t = t} o p) k a =
-    omega (arith, o .long, p .long, len-fetched (σ ! s .0), len-fetched (σ ! t .0))
-work-is {σ = σ} (of-scanPlus {s = s} {t = t} o p) k a =
-    omega (arith, o .long, p .long, len-fetched (σ ! s .0), len-fetched (σ ! t .0))
-work-is {σ = σ} (of-distr {s = s} {t = t} o p) k a =
-    omega (arith, o .long, p .long, len-fetched (σ ! s .0), len-fetched (σ ! t .0))
-work-is {σ = σ} (of-sumPlus {s = s} {t = t} o p) k a =
-    omega (arith, o .long, p .long, len-fetched (σ ! s .0), len-fetched (σ ! t .0))
+lengths-are σ [] = refl
+lengths-are σ (s ∷ ss) = omega (arith, len-fetched (σ ! s), lengths-are σ ss)
+
+pub work-is : {σ : Store} {t : Transducer} {w : Spans} → Spanned σ t w → (k : ℕ) (a : Stream)
+    → workOf k (fetch σ (operands t)) a ≡ w .first .length + w .second .length + len a
+work-is {σ = σ} {t = t} s k a = omega (arith, lengths-are σ (operands t), s .total)
 
 -- Usum makes no more units than it has flags
 pub countF-most : (bs : List Bool) → countF some bs ≤ length bs

@@ -1,17 +1,23 @@
-// One instruction of a run: it is made as a value of the instruction enum, with its streams' ids, and executed here over the stream buffer. What it
-// does to the machine is what specs/Walking.antt's `stepped` says.
+// One instruction of a run: its transducer, with its streams' ids, is executed here over the stream buffer. What it does to the machine is what
+// specs/Walking.antt's `stepped` says.
 ghost use mathlib.Core.Path.{_≡_};
 ghost use lib.ListN.{length};
 ghost use Rattle.snesl.specs.Streams.{Store};
-ghost use Rattle.snesl.specs.Transducers.{apply};
+ghost use Rattle.snesl.specs.Transducers.{apply, operands, signature};
 ghost use Rattle.snesl.specs.Machine.{State};
 ghost use Rattle.steps.specs.Walking.{stepped};
-ghost use Rattle.snesl.specs.declared.code.Transducer.{Transducer};
-ghost use Rattle.steps.specs.Holding.{Applies, Executable, Due, Performed, Transduced, Grows, grown, taking};
-use snesl::code::Instruction;
+ghost use Rattle.steps.specs.Holding.{Applies, Executable, Performable, Performed, Placed, positions, Spanned, Transduced, Grows, grown, taking};
+use snesl::code::Kind;
 use snesl::code::Transducer;
+use snesl::code::output_kind;
 use snesl::refusal::Refusal;
 use streams::Output;
+
+// Where the places of an instruction's operands stand on the stack of words, in their order. Those that its transducer doesn't have are not read.
+pub struct Operands {
+    pub first: usize,
+    pub second: usize,
+}
 
 // How long the stream is that an instruction made, or why the run stops at it.
 pub enum Executed {
@@ -19,52 +25,126 @@ pub enum Executed {
     Stopped(Refusal),
 }
 
-// The instruction over the buffer, at the first free element: one arm for each transducer.
-fn transduce(
-    t: Transducer,
-    at1: usize,
-    len1: usize,
-    at2: usize,
-    len2: usize,
-    n: usize,
-    out: usize,
-    buf: &mut [i32],
-) -> Output
-    requires { ⌜ ((σ : Store) × Applies t at1 len1 at2 len2 out (now buf) σ) ⌝ }
-    ensures { λ r. ⌜ ((σ : Store) → Applies t at1 len1 at2 len2 out (now (buf .entry)) σ → Transduced out (now (buf .entry)) (apply t n σ) r (now (buf .exit))) ⌝ }
+// Where a stream's elements stand in the stream buffer.
+pub struct Span {
+    pub start: usize,
+    pub length: usize,
+}
+
+pub struct Spans {
+    pub first: Span,
+    pub second: Span,
+}
+
+// How many operands a transducer has.
+fn arity(t: Transducer) -> usize
+    ensures { λ r. ⌜ r ≡ length (operands t) ⌝ }
 {
     match t {
+        Transducer::Const(_) => 0,
+        Transducer::ToFlags(_) => 1,
+        Transducer::Usum(_) => 1,
+        Transducer::MapTwoPlus(_, _) => 2,
+        Transducer::ScanPlus(_, _, _) => 2,
+        Transducer::Distr(_, _) => 2,
+        Transducer::SumPlus(_, _) => 2,
+    }
+}
+
+// The span of the first `count` operands' places; it is empty for the others.
+fn read_spans(t: Transducer, at: Operands, env: &[u32]) -> Spans
+    requires { ⌜ ((σ : Store) × Placed σ (now env) (signature t .inputs) (operands t) (positions at)) ⌝ }
+    ensures { λ r. ⌜ ((σ : Store) → Placed σ (now (env .entry)) (signature t .inputs) (operands t) (positions at) → Spanned σ t r) ⌝ }
+{
+    let none = Span {
+        start: 0,
+        length: 0,
+    };
+    let count = arity(t);
+    if count == 0 {
+        return Spans {
+            first: none,
+            second: none,
+        };
+    }
+    let first = Span {
+        start: env[at.first + 1] as usize,
+        length: env[at.first + 2] as usize,
+    };
+    if count == 1 {
+        return Spans {
+            first: first,
+            second: none,
+        };
+    }
+    Spans {
+        first: first,
+        second: Span {
+            start: env[at.second + 1] as usize,
+            length: env[at.second + 2] as usize,
+        },
+    }
+}
+
+// The instruction over the buffer, at the first free element: one arm for each transducer.
+fn transduce(t: Transducer, at: Spans, n: usize, out: usize, buf: &mut [i32]) -> Output
+    requires { ⌜ ((σ : Store) × Applies t at out (now buf) σ) ⌝ }
+    ensures { λ r. ⌜ ((σ : Store) → Applies t at out (now (buf .entry)) σ → Transduced out (now (buf .entry)) (apply t n σ) r (now (buf .exit))) ⌝ }
+{
+    let p = at.first;
+    let q = at.second;
+    match t {
         Transducer::Const(z) => streams::constant(buf, out, n, z),
-        Transducer::ToFlags(_) => itemwise::to_flags(buf, out, n, at1, len1),
-        Transducer::Usum(_) => streams::usum(buf, n, at1, len1),
-        Transducer::MapTwoPlus(_, _) => itemwise::map_two_plus(buf, out, n, at1, len1, at2, len2),
+        Transducer::ToFlags(_) => itemwise::to_flags(buf, out, n, p.start, p.length),
+        Transducer::Usum(_) => streams::usum(buf, n, p.start, p.length),
+        Transducer::MapTwoPlus(_, _) => itemwise::map_two_plus(
+            buf,
+            out,
+            n,
+            p.start,
+            p.length,
+            q.start,
+            q.length,
+        ),
         Transducer::ScanPlus(z, _, _) => segmentwise::scan_plus(
             buf,
             out,
             n,
             z,
-            at1,
-            len1,
-            at2,
-            len2,
+            p.start,
+            p.length,
+            q.start,
+            q.length,
         ),
-        Transducer::Distr(_, _) => segmentwise::distr(buf, out, n, at1, len1, at2, len2),
-        Transducer::SumPlus(_, _) => segmentwise::sum_plus(buf, out, n, at1, len1, at2, len2),
+        Transducer::Distr(_, _) => segmentwise::distr(
+            buf,
+            out,
+            n,
+            p.start,
+            p.length,
+            q.start,
+            q.length,
+        ),
+        Transducer::SumPlus(_, _) => segmentwise::sum_plus(
+            buf,
+            out,
+            n,
+            p.start,
+            p.length,
+            q.start,
+            q.length,
+        ),
     }
 }
 
-// How many elements of the buffer an output of so many elements takes: units take none.
-fn taken(t: Transducer, made: usize) -> usize
-    ensures { λ r. ⌜ r ≡ taking t made ⌝ }
+// How many elements of the buffer a stream of so many elements takes: units take none.
+fn taken(kind: Kind, made: usize) -> usize
+    ensures { λ r. ⌜ r ≡ taking kind made ⌝ }
 {
-    match t {
-        Transducer::Const(_) => made,
-        Transducer::ToFlags(_) => made,
-        Transducer::Usum(_) => 0,
-        Transducer::MapTwoPlus(_, _) => made,
-        Transducer::ScanPlus(_, _, _) => made,
-        Transducer::Distr(_, _) => made,
-        Transducer::SumPlus(_, _) => made,
+    match kind {
+        Kind::Ints => made,
+        Kind::Flags => made,
+        Kind::Units => 0,
     }
 }
 
@@ -84,26 +164,18 @@ fn advance(state: &mut [usize], room: usize, work: usize, steps: usize)
 }
 
 // Under an empty control nothing is executed or counted: the stream is empty.
-fn perform(
-    t: Transducer,
-    at1: usize,
-    len1: usize,
-    at2: usize,
-    len2: usize,
-    n: usize,
-    buf: &mut [i32],
-    state: &mut [usize],
-) -> Executed
-    requires { ⌜ ((m : State) × Executable t at1 len1 at2 len2 (now buf) (now state) m) ⌝ }
-    ensures { λ r. ⌜ ((m : State) → Executable t at1 len1 at2 len2 (now (buf .entry)) (now (state .entry)) m → Performed (stepped (length (now (buf .entry))) n t m) m (now (buf .entry)) (now (buf .exit)) (now (state .exit)) r) ⌝ }
+fn perform(t: Transducer, at: Spans, n: usize, buf: &mut [i32], state: &mut [usize]) -> Executed
+    requires { ⌜ ((m : State) × Performable t at (now buf) (now state) m) ⌝ }
+    ensures { λ r. ⌜ ((m : State) → Performable t at (now (buf .entry)) (now (state .entry)) m → Performed (stepped (length (now (buf .entry))) n t m) m (now (buf .entry)) (now (buf .exit)) (now (state .entry)) (now (state .exit)) r) ⌝ }
 {
     if n == 0 {
         advance(state, 0, 0, 0);
         return Executed::Made(0);
     }
-    match transduce(t, at1, len1, at2, len2, n, state[1], buf) {
+    match transduce(t, at, n, state[1], buf) {
         Output::Made(made) => {
-            advance(state, taken(t, made), len1 + len2 + made, 1);
+            let spent = at.first.length + at.second.length + made;
+            advance(state, taken(output_kind(t), made), spent, 1);
             Executed::Made(made)
         }
         Output::Unfit(_) => Executed::Stopped(Refusal::NoValue(state[0])),
@@ -113,23 +185,17 @@ fn perform(
     }
 }
 
-// The instruction that is due defines the next stream; a control is opened and closed by how many units the walk runs under, so none is executed here.
+// The definition of the next stream by t, whose operands have their places on the stack. A control is opened and closed by how many units the walk runs under.
 pub fn execute(
-    i: Instruction,
-    at1: usize,
-    len1: usize,
-    at2: usize,
-    len2: usize,
+    t: Transducer,
+    at: Operands,
     n: usize,
+    env: &[u32],
     buf: &mut [i32],
     state: &mut [usize],
 ) -> Executed
-    requires { ⌜ ((t : Transducer) × (m : State) × Due i t at1 len1 at2 len2 (now buf) (now state) m) ⌝ }
-    ensures { λ r. ⌜ ((t : Transducer) (m : State) → Due i t at1 len1 at2 len2 (now (buf .entry)) (now (state .entry)) m → Performed (stepped (length (now (buf .entry))) n t m) m (now (buf .entry)) (now (buf .exit)) (now (state .exit)) r) ⌝ }
+    requires { ⌜ ((m : State) × Executable t at (now env) (now buf) (now state) m) ⌝ }
+    ensures { λ r. ⌜ ((m : State) → Executable t at (now (env .entry)) (now (buf .entry)) (now (state .entry)) m → Performed (stepped (length (now (buf .entry))) n t m) m (now (buf .entry)) (now (buf .exit)) (now (state .entry)) (now (state .exit)) r) ⌝ }
 {
-    match i {
-        Instruction::Define(_, t) => perform(t, at1, len1, at2, len2, n, buf, state),
-        Instruction::WithCtrl(_) => Executed::Stopped(Refusal::NoValue(state[0])),
-        Instruction::Close => Executed::Stopped(Refusal::NoValue(state[0])),
-    }
+    perform(t, read_spans(t, at, env), n, buf, state)
 }

@@ -1,5 +1,7 @@
 -- Four reads and four stores.
+use lib.ListN.{length-set}
 use Rattle.steps.proofs.Counting.{advanced}
+use native.Mathlib.Omega.{arith}
 use borrow.Author.Needs.{needs}
 use Rattle.steps.proofs.advance.Statement.{statement}
 use Rattle.steps.proofs.advance.Tie as tie
@@ -26,19 +28,19 @@ add-state-2 : tie.Need-add-state-2
 add-state-2 c = search needs
 
 slice-write-state-2 : tie.Need-slice-write-state-2
-slice-write-state-2 c = search needs
+slice-write-state-2 c = simp length-set (omega (arith, c .before .before .before .before .pre .four))
 
 add-state-3 : tie.Need-add-state-3
 add-state-3 c = search needs
 
 slice-write-state-3 : tie.Need-slice-write-state-3
-slice-write-state-3 c = search needs
+slice-write-state-3 c = simp length-set (omega (arith, c .before .before .before .before .pre .four))
 
 add-state-4 : tie.Need-add-state-4
 add-state-4 c = search needs
 
 slice-write-state-4 : tie.Need-slice-write-state-4
-slice-write-state-4 c = search needs
+slice-write-state-4 c = simp length-set (omega (arith, c .before .before .before .before .pre .four))
 
 same-length : tie.Need-same-length
 same-length c = search needs

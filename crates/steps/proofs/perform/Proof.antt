@@ -1,10 +1,8 @@
 -- Under an empty control nothing is executed; else the transducer's answer settles what the machine does (proofs/Executing.antt).
-use mathlib.Core.Path.{_≡_}
-use Prim.Native.Nat.{ℕ}
-use borrow.Author.Needs.{needs}
 use native.Mathlib.Omega.{arith}
 use Rattle.laws.proofs.Never.{never}
-use Rattle.steps.proofs.Executing.{skipped-over, applies, performed-made, performed-none, room-for, costs, grows, four-words}
+use Rattle.steps.proofs.Executing.{skipped-over, applies, performed-made, performed-none, room-for, costs, grows, four-words, took}
+use borrow.Author.Needs.{needs}
 use Rattle.steps.proofs.perform.Statement.{statement}
 use Rattle.steps.proofs.perform.Tie as tie
 
@@ -26,41 +24,44 @@ transduce-requires c κs = (c .before .before .before .before .pre .0 .store, ap
 enum-known-made : tie.Need-enum-known-made
 enum-known-made c = search needs
 
+add-spent : tie.Need-add-spent
+add-spent c = omega (arith, costs (c .before .before .before .before .before .before .before .before .before .before .pre .1) (c .before .before .before .before .before .before .before .before .before .before .args .n) (c .before .before .before .before .before .transduce .ensures (c .before .before .before .before .before .before .before .before .before .before .pre .0 .store) (applies (c .before .before .before .before .before .before .before .before .before .before .pre .1))) (c .before .before .made .given .1))
+
+add-spent-2 : tie.Need-add-spent-2
+add-spent-2 c = omega (arith, costs (c .before .before .before .before .before .before .before .before .before .before .pre .1) (c .before .before .before .before .before .before .before .before .before .before .args .n) (c .before .before .before .before .before .transduce .ensures (c .before .before .before .before .before .before .before .before .before .before .pre .0 .store) (applies (c .before .before .before .before .before .before .before .before .before .before .pre .1))) (c .before .before .made .given .1))
+
+output-kind-requires : tie.Need-output-kind-requires
+output-kind-requires c κs = tt
+
 taken-requires : tie.Need-taken-requires
 taken-requires c κs = tt
 
-add-advance : tie.Need-add-advance
-add-advance c = omega (arith, costs (c .before .before .before .before .before .before .before .before .before .before .before .pre .1) (c .before .before .before .before .before .before .before .before .before .before .before .args .n) (c .before .before .before .before .before .before .transduce .ensures (c .before .before .before .before .before .before .before .before .before .before .before .pre .0 .store) (applies (c .before .before .before .before .before .before .before .before .before .before .before .pre .1))) (c .before .before .before .made .given .1))
-
-add-advance-2 : tie.Need-add-advance-2
-add-advance-2 c = omega (arith, costs (c .before .before .before .before .before .before .before .before .before .before .before .pre .1) (c .before .before .before .before .before .before .before .before .before .before .before .args .n) (c .before .before .before .before .before .before .transduce .ensures (c .before .before .before .before .before .before .before .before .before .before .before .pre .0 .store) (applies (c .before .before .before .before .before .before .before .before .before .before .before .pre .1))) (c .before .before .before .made .given .1))
-
 advance-requires-2 : tie.Need-advance-requires-2
-advance-requires-2 c κs = room-for (c .before .before .before .before .before .before .before .before .before .before .before .pre .1) (c .before .before .before .before .before .before .before .before .before .before .before .args .n) (c .before .before .before .before .before .before .transduce .ensures (c .before .before .before .before .before .before .before .before .before .before .before .pre .0 .store) (applies (c .before .before .before .before .before .before .before .before .before .before .before .pre .1))) _ (c .before .before .before .made .given .1) (c .taken .ensures)
+advance-requires-2 c κs = room-for (c .before .before .before .before .before .before .before .before .before .before .before .before .before .pre .1) (c .before .before .before .before .before .before .before .before .before .before .before .before .before .args .n) (c .before .before .before .before .before .before .before .before .transduce .ensures (c .before .before .before .before .before .before .before .before .before .before .before .before .before .pre .0 .store) (applies (c .before .before .before .before .before .before .before .before .before .before .before .before .before .pre .1))) _ (c .before .before .before .before .before .made .given .1) (took _ _ (c .taken .ensures) (c .before .output-kind .ensures))
 
 enum-told : tie.Need-enum-told
 enum-told c = search needs
 
-slice-read-t27 : tie.Need-slice-read-t27
-slice-read-t27 c = omega (arith, four-words (c .before .before .before .before .before .before .before .before .before .pre .1 .held))
+slice-read-t24 : tie.Need-slice-read-t24
+slice-read-t24 c = omega (arith, four-words (c .before .before .before .before .before .before .before .before .before .pre .1 .held))
 
 enum-told-2 : tie.Need-enum-told-2
 enum-told-2 c = search needs
 
-slice-read-t30 : tie.Need-slice-read-t30
-slice-read-t30 c = omega (arith, four-words (c .before .before .before .before .before .before .before .before .before .pre .1 .held))
+slice-read-t27 : tie.Need-slice-read-t27
+slice-read-t27 c = omega (arith, four-words (c .before .before .before .before .before .before .before .before .before .pre .1 .held))
 
 enum-told-3 : tie.Need-enum-told-3
 enum-told-3 c = search needs
 
-slice-read-t33 : tie.Need-slice-read-t33
-slice-read-t33 c = omega (arith, four-words (c .before .before .before .before .before .before .before .before .before .pre .1 .held))
+slice-read-t30 : tie.Need-slice-read-t30
+slice-read-t30 c = omega (arith, four-words (c .before .before .before .before .before .before .before .before .before .pre .1 .held))
 
 enum-told-4 : tie.Need-enum-told-4
 enum-told-4 c = search needs
 
-slice-read-t36 : tie.Need-slice-read-t36
-slice-read-t36 c = omega (arith, four-words (c .before .before .before .before .before .before .before .before .before .pre .1 .held))
+slice-read-t33 : tie.Need-slice-read-t33
+slice-read-t33 c = omega (arith, four-words (c .before .before .before .before .before .before .before .before .before .pre .1 .held))
 
 same-length-2 : tie.Need-same-length-2
 same-length-2 c = search needs
@@ -69,7 +70,7 @@ same-length-3 : tie.Need-same-length-3
 same-length-3 c = search needs
 
 returns-2 : tie.Need-returns-2
-returns-2 c = λ m x. performed-made x _ (c .before .before .before .before .before .before .before .before .before .transduce .ensures (m .store) (applies x)) (c .before .before .before .before .before .before .made .given .1) (omega (arith, c .before .before .before .before .before .before .before .before .before .before .before .before .if1 .left)) (c .before .before .before .taken .ensures) (c .before .before .advance2 .ensures)
+returns-2 c = λ m x. performed-made x _ (c .before .before .before .before .before .before .before .before .before .before .before .transduce .ensures (m .store) (applies x)) (c .before .before .before .before .before .before .before .before .made .given .1) (omega (arith, c .before .before .before .before .before .before .before .before .before .before .before .before .before .before .if1 .left)) (took _ _ (c .before .before .before .taken .ensures) (c .before .before .before .before .output-kind .ensures)) (c .before .before .advance2 .ensures)
 
 same-length-4 : tie.Need-same-length-4
 same-length-4 c = search needs
@@ -105,18 +106,19 @@ perform-spec =
     slice-read-transduce
     transduce-requires
     enum-known-made
+    add-spent
+    add-spent-2
+    output-kind-requires
     taken-requires
-    add-advance
-    add-advance-2
     advance-requires-2
     enum-told
-    slice-read-t27
+    slice-read-t24
     enum-told-2
-    slice-read-t30
+    slice-read-t27
     enum-told-3
-    slice-read-t33
+    slice-read-t30
     enum-told-4
-    slice-read-t36
+    slice-read-t33
     same-length-2
     same-length-3
     returns-2

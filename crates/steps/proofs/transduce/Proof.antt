@@ -1,9 +1,6 @@
 -- Each arm calls one transducer; proofs/Applying.antt says where its operands lie and what its answer means.
+use Rattle.steps.proofs.Applying.{room-left, to-flags-fits, usum-fits, map-two-plus-fits, scan-plus-fits, distr-fits, sum-plus-fits, constant-answers, to-flags-answers, usum-answers, map-two-plus-answers, scan-plus-answers, distr-answers, sum-plus-answers}
 use borrow.Author.Needs.{needs}
-use Rattle.steps.proofs.Applying.{room-left, to-flags-fits, usum-fits, map-two-plus-fits, scan-plus-fits, distr-fits, sum-plus-fits, constant-answers, to-flags-answers, usum-answers, map-two-plus-answers, scan-plus-answers, distr-answers, sum-plus-answers}
-use Rattle.steps.proofs.Applying.{room-left, to-flags-fits, usum-fits, map-two-plus-fits, scan-plus-fits, distr-fits, sum-plus-fits, constant-answers, to-flags-answers, usum-answers, map-two-plus-answers, scan-plus-answers, distr-answers, sum-plus-answers}
-use Rattle.steps.proofs.Applying.{room-left, to-flags-fits, usum-fits, map-two-plus-fits, scan-plus-fits, distr-fits, sum-plus-fits, constant-answers, to-flags-answers, usum-answers, map-two-plus-answers, scan-plus-answers, distr-answers, sum-plus-answers}
-use Rattle.steps.proofs.Applying.{room-left, to-flags-fits, usum-fits, map-two-plus-fits, scan-plus-fits, distr-fits, sum-plus-fits, constant-answers, to-flags-answers, usum-answers, map-two-plus-answers, scan-plus-answers, distr-answers, sum-plus-answers}
 use Rattle.steps.proofs.transduce.Statement.{statement}
 use Rattle.steps.proofs.transduce.Tie as tie
 
@@ -11,43 +8,43 @@ enum-known-t : tie.Need-enum-known-t
 enum-known-t c = search needs
 
 constant-requires : tie.Need-constant-requires
-constant-requires c κs = room-left (c .before .before .before .before .pre .1)
+constant-requires c κs = room-left (c .before .before .before .before .before .before .pre .1)
 
 enum-told : tie.Need-enum-told
 enum-told c = search needs
 
 to-flags-requires : tie.Need-to-flags-requires
-to-flags-requires c κs = to-flags-fits (c .before .before .before .pre .1) _ (c .before .enum-told .given .1)
+to-flags-requires c κs = to-flags-fits (c .before .before .before .before .before .pre .1) _ (c .before .enum-told .given .1)
 
 enum-told-2 : tie.Need-enum-told-2
 enum-told-2 c = search needs
 
 usum-requires : tie.Need-usum-requires
-usum-requires c κs = usum-fits (c .before .before .before .pre .1) _ (c .before .enum-told2 .given .1)
+usum-requires c κs = usum-fits (c .before .before .before .before .before .pre .1) _ (c .before .enum-told2 .given .1)
 
 enum-told-3 : tie.Need-enum-told-3
 enum-told-3 c = search needs
 
 map-two-plus-requires : tie.Need-map-two-plus-requires
-map-two-plus-requires c κs = map-two-plus-fits (c .before .before .before .pre .1) _ _ (c .before .enum-told3 .given .1)
+map-two-plus-requires c κs = map-two-plus-fits (c .before .before .before .before .before .pre .1) _ _ (c .before .enum-told3 .given .1)
 
 enum-known-t-2 : tie.Need-enum-known-t-2
 enum-known-t-2 c = search needs
 
 scan-plus-requires : tie.Need-scan-plus-requires
-scan-plus-requires c κs = scan-plus-fits (c .before .before .before .before .pre .1) _ _ _ (c .before .before .t2 .given .1)
+scan-plus-requires c κs = scan-plus-fits (c .before .before .before .before .before .before .pre .1) _ _ _ (c .before .before .t2 .given .1)
 
 enum-told-4 : tie.Need-enum-told-4
 enum-told-4 c = search needs
 
 distr-requires : tie.Need-distr-requires
-distr-requires c κs = distr-fits (c .before .before .before .pre .1) _ _ (c .before .enum-told4 .given .1)
+distr-requires c κs = distr-fits (c .before .before .before .before .before .pre .1) _ _ (c .before .enum-told4 .given .1)
 
 enum-told-5 : tie.Need-enum-told-5
 enum-told-5 c = search needs
 
 sum-plus-requires : tie.Need-sum-plus-requires
-sum-plus-requires c κs = sum-plus-fits (c .before .before .before .pre .1) _ _ (c .before .enum-told5 .given .1)
+sum-plus-requires c κs = sum-plus-fits (c .before .before .before .before .before .pre .1) _ _ (c .before .enum-told5 .given .1)
 
 same-length : tie.Need-same-length
 same-length c = search needs
