@@ -94,11 +94,12 @@ module _ {t : List ℕ} {k : ℕ} {env : List ℕ} {sp s : ℕ} (g : WholeReady 
           wide = record { room = λ e. omega arith };
         }
 
-    pub ready : Ready t k (suc mostNesting) sp env buf (start s) text
+    pub ready : Ready t k sp env buf (start s) text
     unfolding scene
     ready =
         record {
           scene = scene;
+          levels = suc mostNesting;
           depth = g .depth;
           term = g .term;
           next = g .next;
@@ -110,7 +111,7 @@ module _ {t : List ℕ} {k : ℕ} {env : List ℕ} {sp s : ℕ} (g : WholeReady 
 
     -- what the walk has left
     module _ {env₁ : List ℕ} {buf₁ : List ℤ} {state₁ text₁ : List ℕ} {r : Walked}
-        (F : (h : Ready t k (suc mostNesting) sp env buf (start s) text) → Runs (h .scene) (h .term) 0 (h .next) env₁ buf₁ state₁ text₁ r) where
+        (F : (h : Ready t k sp env buf (start s) text) → Runs (h .scene) (h .term) 0 (h .next) env₁ buf₁ state₁ text₁ r) where
       ran : Runs (ready .scene) (ready .term) 0 (ready .next) env₁ buf₁ state₁ text₁ r
       ran = F ready
 

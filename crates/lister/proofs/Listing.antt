@@ -37,7 +37,7 @@ use Rattle.checking.proofs.Entering.{few}
 use Rattle.environment.specs.Words.{spelled}
 use Rattle.sink.specs.Sinks.{far}
 use Rattle.leaves.specs.Places.{Shallow, shallow-none, shallow-more, Shaped, shaped-none}
-use Rattle.runner.proofs.Measures.{spans, shallow-type}
+use Rattle.runner.proofs.Measures.{spans, shallow-type, words-most}
 use Rattle.lister.specs.declared.inputs.Inputs.{Inputs}
 use Rattle.lister.specs.declared.list.Listed.{Listed}
 use Rattle.lister.specs.declared.list.Listed.the-variants.{Length, Refused}
@@ -195,7 +195,7 @@ module _ {t : List ℕ} {inputs k : ℕ} (g : Found t inputs k) where
           shaped = inputs-shaped [] ∅ shaped-none 0 refl (depths (g .all));
           shallow = shallow;
           within = omega (arith, entered .within, long, long₂);
-          space = omega (arith, entered .room, number-few);
+          space = omega (arith, words-most (formed .formed) shallow, entered .room, number-few);
           small = omega (arith, long, long₂);
           short = formed .short;
           few =

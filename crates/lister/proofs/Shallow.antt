@@ -1,7 +1,7 @@
 -- A comprehension's body sees types within the limit, and its using list is short.
 use Prim.Native.Nat.{ℕ, suc, _+_, _≤_}
 use native.Mathlib.Omega.{arith}
-use mathlib.Core.List.{List, [], _∷_}
+use mathlib.Core.List.{List, _∷_}
 use mathlib.Core.Path.{_≡_, sym, ap}
 use lib.ListN.{length}
 use Rattle.snesl.specs.declared.code.Variable.{Variable}
@@ -11,15 +11,12 @@ use Rattle.snesl.specs.Records.{headAt, eaching}
 use Rattle.records.specs.declared.head.Head.the-variants.{Each}
 use Rattle.records.specs.Heads.{headOf}
 use Rattle.records.proofs.Heads.{told}
-use Rattle.leaves.specs.Places.{Shallow, shallow-none, shallow-more}
+use Rattle.leaves.specs.Places.{Shallow, shallow-more}
 use Rattle.leaves.proofs.Places.{lookup-shallow}
-
-shallow-listed : {Γ : List ℕ} (us : List (Γ ∋ 0)) → Shallow (listedTypes us)
-shallow-listed [] = shallow-none
-shallow-listed (u ∷ us) = shallow-more {d = 0} (omega arith) (shallow-listed us)
+use Rattle.runner.proofs.Measures.{ints-shallow}
 
 pub shallow-body : {c : ℕ} {Γ : List ℕ} → Γ ∋ suc c → (us : List (Γ ∋ 0)) → Shallow Γ → Shallow (c ∷ listedTypes us)
-shallow-body {c} v us s = shallow-more {d = c} (let h = lookup-shallow v s in omega arith) (shallow-listed us)
+shallow-body {c} v us s = shallow-more {d = c} (let h = lookup-shallow v s in omega arith) (ints-shallow us)
 
 -- an EA's using list
 pub record Using (us : List Variable) (b : ℕ) : Type 0 where

@@ -16,14 +16,13 @@ use Rattle.environment.specs.Words.{treeWords, treeSize}
 use Rattle.environment.proofs.Finding.{length-tree}
 use Rattle.environment.proofs.Stack.{front-is, rest-is}
 use Rattle.sink.specs.Trees.{TreeAt}
-use Rattle.leaves.specs.Places.{Shallow}
-use Rattle.runner.proofs.Measures.{shallow-type}
+use Rattle.runner.proofs.Measures.{words-hold}
 use Rattle.lister.specs.declared.list.Lines.{Lines}
 use Rattle.lister.specs.Lists.{WholeReady, Lined, wholeText}
 
 module _ {t : List ℕ} {k : ℕ} {env : List ℕ} {sp s : ℕ} (g : WholeReady t k env sp s) where
   deep : 3 * g .depth + 3 ≤ sp
-  deep = let d = shallow-type (g .formed) (g .shallow) in omega (arith, g .space)
+  deep = omega (arith, words-hold (g .term), g .space)
 
   module _ {env₁ text text₁ : List ℕ} {r : Lines} (F : (h : WholeReady t k env sp s) → Lined h env₁ text text₁ r) (long₁ : length env₁ ≡ length env) where
     abbrev st : Tree ℕ (g .depth)

@@ -16,10 +16,11 @@ use Rattle.snesl.specs.Listing as listing
 use Rattle.snesl.specs.Listing.{linesOf, resultLine}
 use Rattle.decimals.specs.Writing.{Writes}
 use Rattle.environment.specs.Words.{spelled, treeWords, treeSize}
+use Rattle.environment.specs.Needs.{words}
 use Rattle.sink.specs.Sinks.{far}
 use Rattle.sink.specs.Trees.{Placing}
 use Rattle.steps.specs.Holding.{mostStreams}
-use Rattle.leaves.specs.Places.{Shaped, Shallow, wordsFor}
+use Rattle.leaves.specs.Places.{Shaped, Shallow}
 use Rattle.lister.specs.Inputs.{placesIn}
 use Rattle.lister.specs.declared.list.Lines.{Lines}
 use Rattle.lister.specs.declared.list.Listed.{Listed}
@@ -49,7 +50,7 @@ pub record WholeReady (t : List ℕ) (k : ℕ) (env : List ℕ) (sp s : ℕ) : T
   pub shaped : Shaped store context trees
   pub shallow : Shallow context
   pub within : sp ≤ length env
-  pub space : wordsFor (suc mostNesting) ≤ sp
+  pub space : words term ≤ sp
   pub small : length env ≤ 65536
   pub short : length t ≤ mostBytes
   pub few : s + 2 * (length t - k) ≤ mostStreams

@@ -54,17 +54,7 @@ fn put_lines(
     let mut state = [0usize; COUNTERS];
     state[0] = id;
     state[MODE] = LISTING;
-    match walk(
-        bytes,
-        k,
-        Formula::NESTING + 1,
-        0,
-        sp,
-        env,
-        &mut none,
-        &mut state,
-        text,
-    ) {
+    match walk(bytes, k, 0, sp, env, &mut none, &mut state, text) {
         Walked::Tree(depth, _) => Lines {
             depth: depth,
             at: state[AT],
