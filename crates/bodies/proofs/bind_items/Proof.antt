@@ -20,7 +20,17 @@ move-words-requires : tie.Need-move-words-requires
 move-words-requires c κs = (c .before .before .pre .3, omega (arith, c .before .before .pre .1, c .before .before .pre .2, c .before .before .pre .3), inr (omega (arith, c .before .before .pre .1, c .before .before .pre .2)))
 
 bind-tree-requires : tie.Need-bind-tree-requires
-bind-tree-requires c κs = (c .before .before .before .before .before .before .pre .0, c .before .before .before .before .before .before .pre .1, omega (arith, c .before .before .before .move-words .kept .0, c .before .before .before .before .before .before .pre .2, c .before .before .before .before .before .before .pre .3))
+bind-tree-requires c κs = (
+  c .before .before .before .before .before .before .pre .0,
+  c .before .before .before .before .before .before .pre .1,
+  omega (
+    arith,
+    c .before .before .before .move-words
+        .kept .0,
+    c .before .before .before .before .before .before .pre .2,
+    c .before .before .before .before .before .before .pre .3,
+  ),
+)
 
 same-length : tie.Need-same-length
 same-length c = search needs

@@ -16,7 +16,14 @@ enum-known-made : tie.Need-enum-known-made
 enum-known-made c = search needs
 
 tell-requires : tie.Need-tell-requires
-tell-requires c κs = (c .before .before .before .before .before .before .before .before .before .before .before .before .before .before .before .pre .1, tellable (c .before .before .before .before .before .before .before .before .before .before .before .before .before .before .before .pre .2) _ (c .before .before .before .before .before .before .before .before .execute .ensures (c .before .before .before .before .before .before .before .before .before .before .before .before .before .before .before .pre .0) (c .before .before .before .before .before .before .before .before .before .before .before .before .before .before .before .pre .2 .executable)) (c .before .before .before .before .before .before .before .before .execute .kept .1 .1 .1 .1 .1 .0) (c .before .before .before .made .given .1))
+tell-requires c κs = (
+  c .before .before .before .before .before .before .before .before .before .before .before .before .before .before .before .pre .1,
+  tellable (c .before .before .before .before
+      .before .before .before .before .before .before .before .before .before .before .before .pre .2) _ (c .before .before .before .before .before .before .before .before .execute .ensures (c .before
+      .before .before .before .before .before .before .before .before .before .before .before .before .before .before .pre .0) (c .before .before .before .before .before .before .before .before .before
+      .before .before .before .before .before .before .pre .2 .executable)) (c .before .before .before .before .before .before .before .before .execute .kept .1 .1 .1 .1 .1 .0) (c .before .before
+      .before .made .given .1),
+)
 
 enum-known-r : tie.Need-enum-known-r
 enum-known-r c = search needs
@@ -31,7 +38,10 @@ same-length-3 : tie.Need-same-length-3
 same-length-3 c = search needs
 
 returns : tie.Need-returns
-returns c = λ m k g. let p = c .before .before .before .before .before .before .before .before .before .before .before .before .before .execute .ensures m (g .executable) in make-made g _ p (c .before .before .before .before .before .before .before .before .before .before .before .before .before .execute .kept .1 .1 .1 .1 .1 .0) (c .before .before .before .before .before .before .before .before .made .given .1) (c .before .before .before .before .tell .ensures k (tellable g _ p (c .before .before .before .before .before .before .before .before .before .before .before .before .before .execute .kept .1 .1 .1 .1 .1 .0) (c .before .before .before .before .before .before .before .before .made .given .1)))
+returns c = λ m k g. let p = c .before .before .before .before .before .before .before .before .before .before .before .before .before .execute .ensures m (g .executable) in make-made g _ p (c .before
+    .before .before .before .before .before .before .before .before .before .before .before .before .execute .kept .1 .1 .1 .1 .1 .0) (c .before .before .before .before .before .before .before .before
+    .made .given .1) (c .before .before .before .before .tell .ensures k (tellable g _ p (c .before .before .before .before .before .before .before .before .before .before .before .before .before
+    .execute .kept .1 .1 .1 .1 .1 .0) (c .before .before .before .before .before .before .before .before .made .given .1)))
 
 same-length-4 : tie.Need-same-length-4
 same-length-4 c = search needs

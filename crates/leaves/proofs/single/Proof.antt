@@ -11,13 +11,41 @@ choose-requires : tie.Need-choose-requires
 choose-requires c κs = (_, _, _, _, c .before .before .before .before .before .before .pre, (c .before .locate .ensures _ _ _ (c .before .before .before .before .before .before .pre)))
 
 make-requires : tie.Need-make-requires
-make-requires c κs = (_, _, sole-ready (c .before .before .before .before .before .before .before .before .before .before .before .pre) (c .before .before .before .before .before .before .locate .ensures _ _ _ (c .before .before .before .before .before .before .before .before .before .before .before .pre)) (c .before .before .before .before .choose .ensures _ _ _ _ (c .before .before .before .before .before .before .before .before .before .before .before .pre) (c .before .before .before .before .before .before .locate .ensures _ _ _ (c .before .before .before .before .before .before .before .before .before .before .before .pre))))
+make-requires c κs = (
+  _,
+  _,
+  sole-ready (c .before .before .before .before .before .before .before .before .before .before .before .pre) (c .before .before .before .before .before .before .locate
+      .ensures _ _ _ (c .before .before .before .before .before .before .before .before .before .before .before .pre)) (c .before .before .before .before .choose .ensures _ _ _ _ (c .before .before
+      .before .before .before .before .before .before .before .before .before .pre) (c .before .before .before .before .before .before .locate .ensures _ _ _ (c .before .before .before .before .before
+      .before .before .before .before .before .before .pre))),
+)
 
 enum-known-made : tie.Need-enum-known-made
 enum-known-made c = search needs
 
 push-requires : tie.Need-push-requires
-push-requires c κs = let q = single-push (c .before .before .before .before .before .before .before .before .before .before .before .before .before .before .before .before .before .before .before .before .before .before .pre) _ (c .before .before .before .before .before .before .before .before .before .before .before .before .before .before .before .choose .ensures _ _ _ _ (c .before .before .before .before .before .before .before .before .before .before .before .before .before .before .before .before .before .before .before .before .before .before .pre) (c .before .before .before .before .before .before .before .before .before .before .before .before .before .before .before .before .before .locate .ensures _ _ _ (c .before .before .before .before .before .before .before .before .before .before .before .before .before .before .before .before .before .before .before .before .before .before .pre))) (c .before .before .before .before .before .before .before .before .before .before .make .ensures _ _ (sole-ready (c .before .before .before .before .before .before .before .before .before .before .before .before .before .before .before .before .before .before .before .before .before .before .pre) (c .before .before .before .before .before .before .before .before .before .before .before .before .before .before .before .before .before .locate .ensures _ _ _ (c .before .before .before .before .before .before .before .before .before .before .before .before .before .before .before .before .before .before .before .before .before .before .pre)) (c .before .before .before .before .before .before .before .before .before .before .before .before .before .before .before .choose .ensures _ _ _ _ (c .before .before .before .before .before .before .before .before .before .before .before .before .before .before .before .before .before .before .before .before .before .before .pre) (c .before .before .before .before .before .before .before .before .before .before .before .before .before .before .before .before .before .locate .ensures _ _ _ (c .before .before .before .before .before .before .before .before .before .before .before .before .before .before .before .before .before .before .before .before .before .before .pre))))) (c .before .before .before .made .given .1) in (c .before .before .before .before .before .before .before .before .before .before .before .before .before .before .before .before .before .before .before .before .before .before .pre .low, c .before .before .before .before .before .before .before .before .before .before .before .before .before .before .before .before .before .before .before .before .before .before .pre .scene .within, q .0, q .1, q .2, q .3, q .4)
+push-requires c κs = let q = single-push (c .before .before .before .before .before .before .before .before .before .before .before .before .before .before .before .before .before .before .before
+    .before .before .before .pre) _ (c .before .before .before .before .before .before .before .before .before .before .before .before .before .before .before .choose .ensures _ _ _ _ (c .before
+    .before .before .before .before .before .before .before .before .before .before .before .before .before .before .before .before .before .before .before .before .before .pre) (c .before .before
+    .before .before .before .before .before .before .before .before .before .before .before .before .before .before .before .locate .ensures _ _ _ (c .before .before .before .before .before .before
+    .before .before .before .before .before .before .before .before .before .before .before .before .before .before .before .before .pre))) (c .before .before .before .before .before .before .before
+    .before .before .before .make .ensures _ _ (sole-ready (c .before .before .before .before .before .before .before .before .before .before .before .before .before .before .before .before .before
+    .before .before .before .before .before .pre) (c .before .before .before .before .before .before .before .before .before .before .before .before .before .before .before .before .before .locate
+    .ensures _ _ _ (c .before .before .before .before .before .before .before .before .before .before .before .before .before .before .before .before .before .before .before .before .before .before
+    .pre)) (c .before .before .before .before .before .before .before .before .before .before .before .before .before .before .before .choose .ensures _ _ _ _ (c .before .before .before .before
+    .before .before .before .before .before .before .before .before .before .before .before .before .before .before .before .before .before .before .pre) (c .before .before .before .before .before
+    .before .before .before .before .before .before .before .before .before .before .before .before .locate .ensures _ _ _ (c .before .before .before .before .before .before .before .before .before
+    .before .before .before .before .before .before .before .before .before .before .before .before .before .pre))))) (c .before .before .before .made .given .1) in (
+      c .before .before .before .before
+          .before .before .before .before .before .before .before .before .before .before .before .before .before .before .before .before .before .before .pre .low,
+      c .before .before .before .before .before
+          .before .before .before .before .before .before .before .before .before .before .before .before .before .before .before .before .before .pre .scene .within,
+      q .0,
+      q .1,
+      q .2,
+      q .3,
+      q .4,
+    )
 
 enum-known-r : tie.Need-enum-known-r
 enum-known-r c = search needs
@@ -35,7 +63,13 @@ same-length-4 : tie.Need-same-length-4
 same-length-4 c = search needs
 
 returns : tie.Need-returns
-returns c = λ g. single-made g _ (c .before .before .before .before .before .before .before .before .before .before .before .before .before .before .before .before .before .before .choose .ensures _ _ _ _ g (c .before .before .before .before .before .before .before .before .before .before .before .before .before .before .before .before .before .before .before .before .locate .ensures _ _ _ g)) (c .before .before .before .before .before .before .before .before .before .before .before .before .before .make .ensures _ _ (sole-ready g (c .before .before .before .before .before .before .before .before .before .before .before .before .before .before .before .before .before .before .before .before .locate .ensures _ _ _ g) (c .before .before .before .before .before .before .before .before .before .before .before .before .before .before .before .before .before .before .choose .ensures _ _ _ _ g (c .before .before .before .before .before .before .before .before .before .before .before .before .before .before .before .before .before .before .before .before .locate .ensures _ _ _ g)))) (c .before .before .before .before .before .before .made .given .1) _ (c .before .before .push .ensures)
+returns c = λ g. single-made g _ (c .before .before .before .before .before .before .before .before .before .before .before .before .before .before .before .before .before .before .choose .ensures _ _
+    _ _ g (c .before .before .before .before .before .before .before .before .before .before .before .before .before .before .before .before .before .before .before .before .locate .ensures _ _ _ g))
+    (c .before .before .before .before .before .before .before .before .before .before .before .before .before .make .ensures _ _ (sole-ready g (c .before .before .before .before .before .before
+    .before .before .before .before .before .before .before .before .before .before .before .before .before .before .locate .ensures _ _ _ g) (c .before .before .before .before .before .before .before
+    .before .before .before .before .before .before .before .before .before .before .before .choose .ensures _ _ _ _ g (c .before .before .before .before .before .before .before .before .before
+    .before .before .before .before .before .before .before .before .before .before .before .locate .ensures _ _ _ g)))) (c .before .before .before .before .before .before .made .given .1) _ (c
+    .before .before .push .ensures)
 
 same-length-5 : tie.Need-same-length-5
 same-length-5 c = search needs
@@ -50,7 +84,11 @@ same-length-8 : tie.Need-same-length-8
 same-length-8 c = search needs
 
 returns-2 : tie.Need-returns-2
-returns-2 c = λ g. single-stopped g _ (c .before .before .before .before .before .before .before .before .before .before .before .before .before .choose .ensures _ _ _ _ g (c .before .before .before .before .before .before .before .before .before .before .before .before .before .before .before .locate .ensures _ _ _ g)) (c .before .before .before .before .before .before .before .before .make .ensures _ _ (sole-ready g (c .before .before .before .before .before .before .before .before .before .before .before .before .before .before .before .locate .ensures _ _ _ g) (c .before .before .before .before .before .before .before .before .before .before .before .before .before .choose .ensures _ _ _ _ g (c .before .before .before .before .before .before .before .before .before .before .before .before .before .before .before .locate .ensures _ _ _ g)))) _ (c .before .r .given .1)
+returns-2 c = λ g. single-stopped g _ (c .before .before .before .before .before .before .before .before .before .before .before .before .before .choose .ensures _ _ _ _ g (c .before .before .before
+    .before .before .before .before .before .before .before .before .before .before .before .before .locate .ensures _ _ _ g)) (c .before .before .before .before .before .before .before .before .make
+    .ensures _ _ (sole-ready g (c .before .before .before .before .before .before .before .before .before .before .before .before .before .before .before .locate .ensures _ _ _ g) (c .before .before
+    .before .before .before .before .before .before .before .before .before .before .before .choose .ensures _ _ _ _ g (c .before .before .before .before .before .before .before .before .before
+    .before .before .before .before .before .before .locate .ensures _ _ _ g)))) _ (c .before .r .given .1)
 
 pub single-spec : {M : Type 1} → statement M
 single-spec =

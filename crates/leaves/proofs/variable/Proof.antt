@@ -35,13 +35,39 @@ sub-move-words : tie.Need-sub-move-words
 sub-move-words c = omega (arith, (c .before .before .find .ensures (c .before .before .before .before .before .pre .0 .0)) .depth, c .before .before .before .before .before .pre .0 .1, c .before .before .before .before .before .pre .0 .2)
 
 move-words-requires : tie.Need-move-words-requires
-move-words-requires c κs = (variable-fits (c .before .before .before .before .before .pre .0 .0) (c .before .before .find .ensures (c .before .before .before .before .before .pre .0 .0)), omega (arith, (c .before .before .find .ensures (c .before .before .before .before .before .pre .0 .0)) .depth, c .before .before .before .before .before .pre .0 .1, c .before .before .before .before .before .pre .0 .2, c .before .before .before .before .before .pre .1), inr (omega (arith, (c .before .before .find .ensures (c .before .before .before .before .before .pre .0 .0)) .depth, c .before .before .before .before .before .pre .0 .1, c .before .before .before .before .before .pre .0 .2, (c .before .before .find .ensures (c .before .before .before .before .before .pre .0 .0)) .above)))
+move-words-requires c κs = (
+  variable-fits (c .before .before .before .before .before .pre .0 .0) (c .before .before .find .ensures (c .before .before .before .before .before .pre .0 .0)),
+  omega (
+    arith,
+    (c .before .before .find .ensures (c .before .before .before .before .before .pre .0 .0)) .depth,
+    c .before .before .before .before .before .pre .0 .1,
+    c .before .before .before .before
+        .before .pre .0 .2,
+    c .before .before .before .before .before .pre .1,
+  ),
+  inr (omega (
+    arith,
+    (c .before .before .find .ensures (c .before .before .before .before .before .pre .0 .0)) .depth,
+    c
+        .before .before .before .before .before .pre .0 .1,
+    c .before .before .before .before .before .pre .0 .2,
+    (c .before .before .find .ensures (c .before .before .before .before .before .pre .0 .0))
+        .above,
+  )),
+)
 
 same-length : tie.Need-same-length
 same-length c = search needs
 
 returns : tie.Need-returns
-returns c = λ g. variable-words g (c .before .before .before .before .before .find .ensures g) _ _ (omega (arith, (c .before .before .before .before .before .find .ensures (c .before .before .before .before .before .before .before .before .pre .0 .0)) .depth, c .before .before .before .before .before .before .before .before .pre .0 .1, c .before .before .before .before .before .before .before .before .pre .0 .2)) (c .before .before .before .before .before .before .before .before .pre .1) (c .before .before .move-words .ensures)
+returns c = λ g. variable-words g (c .before .before .before .before .before .find .ensures g) _ _ (omega (
+  arith,
+  (c .before .before .before .before .before .find .ensures (c .before .before .before
+      .before .before .before .before .before .pre .0 .0)) .depth,
+  c .before .before .before .before .before .before .before .before .pre .0 .1,
+  c .before .before .before .before .before .before .before
+      .before .pre .0 .2,
+)) (c .before .before .before .before .before .before .before .before .pre .1) (c .before .before .move-words .ensures)
 
 pub variable-spec : {M : Type 1} → statement M
 variable-spec =

@@ -128,7 +128,15 @@ binding-add-walk : (t : ℕ) → binding-lts.Need-add-walk (binding-callees t) (
 binding-add-walk t c = omega (arith, lets.let-bytes (c .before .before .before .before .pre .1))
 
 binding-walk-requires : (t : ℕ) → binding-lts.Need-walk-requires (binding-callees t) (binding-at t) binding.Post
-binding-walk-requires t c κs = (omega (arith, c .before .before .before .before .before .before .before .before .pre .0, lets.let-bytes (c .before .before .before .before .before .before .before .before .pre .1)), bound-ready (c .before .before .before .before .before .before .before .before .pre .1))
+binding-walk-requires t c κs = (
+  omega (
+    arith,
+    c .before .before .before .before .before .before .before .before .pre .0,
+    lets.let-bytes (c .before .before .before .before .before .before .before
+        .before .pre .1),
+  ),
+  bound-ready (c .before .before .before .before .before .before .before .before .pre .1),
+)
 
 binding-enum-known-depth : (t : ℕ) → binding-lts.Need-enum-known-depth (binding-callees t) (binding-at t) binding.Post
 binding-enum-known-depth t c = search needs
@@ -140,16 +148,64 @@ binding-shared-slice-read-t31 : (t : ℕ) → binding-lts.Need-shared-slice-read
 binding-shared-slice-read-t31 t c = omega (arith, lets.let-bytes (c .before .before .before .before .before .before .before .before .before .before .before .before .before .before .before .before .before .before .before .before .before .pre .1))
 
 binding-bind-tree-requires : (t : ℕ) → binding-lts.Need-bind-tree-requires (binding-callees t) (binding-at t) binding.Post
-binding-bind-tree-requires t c κs = lets.bind-fits (c .before .before .before .before .before .before .before .before .before .before .before .before .before .before .before .before .before .before .before .before .before .pre .1) (c .before .before .before .before .before .before .before .before .before .before .before .before .before .before .before .before .before .before .before .before .before .args .n) (c .before .before .before .before .before .before .before .before .before .before .before .before .walk .ensures (bound-ready (c .before .before .before .before .before .before .before .before .before .before .before .before .before .before .before .before .before .before .before .before .before .pre .1))) (c .before .before .before .depth .given .1) (c .before .before .before .before .before .before .before .before .before .before .before .before .walk .kept .1 .1 .1 .1 .0)
+binding-bind-tree-requires t c κs = lets.bind-fits (c .before .before .before .before .before .before .before .before .before .before .before .before .before .before .before .before .before .before
+    .before .before .before .pre .1) (c .before .before .before .before .before .before .before .before .before .before .before .before .before .before .before .before .before .before .before .before
+    .before .args .n) (c .before .before .before .before .before .before .before .before .before .before .before .before .walk .ensures (bound-ready (c .before .before .before .before .before .before
+    .before .before .before .before .before .before .before .before .before .before .before .before .before .before .before .pre .1))) (c .before .before .before .depth .given .1) (c .before .before
+    .before .before .before .before .before .before .before .before .before .before .walk .kept .1 .1 .1 .1 .0)
 
 binding-walk-requires-2 : (t : ℕ) → binding-lts.Need-walk-requires-2 (binding-callees t) (binding-at t) binding.Post
-binding-walk-requires-2 t c κs = (omega (arith, c .before .before .before .before .before .before .before .before .before .before .before .before .before .before .before .before .before .before .before .before .before .before .before .before .before .before .before .before .pre .0, lets.second-later (c .before .before .before .before .before .before .before .before .before .before .before .before .before .before .before .before .before .before .before .before .before .before .before .before .before .before .before .before .pre .1) (c .before .before .before .before .before .before .before .before .before .before .before .before .before .before .before .before .before .before .before .before .before .before .before .before .before .before .before .before .args .n) (c .before .before .before .before .before .before .before .before .before .before .before .before .before .before .before .before .before .before .before .walk .ensures (bound-ready (c .before .before .before .before .before .before .before .before .before .before .before .before .before .before .before .before .before .before .before .before .before .before .before .before .before .before .before .before .pre .1))) (c .before .before .before .before .before .before .before .before .before .before .depth .given .1)), (second-ready (c .before .before .before .before .before .before .before .before .before .before .before .before .before .before .before .before .before .before .before .before .before .before .before .before .before .before .before .before .pre .1) (c .before .before .before .before .before .before .before .before .before .before .before .before .before .before .before .before .before .before .before .before .before .before .before .before .before .before .before .before .args .n) (c .before .before .before .before .before .before .before .before .before .before .before .before .before .before .before .before .before .before .before .walk .ensures (bound-ready (c .before .before .before .before .before .before .before .before .before .before .before .before .before .before .before .before .before .before .before .before .before .before .before .before .before .before .before .before .pre .1))) (c .before .before .before .before .before .before .before .before .before .before .depth .given .1) (c .before .before .before .before .before .before .bind-tree .ensures .0) (c .before .before .before .before .before .before .bind-tree .ensures .1) (c .before .before .before .before .before .before .before .before .before .before .before .before .before .before .before .before .before .before .before .walk .kept .1 .1 .1 .1 .0)))
+binding-walk-requires-2 t c κs = (
+  omega (
+    arith,
+    c .before .before .before .before .before .before .before .before .before .before .before .before .before .before .before .before .before .before
+        .before .before .before .before .before .before .before .before .before .before .pre .0,
+    lets.second-later (c .before .before .before .before .before .before .before .before .before .before
+        .before .before .before .before .before .before .before .before .before .before .before .before .before .before .before .before .before .before .pre .1) (c .before .before .before .before .before
+        .before .before .before .before .before .before .before .before .before .before .before .before .before .before .before .before .before .before .before .before .before .before .before .args .n) (c
+        .before .before .before .before .before .before .before .before .before .before .before .before .before .before .before .before .before .before .before .walk .ensures (bound-ready (c .before
+        .before .before .before .before .before .before .before .before .before .before .before .before .before .before .before .before .before .before .before .before .before .before .before .before
+        .before .before .before .pre .1))) (c .before .before .before .before .before .before .before .before .before .before .depth .given .1),
+  ),
+  (second-ready (c .before .before .before .before .before
+      .before .before .before .before .before .before .before .before .before .before .before .before .before .before .before .before .before .before .before .before .before .before .before .pre .1) (c
+      .before .before .before .before .before .before .before .before .before .before .before .before .before .before .before .before .before .before .before .before .before .before .before .before
+      .before .before .before .before .args .n) (c .before .before .before .before .before .before .before .before .before .before .before .before .before .before .before .before .before .before .before
+      .walk .ensures (bound-ready (c .before .before .before .before .before .before .before .before .before .before .before .before .before .before .before .before .before .before .before .before
+      .before .before .before .before .before .before .before .before .pre .1))) (c .before .before .before .before .before .before .before .before .before .before .depth .given .1) (c .before .before
+      .before .before .before .before .bind-tree .ensures .0) (c .before .before .before .before .before .before .bind-tree .ensures .1) (c .before .before .before .before .before .before .before
+      .before .before .before .before .before .before .before .before .before .before .before .before .walk .kept .1 .1 .1 .1 .0)),
+)
 
 binding-enum-known-d : (t : ℕ) → binding-lts.Need-enum-known-d (binding-callees t) (binding-at t) binding.Post
 binding-enum-known-d t c = search needs
 
 binding-lift-tree-requires : (t : ℕ) → binding-lts.Need-lift-tree-requires (binding-callees t) (binding-at t) binding.Post
-binding-lift-tree-requires t c κs = lets.lift-fits (c .before .before .before .before .before .before .before .before .before .before .before .before .before .before .before .before .before .before .before .before .before .before .before .before .before .before .before .before .before .before .before .before .before .before .before .before .before .before .before .before .pre .1) (c .before .before .before .before .before .before .before .before .before .before .before .before .before .before .before .before .before .before .before .before .before .before .before .before .before .before .before .before .before .before .before .before .before .before .before .before .before .before .before .before .args .n) (c .before .before .before .before .before .before .before .before .before .before .before .before .before .before .before .before .before .before .before .before .before .before .before .before .before .before .before .before .before .before .before .walk .ensures (bound-ready (c .before .before .before .before .before .before .before .before .before .before .before .before .before .before .before .before .before .before .before .before .before .before .before .before .before .before .before .before .before .before .before .before .before .before .before .before .before .before .before .before .pre .1))) (c .before .before .before .before .before .before .before .before .before .before .before .before .before .before .before .before .before .before .before .before .before .before .depth .given .1) (c .before .before .before .before .before .before .before .before .before .before .before .before .before .before .before .before .before .before .bind-tree .ensures .0) (c .before .before .before .before .before .before .before .before .before .before .before .before .before .before .before .before .before .before .bind-tree .ensures .1) (c .before .before .before .before .before .before .before .before .before .before .before .before .before .before .before .before .before .before .before .before .before .before .before .before .before .before .before .before .before .before .before .walk .kept .1 .1 .1 .1 .0) (c .before .before .before .before .before .before .before .before .before .before .before .before .before .before .before .before .before .before .before .before .before .before .before .before .before .before .before .before .before .before .before .walk .kept .1 .1 .1 .1 .1 .0) (c .before .before .before .before .before .before .before .before .before .before .before .walk2 .ensures (second-ready (c .before .before .before .before .before .before .before .before .before .before .before .before .before .before .before .before .before .before .before .before .before .before .before .before .before .before .before .before .before .before .before .before .before .before .before .before .before .before .before .before .pre .1) (c .before .before .before .before .before .before .before .before .before .before .before .before .before .before .before .before .before .before .before .before .before .before .before .before .before .before .before .before .before .before .before .before .before .before .before .before .before .before .before .before .args .n) (c .before .before .before .before .before .before .before .before .before .before .before .before .before .before .before .before .before .before .before .before .before .before .before .before .before .before .before .before .before .before .before .walk .ensures (bound-ready (c .before .before .before .before .before .before .before .before .before .before .before .before .before .before .before .before .before .before .before .before .before .before .before .before .before .before .before .before .before .before .before .before .before .before .before .before .before .before .before .before .pre .1))) (c .before .before .before .before .before .before .before .before .before .before .before .before .before .before .before .before .before .before .before .before .before .before .depth .given .1) (c .before .before .before .before .before .before .before .before .before .before .before .before .before .before .before .before .before .before .bind-tree .ensures .0) (c .before .before .before .before .before .before .before .before .before .before .before .before .before .before .before .before .before .before .bind-tree .ensures .1) (c .before .before .before .before .before .before .before .before .before .before .before .before .before .before .before .before .before .before .before .before .before .before .before .before .before .before .before .before .before .before .before .walk .kept .1 .1 .1 .1 .0))) (c .before .before .d .given .1) (c .before .before .before .before .before .before .before .before .before .before .before .walk2 .kept .1 .1 .1 .1 .0)
+binding-lift-tree-requires t c κs = lets.lift-fits (c .before .before .before .before .before .before .before .before .before .before .before .before .before .before .before .before .before .before
+    .before .before .before .before .before .before .before .before .before .before .before .before .before .before .before .before .before .before .before .before .before .before .pre .1) (c .before
+    .before .before .before .before .before .before .before .before .before .before .before .before .before .before .before .before .before .before .before .before .before .before .before .before
+    .before .before .before .before .before .before .before .before .before .before .before .before .before .before .before .args .n) (c .before .before .before .before .before .before .before .before
+    .before .before .before .before .before .before .before .before .before .before .before .before .before .before .before .before .before .before .before .before .before .before .before .walk
+    .ensures (bound-ready (c .before .before .before .before .before .before .before .before .before .before .before .before .before .before .before .before .before .before .before .before .before
+    .before .before .before .before .before .before .before .before .before .before .before .before .before .before .before .before .before .before .before .pre .1))) (c .before .before .before
+    .before .before .before .before .before .before .before .before .before .before .before .before .before .before .before .before .before .before .before .depth .given .1) (c .before .before .before
+    .before .before .before .before .before .before .before .before .before .before .before .before .before .before .before .bind-tree .ensures .0) (c .before .before .before .before .before .before
+    .before .before .before .before .before .before .before .before .before .before .before .before .bind-tree .ensures .1) (c .before .before .before .before .before .before .before .before .before
+    .before .before .before .before .before .before .before .before .before .before .before .before .before .before .before .before .before .before .before .before .before .before .walk .kept .1 .1 .1
+    .1 .0) (c .before .before .before .before .before .before .before .before .before .before .before .before .before .before .before .before .before .before .before .before .before .before .before
+    .before .before .before .before .before .before .before .before .walk .kept .1 .1 .1 .1 .1 .0) (c .before .before .before .before .before .before .before .before .before .before .before .walk2
+    .ensures (second-ready (c .before .before .before .before .before .before .before .before .before .before .before .before .before .before .before .before .before .before .before .before .before
+    .before .before .before .before .before .before .before .before .before .before .before .before .before .before .before .before .before .before .before .pre .1) (c .before .before .before .before
+    .before .before .before .before .before .before .before .before .before .before .before .before .before .before .before .before .before .before .before .before .before .before .before .before
+    .before .before .before .before .before .before .before .before .before .before .before .before .args .n) (c .before .before .before .before .before .before .before .before .before .before .before
+    .before .before .before .before .before .before .before .before .before .before .before .before .before .before .before .before .before .before .before .before .walk .ensures (bound-ready (c
+    .before .before .before .before .before .before .before .before .before .before .before .before .before .before .before .before .before .before .before .before .before .before .before .before
+    .before .before .before .before .before .before .before .before .before .before .before .before .before .before .before .before .pre .1))) (c .before .before .before .before .before .before
+    .before .before .before .before .before .before .before .before .before .before .before .before .before .before .before .before .depth .given .1) (c .before .before .before .before .before .before
+    .before .before .before .before .before .before .before .before .before .before .before .before .bind-tree .ensures .0) (c .before .before .before .before .before .before .before .before .before
+    .before .before .before .before .before .before .before .before .before .bind-tree .ensures .1) (c .before .before .before .before .before .before .before .before .before .before .before .before
+    .before .before .before .before .before .before .before .before .before .before .before .before .before .before .before .before .before .before .before .walk .kept .1 .1 .1 .1 .0))) (c .before
+    .before .d .given .1) (c .before .before .before .before .before .before .before .before .before .before .before .walk2 .kept .1 .1 .1 .1 .0)
 
 binding-enum-known-r : (t : ℕ) → binding-lts.Need-enum-known-r (binding-callees t) (binding-at t) binding.Post
 binding-enum-known-r t c = search needs
@@ -158,34 +214,86 @@ binding-enum-known-r-2 : (t : ℕ) → binding-lts.Need-enum-known-r-2 (binding-
 binding-enum-known-r-2 t c = search needs
 
 binding-same-length : (t : ℕ) → binding-lts.Need-same-length (binding-callees t) (binding-at t) binding.Post
-binding-same-length t c = c .before .before .lift-tree .kept .0 ∙ ((c .before .before .before .before .before .before .before .before .before .before .before .before .before .before .walk2 .kept .1 .1 .1 .1 .0) ∙ (c .before .before .before .before .before .before .before .before .before .before .before .before .before .before .before .before .before .before .before .before .before .bind-tree .kept .0 ∙ (c .before .before .before .before .before .before .before .before .before .before .before .before .before .before .before .before .before .before .before .before .before .before .before .before .before .before .before .before .before .before .before .before .before .before .walk .kept .1 .1 .1 .1 .0)))
+binding-same-length t c = c .before .before .lift-tree .kept .0 ∙ ((c .before .before .before .before .before .before .before .before .before .before .before .before .before .before .walk2 .kept .1 .1
+    .1 .1 .0) ∙ (c .before .before .before .before .before .before .before .before .before .before .before .before .before .before .before .before .before .before .before .before .before .bind-tree
+    .kept .0 ∙ (c .before .before .before .before .before .before .before .before .before .before .before .before .before .before .before .before .before .before .before .before .before .before
+    .before .before .before .before .before .before .before .before .before .before .before .before .walk .kept .1 .1 .1 .1 .0)))
 
 binding-same-length-2 : (t : ℕ) → binding-lts.Need-same-length-2 (binding-callees t) (binding-at t) binding.Post
-binding-same-length-2 t c = c .before .before .before .before .before .before .before .before .before .before .before .before .before .before .walk2 .kept .1 .1 .1 .1 .1 .0 ∙ (c .before .before .before .before .before .before .before .before .before .before .before .before .before .before .before .before .before .before .before .before .before .before .before .before .before .before .before .before .before .before .before .before .before .before .walk .kept .1 .1 .1 .1 .1 .0)
+binding-same-length-2 t c = c .before .before .before .before .before .before .before .before .before .before .before .before .before .before .walk2 .kept .1 .1 .1 .1 .1 .0 ∙ (c .before .before
+    .before .before .before .before .before .before .before .before .before .before .before .before .before .before .before .before .before .before .before .before .before .before .before .before
+    .before .before .before .before .before .before .before .before .walk .kept .1 .1 .1 .1 .1 .0)
 
 binding-same-length-3 : (t : ℕ) → binding-lts.Need-same-length-3 (binding-callees t) (binding-at t) binding.Post
-binding-same-length-3 t c = c .before .before .before .before .before .before .before .before .before .before .before .before .before .before .walk2 .kept .1 .1 .1 .1 .1 .1 .0 ∙ c .before .before .before .before .before .before .before .before .before .before .before .before .before .before .before .before .before .before .before .before .before .before .before .before .before .before .before .before .before .before .before .before .before .before .walk .kept .1 .1 .1 .1 .1 .1 .0
+binding-same-length-3 t c = c .before .before .before .before .before .before .before .before .before .before .before .before .before .before .walk2 .kept .1 .1 .1 .1 .1 .1 .0 ∙ c .before .before
+    .before .before .before .before .before .before .before .before .before .before .before .before .before .before .before .before .before .before .before .before .before .before .before .before
+    .before .before .before .before .before .before .before .before .walk .kept .1 .1 .1 .1 .1 .1 .0
 
 binding-same-length-4 : (t : ℕ) → binding-lts.Need-same-length-4 (binding-callees t) (binding-at t) binding.Post
-binding-same-length-4 t c = c .before .before .before .before .before .before .before .before .before .before .before .before .before .before .walk2 .kept .1 .1 .1 .1 .1 .1 .1 .0 ∙ c .before .before .before .before .before .before .before .before .before .before .before .before .before .before .before .before .before .before .before .before .before .before .before .before .before .before .before .before .before .before .before .before .before .before .walk .kept .1 .1 .1 .1 .1 .1 .1 .0
+binding-same-length-4 t c = c .before .before .before .before .before .before .before .before .before .before .before .before .before .before .walk2 .kept .1 .1 .1 .1 .1 .1 .1 .0 ∙ c .before .before
+    .before .before .before .before .before .before .before .before .before .before .before .before .before .before .before .before .before .before .before .before .before .before .before .before
+    .before .before .before .before .before .before .before .before .walk .kept .1 .1 .1 .1 .1 .1 .1 .0
 
 binding-returns : (t : ℕ) → binding-lts.Need-returns (binding-callees t) (binding-at t) binding.Post
-binding-returns t c = λ g. lets.let-runs g (c .before .before .before .before .before .before .before .before .before .before .before .before .before .before .before .before .before .before .before .before .before .before .before .before .before .before .before .before .before .before .before .before .before .before .before .before .before .before .before .before .before .before .before .args .n) (c .before .before .before .before .before .before .before .before .before .before .before .before .before .before .before .before .before .before .before .before .before .before .before .before .before .before .before .before .before .before .before .before .before .before .walk .ensures (bound-ready g)) (c .before .before .before .before .before .before .before .before .before .before .before .before .before .before .before .before .before .before .before .before .before .before .before .before .before .depth .given .1) (c .before .before .before .before .before .before .before .before .before .before .before .before .before .before .before .before .before .before .before .before .before .bind-tree .ensures .0) (c .before .before .before .before .before .before .before .before .before .before .before .before .before .before .before .before .before .before .before .before .before .bind-tree .ensures .1) (c .before .before .before .before .before .before .before .before .before .before .before .before .before .before .before .before .before .before .before .before .before .before .before .before .before .before .before .before .before .before .before .before .before .before .walk .kept .1 .1 .1 .1 .0) (c .before .before .before .before .before .before .before .before .before .before .before .before .before .before .before .before .before .before .before .before .before .before .before .before .before .before .before .before .before .before .before .before .before .before .walk .kept .1 .1 .1 .1 .1 .0) (c .before .before .before .before .before .before .before .before .before .before .before .before .before .before .walk2 .ensures (second-ready g (c .before .before .before .before .before .before .before .before .before .before .before .before .before .before .before .before .before .before .before .before .before .before .before .before .before .before .before .before .before .before .before .before .before .before .before .before .before .before .before .before .before .before .before .args .n) (c .before .before .before .before .before .before .before .before .before .before .before .before .before .before .before .before .before .before .before .before .before .before .before .before .before .before .before .before .before .before .before .before .before .before .walk .ensures (bound-ready g)) (c .before .before .before .before .before .before .before .before .before .before .before .before .before .before .before .before .before .before .before .before .before .before .before .before .before .depth .given .1) (c .before .before .before .before .before .before .before .before .before .before .before .before .before .before .before .before .before .before .before .before .before .bind-tree .ensures .0) (c .before .before .before .before .before .before .before .before .before .before .before .before .before .before .before .before .before .before .before .before .before .bind-tree .ensures .1) (c .before .before .before .before .before .before .before .before .before .before .before .before .before .before .before .before .before .before .before .before .before .before .before .before .before .before .before .before .before .before .before .before .before .before .walk .kept .1 .1 .1 .1 .0))) (c .before .before .before .before .before .d .given .1) (c .before .before .before .before .before .before .before .before .before .before .before .before .before .before .walk2 .kept .1 .1 .1 .1 .0) (c .before .before .lift-tree .ensures)
+binding-returns t c = λ g. lets.let-runs g (c .before .before .before .before .before .before .before .before .before .before .before .before .before .before .before .before .before .before .before
+    .before .before .before .before .before .before .before .before .before .before .before .before .before .before .before .before .before .before .before .before .before .before .before .before
+    .args .n) (c .before .before .before .before .before .before .before .before .before .before .before .before .before .before .before .before .before .before .before .before .before .before .before
+    .before .before .before .before .before .before .before .before .before .before .before .walk .ensures (bound-ready g)) (c .before .before .before .before .before .before .before .before .before
+    .before .before .before .before .before .before .before .before .before .before .before .before .before .before .before .before .depth .given .1) (c .before .before .before .before .before .before
+    .before .before .before .before .before .before .before .before .before .before .before .before .before .before .before .bind-tree .ensures .0) (c .before .before .before .before .before .before
+    .before .before .before .before .before .before .before .before .before .before .before .before .before .before .before .bind-tree .ensures .1) (c .before .before .before .before .before .before
+    .before .before .before .before .before .before .before .before .before .before .before .before .before .before .before .before .before .before .before .before .before .before .before .before
+    .before .before .before .before .walk .kept .1 .1 .1 .1 .0) (c .before .before .before .before .before .before .before .before .before .before .before .before .before .before .before .before
+    .before .before .before .before .before .before .before .before .before .before .before .before .before .before .before .before .before .before .walk .kept .1 .1 .1 .1 .1 .0) (c .before .before
+    .before .before .before .before .before .before .before .before .before .before .before .before .walk2 .ensures (second-ready g (c .before .before .before .before .before .before .before .before
+    .before .before .before .before .before .before .before .before .before .before .before .before .before .before .before .before .before .before .before .before .before .before .before .before
+    .before .before .before .before .before .before .before .before .before .before .before .args .n) (c .before .before .before .before .before .before .before .before .before .before .before .before
+    .before .before .before .before .before .before .before .before .before .before .before .before .before .before .before .before .before .before .before .before .before .before .walk .ensures
+    (bound-ready g)) (c .before .before .before .before .before .before .before .before .before .before .before .before .before .before .before .before .before .before .before .before .before .before
+    .before .before .before .depth .given .1) (c .before .before .before .before .before .before .before .before .before .before .before .before .before .before .before .before .before .before .before
+    .before .before .bind-tree .ensures .0) (c .before .before .before .before .before .before .before .before .before .before .before .before .before .before .before .before .before .before .before
+    .before .before .bind-tree .ensures .1) (c .before .before .before .before .before .before .before .before .before .before .before .before .before .before .before .before .before .before .before
+    .before .before .before .before .before .before .before .before .before .before .before .before .before .before .before .walk .kept .1 .1 .1 .1 .0))) (c .before .before .before .before .before .d
+    .given .1) (c .before .before .before .before .before .before .before .before .before .before .before .before .before .before .walk2 .kept .1 .1 .1 .1 .0) (c .before .before .lift-tree .ensures)
 
 binding-same-length-5 : (t : ℕ) → binding-lts.Need-same-length-5 (binding-callees t) (binding-at t) binding.Post
-binding-same-length-5 t c = (c .before .before .before .before .before .before .before .before .before .before .walk2 .kept .1 .1 .1 .1 .0) ∙ (c .before .before .before .before .before .before .before .before .before .before .before .before .before .before .before .before .before .bind-tree .kept .0 ∙ (c .before .before .before .before .before .before .before .before .before .before .before .before .before .before .before .before .before .before .before .before .before .before .before .before .before .before .before .before .before .before .walk .kept .1 .1 .1 .1 .0))
+binding-same-length-5 t c = (c .before .before .before .before .before .before .before .before .before .before .walk2 .kept .1 .1 .1 .1 .0) ∙ (c .before .before .before .before .before .before .before
+    .before .before .before .before .before .before .before .before .before .before .bind-tree .kept .0 ∙ (c .before .before .before .before .before .before .before .before .before .before .before
+    .before .before .before .before .before .before .before .before .before .before .before .before .before .before .before .before .before .before .before .walk .kept .1 .1 .1 .1 .0))
 
 binding-same-length-6 : (t : ℕ) → binding-lts.Need-same-length-6 (binding-callees t) (binding-at t) binding.Post
-binding-same-length-6 t c = c .before .before .before .before .before .before .before .before .before .before .walk2 .kept .1 .1 .1 .1 .1 .0 ∙ (c .before .before .before .before .before .before .before .before .before .before .before .before .before .before .before .before .before .before .before .before .before .before .before .before .before .before .before .before .before .before .walk .kept .1 .1 .1 .1 .1 .0)
+binding-same-length-6 t c = c .before .before .before .before .before .before .before .before .before .before .walk2 .kept .1 .1 .1 .1 .1 .0 ∙ (c .before .before .before .before .before .before
+    .before .before .before .before .before .before .before .before .before .before .before .before .before .before .before .before .before .before .before .before .before .before .before .before
+    .walk .kept .1 .1 .1 .1 .1 .0)
 
 binding-same-length-7 : (t : ℕ) → binding-lts.Need-same-length-7 (binding-callees t) (binding-at t) binding.Post
-binding-same-length-7 t c = c .before .before .before .before .before .before .before .before .before .before .walk2 .kept .1 .1 .1 .1 .1 .1 .0 ∙ c .before .before .before .before .before .before .before .before .before .before .before .before .before .before .before .before .before .before .before .before .before .before .before .before .before .before .before .before .before .before .walk .kept .1 .1 .1 .1 .1 .1 .0
+binding-same-length-7 t c = c .before .before .before .before .before .before .before .before .before .before .walk2 .kept .1 .1 .1 .1 .1 .1 .0 ∙ c .before .before .before .before .before .before
+    .before .before .before .before .before .before .before .before .before .before .before .before .before .before .before .before .before .before .before .before .before .before .before .before
+    .walk .kept .1 .1 .1 .1 .1 .1 .0
 
 binding-same-length-8 : (t : ℕ) → binding-lts.Need-same-length-8 (binding-callees t) (binding-at t) binding.Post
-binding-same-length-8 t c = c .before .before .before .before .before .before .before .before .before .before .walk2 .kept .1 .1 .1 .1 .1 .1 .1 .0 ∙ c .before .before .before .before .before .before .before .before .before .before .before .before .before .before .before .before .before .before .before .before .before .before .before .before .before .before .before .before .before .before .walk .kept .1 .1 .1 .1 .1 .1 .1 .0
+binding-same-length-8 t c = c .before .before .before .before .before .before .before .before .before .before .walk2 .kept .1 .1 .1 .1 .1 .1 .1 .0 ∙ c .before .before .before .before .before .before
+    .before .before .before .before .before .before .before .before .before .before .before .before .before .before .before .before .before .before .before .before .before .before .before .before
+    .walk .kept .1 .1 .1 .1 .1 .1 .1 .0
 
 binding-returns-2 : (t : ℕ) → binding-lts.Need-returns-2 (binding-callees t) (binding-at t) binding.Post
-binding-returns-2 t c = λ g. lets.body-stopped g (c .before .before .before .before .before .before .before .before .before .before .before .before .before .before .before .before .before .before .before .before .before .before .before .before .before .before .before .before .before .before .before .before .before .before .before .before .before .before .before .args .n) (c .before .before .before .before .before .before .before .before .before .before .before .before .before .before .before .before .before .before .before .before .before .before .before .before .before .before .before .before .before .before .walk .ensures (bound-ready g)) (c .before .before .before .before .before .before .before .before .before .before .before .before .before .before .before .before .before .before .before .before .before .depth .given .1) (c .before .before .before .before .before .before .before .before .before .before .before .before .before .before .before .before .before .bind-tree .ensures .0) (c .before .before .before .before .before .before .before .before .before .before .before .before .before .before .before .before .before .bind-tree .ensures .1) (c .before .before .before .before .before .before .before .before .before .before .before .before .before .before .before .before .before .before .before .before .before .before .before .before .before .before .before .before .before .before .walk .kept .1 .1 .1 .1 .0) (c .before .before .before .before .before .before .before .before .before .before .before .before .before .before .before .before .before .before .before .before .before .before .before .before .before .before .before .before .before .before .walk .kept .1 .1 .1 .1 .1 .0) (c .before .before .before .before .before .before .before .before .before .before .walk2 .ensures (second-ready g (c .before .before .before .before .before .before .before .before .before .before .before .before .before .before .before .before .before .before .before .before .before .before .before .before .before .before .before .before .before .before .before .before .before .before .before .before .before .before .before .args .n) (c .before .before .before .before .before .before .before .before .before .before .before .before .before .before .before .before .before .before .before .before .before .before .before .before .before .before .before .before .before .before .walk .ensures (bound-ready g)) (c .before .before .before .before .before .before .before .before .before .before .before .before .before .before .before .before .before .before .before .before .before .depth .given .1) (c .before .before .before .before .before .before .before .before .before .before .before .before .before .before .before .before .before .bind-tree .ensures .0) (c .before .before .before .before .before .before .before .before .before .before .before .before .before .before .before .before .before .bind-tree .ensures .1) (c .before .before .before .before .before .before .before .before .before .before .before .before .before .before .before .before .before .before .before .before .before .before .before .before .before .before .before .before .before .before .walk .kept .1 .1 .1 .1 .0))) (c .before .r .given .1)
+binding-returns-2 t c = λ g. lets.body-stopped g (c .before .before .before .before .before .before .before .before .before .before .before .before .before .before .before .before .before .before
+    .before .before .before .before .before .before .before .before .before .before .before .before .before .before .before .before .before .before .before .before .before .args .n) (c .before .before
+    .before .before .before .before .before .before .before .before .before .before .before .before .before .before .before .before .before .before .before .before .before .before .before .before
+    .before .before .before .before .walk .ensures (bound-ready g)) (c .before .before .before .before .before .before .before .before .before .before .before .before .before .before .before .before
+    .before .before .before .before .before .depth .given .1) (c .before .before .before .before .before .before .before .before .before .before .before .before .before .before .before .before .before
+    .bind-tree .ensures .0) (c .before .before .before .before .before .before .before .before .before .before .before .before .before .before .before .before .before .bind-tree .ensures .1) (c
+    .before .before .before .before .before .before .before .before .before .before .before .before .before .before .before .before .before .before .before .before .before .before .before .before
+    .before .before .before .before .before .before .walk .kept .1 .1 .1 .1 .0) (c .before .before .before .before .before .before .before .before .before .before .before .before .before .before
+    .before .before .before .before .before .before .before .before .before .before .before .before .before .before .before .before .walk .kept .1 .1 .1 .1 .1 .0) (c .before .before .before .before
+    .before .before .before .before .before .before .walk2 .ensures (second-ready g (c .before .before .before .before .before .before .before .before .before .before .before .before .before .before
+    .before .before .before .before .before .before .before .before .before .before .before .before .before .before .before .before .before .before .before .before .before .before .before .before
+    .before .args .n) (c .before .before .before .before .before .before .before .before .before .before .before .before .before .before .before .before .before .before .before .before .before .before
+    .before .before .before .before .before .before .before .before .walk .ensures (bound-ready g)) (c .before .before .before .before .before .before .before .before .before .before .before .before
+    .before .before .before .before .before .before .before .before .before .depth .given .1) (c .before .before .before .before .before .before .before .before .before .before .before .before .before
+    .before .before .before .before .bind-tree .ensures .0) (c .before .before .before .before .before .before .before .before .before .before .before .before .before .before .before .before .before
+    .bind-tree .ensures .1) (c .before .before .before .before .before .before .before .before .before .before .before .before .before .before .before .before .before .before .before .before .before
+    .before .before .before .before .before .before .before .before .before .walk .kept .1 .1 .1 .1 .0))) (c .before .r .given .1)
 
 binding-same-length-9 : (t : ℕ) → binding-lts.Need-same-length-9 (binding-callees t) (binding-at t) binding.Post
 binding-same-length-9 t c = search needs
@@ -200,7 +308,8 @@ binding-same-length-12 : (t : ℕ) → binding-lts.Need-same-length-12 (binding-
 binding-same-length-12 t c = search needs
 
 binding-returns-3 : (t : ℕ) → binding-lts.Need-returns-3 (binding-callees t) (binding-at t) binding.Post
-binding-returns-3 t c = λ g. lets.bound-stopped g (c .before .before .before .before .before .before .before .before .before .before .before .before .before .before .before .before .before .before .before .args .n) (c .before .before .before .before .before .before .before .before .before .before .walk .ensures (bound-ready g)) (c .before .r2 .given .1)
+binding-returns-3 t c = λ g. lets.bound-stopped g (c .before .before .before .before .before .before .before .before .before .before .before .before .before .before .before .before .before .before
+    .before .args .n) (c .before .before .before .before .before .before .before .before .before .before .walk .ensures (bound-ready g)) (c .before .r2 .given .1)
 
 each-enter-requires : (t : ℕ) → each-lts.Need-enter-requires (each-callees t) (each-at t) each.Post
 each-enter-requires t c κs = c .before .before .before .before .before .before .before .before .pre .1
@@ -209,40 +318,270 @@ each-enum-known-inner : (t : ℕ) → each-lts.Need-enum-known-inner (each-calle
 each-enum-known-inner t c = search needs
 
 each-survey-requires : (t : ℕ) → each-lts.Need-survey-requires (each-callees t) (each-at t) each.Post
-each-survey-requires t c κs = (omega (arith, c .before .before .before .before .before .before .before .before .before .before .before .before .before .before .before .before .before .before .before .before .before .before .before .pre .0), over-ready (c .before .before .before .before .before .before .before .before .before .before .before .before .before .before .before .before .before .before .before .before .before .before .before .pre .1) (c .before .before .before .before .before .before .before .before .before .before .before .before .before .before .enter .ensures (c .before .before .before .before .before .before .before .before .before .before .before .before .before .before .before .before .before .before .before .before .before .before .before .pre .1) .goes-in _ _ (c .before .before .before .before .before .inner .given .1)) (c .before .before .before .before .before .before .before .before .before .before .before .before .before .before .enter .kept .1 .1 .1 .1 .0))
+each-survey-requires t c κs = (
+  omega (
+    arith,
+    c .before .before .before .before .before .before .before .before .before .before .before .before .before .before .before .before .before .before .before
+        .before .before .before .before .pre .0,
+  ),
+  over-ready (c .before .before .before .before .before .before .before .before .before .before .before .before .before .before .before .before .before
+      .before .before .before .before .before .before .pre .1) (c .before .before .before .before .before .before .before .before .before .before .before .before .before .before .enter .ensures (c
+      .before .before .before .before .before .before .before .before .before .before .before .before .before .before .before .before .before .before .before .before .before .before .before .pre .1)
+      .goes-in _ _ (c .before .before .before .before .before .inner .given .1)) (c .before .before .before .before .before .before .before .before .before .before .before .before .before .before .enter
+      .kept .1 .1 .1 .1 .0),
+)
 
 each-add-body : (t : ℕ) → each-lts.Need-add-body (each-callees t) (each-at t) each.Post
-each-add-body t c = omega (arith, c .before .before .before .before .before .before .before .before .before .before .before .before .before .before .before .before .before .before .before .before .before .before .before .before .before .before .before .before .before .before .before .pre .1 .bytes, c .before .before .before .before .before .before .before .before .before .before .before .before .before .before .before .before .before .before .before .before .before .before .before .before .before .before .before .before .before .before .before .pre .1 .short)
+each-add-body t c = omega (
+  arith,
+  c .before .before .before .before .before .before .before .before .before .before .before .before .before .before .before .before .before .before .before .before
+      .before .before .before .before .before .before .before .before .before .before .before .pre .1 .bytes,
+  c .before .before .before .before .before .before .before .before .before .before .before
+      .before .before .before .before .before .before .before .before .before .before .before .before .before .before .before .before .before .before .before .before .pre .1 .short,
+)
 
 each-add-body-2 : (t : ℕ) → each-lts.Need-add-body-2 (each-callees t) (each-at t) each.Post
-each-add-body-2 t c = omega (arith, c .before .before .before .before .before .before .before .before .before .before .before .before .before .before .before .before .before .before .before .before .before .before .before .before .before .before .before .before .before .before .before .pre .1 .bytes, c .before .before .before .before .before .before .before .before .before .before .before .before .before .before .before .before .before .before .before .before .before .before .before .before .before .before .before .before .before .before .before .pre .1 .short)
+each-add-body-2 t c = omega (
+  arith,
+  c .before .before .before .before .before .before .before .before .before .before .before .before .before .before .before .before .before .before .before .before
+      .before .before .before .before .before .before .before .before .before .before .before .pre .1 .bytes,
+  c .before .before .before .before .before .before .before .before .before .before .before
+      .before .before .before .before .before .before .before .before .before .before .before .before .before .before .before .before .before .before .before .before .pre .1 .short,
+)
 
 each-shared-slice-read-body : (t : ℕ) → each-lts.Need-shared-slice-read-body (each-callees t) (each-at t) each.Post
-each-shared-slice-read-body t c = omega (arith, c .before .before .before .before .before .before .before .before .before .before .before .before .before .before .before .before .before .before .before .before .before .before .before .before .before .before .before .before .before .before .before .before .pre .1 .bytes)
+each-shared-slice-read-body t c = omega (
+  arith,
+  c .before .before .before .before .before .before .before .before .before .before .before .before .before .before .before .before .before .before
+      .before .before .before .before .before .before .before .before .before .before .before .before .before .before .pre .1 .bytes,
+)
 
 each-cast-body : (t : ℕ) → each-lts.Need-cast-body (each-callees t) (each-at t) each.Post
-each-cast-body t c = omega (arith, c .shared-slice-known2 .given (c .before .before .before .before .before .before .before .before .before .before .before .before .before .before .before .before .before .before .before .before .before .before .before .before .before .before .before .before .before .before .before .before .args .k + 4))
+each-cast-body t c = omega (
+  arith,
+  c .shared-slice-known2 .given (c .before .before .before .before .before .before .before .before .before .before .before .before .before .before .before .before
+      .before .before .before .before .before .before .before .before .before .before .before .before .before .before .before .before .args .k + 4),
+)
 
 each-add-body-3 : (t : ℕ) → each-lts.Need-add-body-3 (each-callees t) (each-at t) each.Post
-each-add-body-3 t c = omega (arith, c .before .before .before .before .before .before .before .before .before .before .before .before .before .before .before .before .before .before .before .before .before .before .before .before .before .before .before .before .before .before .before .before .pre .1 .bytes, c .before .before .before .before .before .before .before .before .before .before .before .before .before .before .before .before .before .before .before .before .before .before .before .before .before .before .before .before .before .before .before .before .pre .1 .short)
+each-add-body-3 t c = omega (
+  arith,
+  c .before .before .before .before .before .before .before .before .before .before .before .before .before .before .before .before .before .before .before .before
+      .before .before .before .before .before .before .before .before .before .before .before .before .pre .1 .bytes,
+  c .before .before .before .before .before .before .before .before .before .before
+      .before .before .before .before .before .before .before .before .before .before .before .before .before .before .before .before .before .before .before .before .before .before .pre .1 .short,
+)
 
 each-walk-requires : (t : ℕ) → each-lts.Need-walk-requires (each-callees t) (each-at t) each.Post
-each-walk-requires t c κs = (omega (arith, c .before .before .before .before .before .before .before .before .before .before .before .before .before .before .before .before .before .before .before .before .before .before .before .before .before .before .before .before .before .before .before .before .before .before .before .before .pre .0, c .before .before .before .before .before .before .before .before .before .before .before .before .before .before .before .before .before .before .before .before .before .before .before .before .before .before .before .before .before .before .before .before .before .before .before .before .pre .1 .bytes), (told-ready (c .before .before .before .before .before .before .before .before .before .before .before .before .before .before .before .before .before .before .before .before .before .before .before .before .before .before .before .before .before .before .before .before .before .before .before .before .pre .1) (c .before .before .before .before .before .before .before .before .before .before .before .before .before .before .before .before .before .before .before .before .before .before .before .before .before .before .before .enter .ensures (c .before .before .before .before .before .before .before .before .before .before .before .before .before .before .before .before .before .before .before .before .before .before .before .before .before .before .before .before .before .before .before .before .before .before .before .before .pre .1) .goes-in _ _ (c .before .before .before .before .before .before .before .before .before .before .before .before .before .before .before .before .before .before .inner .given .1)) (c .before .before .before .before .before .before .before .before .before .before .before .before .before .before .before .before .before .before .before .before .before .before .before .before .before .before .before .enter .kept .1 .1 .1 .1 .0) (c .before .before .before .before .before .before .before .before .before .before .before .before .survey .ensures (over-ready (c .before .before .before .before .before .before .before .before .before .before .before .before .before .before .before .before .before .before .before .before .before .before .before .before .before .before .before .before .before .before .before .before .before .before .before .before .pre .1) (c .before .before .before .before .before .before .before .before .before .before .before .before .before .before .before .before .before .before .before .before .before .before .before .before .before .before .before .enter .ensures (c .before .before .before .before .before .before .before .before .before .before .before .before .before .before .before .before .before .before .before .before .before .before .before .before .before .before .before .before .before .before .before .before .before .before .before .before .pre .1) .goes-in _ _ (c .before .before .before .before .before .before .before .before .before .before .before .before .before .before .before .before .before .before .inner .given .1)) (c .before .before .before .before .before .before .before .before .before .before .before .before .before .before .before .before .before .before .before .before .before .before .before .before .before .before .before .enter .kept .1 .1 .1 .1 .0))) (c .before .before .before .before .before .before .before .before .before .before .before .before .survey .kept .1 .1 .1 .0) (c .before .before .before .before .before .before .before .before .before .before .before .before .survey .kept .1 .1 .1 .1 .0)))
+each-walk-requires t c κs = (
+  omega (
+    arith,
+    c .before .before .before .before .before .before .before .before .before .before .before .before .before .before .before .before .before .before .before
+        .before .before .before .before .before .before .before .before .before .before .before .before .before .before .before .before .before .pre .0,
+    c .before .before .before .before .before .before
+        .before .before .before .before .before .before .before .before .before .before .before .before .before .before .before .before .before .before .before .before .before .before .before .before
+        .before .before .before .before .before .before .pre .1 .bytes,
+  ),
+  (told-ready (c .before .before .before .before .before .before .before .before .before .before .before .before .before .before
+      .before .before .before .before .before .before .before .before .before .before .before .before .before .before .before .before .before .before .before .before .before .before .pre .1) (c .before
+      .before .before .before .before .before .before .before .before .before .before .before .before .before .before .before .before .before .before .before .before .before .before .before .before
+      .before .before .enter .ensures (c .before .before .before .before .before .before .before .before .before .before .before .before .before .before .before .before .before .before .before .before
+      .before .before .before .before .before .before .before .before .before .before .before .before .before .before .before .before .pre .1) .goes-in _ _ (c .before .before .before .before .before
+      .before .before .before .before .before .before .before .before .before .before .before .before .before .inner .given .1)) (c .before .before .before .before .before .before .before .before
+      .before .before .before .before .before .before .before .before .before .before .before .before .before .before .before .before .before .before .before .enter .kept .1 .1 .1 .1 .0) (c .before
+      .before .before .before .before .before .before .before .before .before .before .before .survey .ensures (over-ready (c .before .before .before .before .before .before .before .before .before
+      .before .before .before .before .before .before .before .before .before .before .before .before .before .before .before .before .before .before .before .before .before .before .before .before
+      .before .before .before .pre .1) (c .before .before .before .before .before .before .before .before .before .before .before .before .before .before .before .before .before .before .before .before
+      .before .before .before .before .before .before .before .enter .ensures (c .before .before .before .before .before .before .before .before .before .before .before .before .before .before .before
+      .before .before .before .before .before .before .before .before .before .before .before .before .before .before .before .before .before .before .before .before .before .pre .1) .goes-in _ _ (c
+      .before .before .before .before .before .before .before .before .before .before .before .before .before .before .before .before .before .before .inner .given .1)) (c .before .before .before
+      .before .before .before .before .before .before .before .before .before .before .before .before .before .before .before .before .before .before .before .before .before .before .before .before
+      .enter .kept .1 .1 .1 .1 .0))) (c .before .before .before .before .before .before .before .before .before .before .before .before .survey .kept .1 .1 .1 .0) (c .before .before .before .before
+      .before .before .before .before .before .before .before .before .survey .kept .1 .1 .1 .1 .0)),
+)
 
 each-enum-known-depth : (t : ℕ) → each-lts.Need-enum-known-depth (each-callees t) (each-at t) each.Post
 each-enum-known-depth t c = search needs
 
 each-tell-requires : (t : ℕ) → each-lts.Need-tell-requires (each-callees t) (each-at t) each.Post
-each-tell-requires t c κs = comprehensions.close-sunk (c .before .before .before .before .before .before .before .before .before .before .before .before .before .before .before .before .before .before .before .before .before .before .before .before .before .before .before .before .before .before .before .before .before .before .before .before .before .before .before .before .before .before .before .before .before .before .before .before .before .pre .1) (c .before .before .before .before .before .before .before .before .before .before .before .before .before .before .before .before .before .before .before .before .before .before .before .before .before .before .before .before .before .before .before .before .before .before .before .before .before .before .before .before .enter .ensures (c .before .before .before .before .before .before .before .before .before .before .before .before .before .before .before .before .before .before .before .before .before .before .before .before .before .before .before .before .before .before .before .before .before .before .before .before .before .before .before .before .before .before .before .before .before .before .before .before .before .pre .1) .goes-in _ _ (c .before .before .before .before .before .before .before .before .before .before .before .before .before .before .before .before .before .before .before .before .before .before .before .before .before .before .before .before .before .before .before .inner .given .1)) (c .before .before .before .before .before .before .before .before .before .before .before .before .before .before .before .before .before .before .before .before .before .before .before .before .before .before .before .before .before .before .before .before .before .before .before .before .before .before .before .before .enter .kept .1 .1 .1 .1 .0) (c .before .before .before .before .before .before .before .before .before .before .before .before .before .before .before .before .before .before .before .before .before .before .before .before .before .survey .ensures (over-ready (c .before .before .before .before .before .before .before .before .before .before .before .before .before .before .before .before .before .before .before .before .before .before .before .before .before .before .before .before .before .before .before .before .before .before .before .before .before .before .before .before .before .before .before .before .before .before .before .before .before .pre .1) (c .before .before .before .before .before .before .before .before .before .before .before .before .before .before .before .before .before .before .before .before .before .before .before .before .before .before .before .before .before .before .before .before .before .before .before .before .before .before .before .before .enter .ensures (c .before .before .before .before .before .before .before .before .before .before .before .before .before .before .before .before .before .before .before .before .before .before .before .before .before .before .before .before .before .before .before .before .before .before .before .before .before .before .before .before .before .before .before .before .before .before .before .before .before .pre .1) .goes-in _ _ (c .before .before .before .before .before .before .before .before .before .before .before .before .before .before .before .before .before .before .before .before .before .before .before .before .before .before .before .before .before .before .before .inner .given .1)) (c .before .before .before .before .before .before .before .before .before .before .before .before .before .before .before .before .before .before .before .before .before .before .before .before .before .before .before .before .before .before .before .before .before .before .before .before .before .before .before .before .enter .kept .1 .1 .1 .1 .0))) (c .before .before .before .before .before .before .before .before .before .before .before .before .before .before .before .before .before .before .before .before .before .before .before .before .before .survey .kept .1 .1 .1 .0) (c .before .before .before .before .before .before .before .before .before .before .before .before .before .before .before .before .before .before .before .before .before .before .before .before .before .survey .kept .1 .1 .1 .1 .0) (c .before .before .before .before .before .before .before .before .before .before .before .before .before .before .before .before .before .before .before .before .before .before .before .before .before .before .before .before .before .before .before .before .before .before .before .before .before .before .before .before .enter .kept .1 .1 .1 .1 .1 .0) (c .before .before .before .before .before .before .before .before .before .before .before .before .walk .ensures (told-ready (c .before .before .before .before .before .before .before .before .before .before .before .before .before .before .before .before .before .before .before .before .before .before .before .before .before .before .before .before .before .before .before .before .before .before .before .before .before .before .before .before .before .before .before .before .before .before .before .before .before .pre .1) (c .before .before .before .before .before .before .before .before .before .before .before .before .before .before .before .before .before .before .before .before .before .before .before .before .before .before .before .before .before .before .before .before .before .before .before .before .before .before .before .before .enter .ensures (c .before .before .before .before .before .before .before .before .before .before .before .before .before .before .before .before .before .before .before .before .before .before .before .before .before .before .before .before .before .before .before .before .before .before .before .before .before .before .before .before .before .before .before .before .before .before .before .before .before .pre .1) .goes-in _ _ (c .before .before .before .before .before .before .before .before .before .before .before .before .before .before .before .before .before .before .before .before .before .before .before .before .before .before .before .before .before .before .before .inner .given .1)) (c .before .before .before .before .before .before .before .before .before .before .before .before .before .before .before .before .before .before .before .before .before .before .before .before .before .before .before .before .before .before .before .before .before .before .before .before .before .before .before .before .enter .kept .1 .1 .1 .1 .0) (c .before .before .before .before .before .before .before .before .before .before .before .before .before .before .before .before .before .before .before .before .before .before .before .before .before .survey .ensures (over-ready (c .before .before .before .before .before .before .before .before .before .before .before .before .before .before .before .before .before .before .before .before .before .before .before .before .before .before .before .before .before .before .before .before .before .before .before .before .before .before .before .before .before .before .before .before .before .before .before .before .before .pre .1) (c .before .before .before .before .before .before .before .before .before .before .before .before .before .before .before .before .before .before .before .before .before .before .before .before .before .before .before .before .before .before .before .before .before .before .before .before .before .before .before .before .enter .ensures (c .before .before .before .before .before .before .before .before .before .before .before .before .before .before .before .before .before .before .before .before .before .before .before .before .before .before .before .before .before .before .before .before .before .before .before .before .before .before .before .before .before .before .before .before .before .before .before .before .before .pre .1) .goes-in _ _ (c .before .before .before .before .before .before .before .before .before .before .before .before .before .before .before .before .before .before .before .before .before .before .before .before .before .before .before .before .before .before .before .inner .given .1)) (c .before .before .before .before .before .before .before .before .before .before .before .before .before .before .before .before .before .before .before .before .before .before .before .before .before .before .before .before .before .before .before .before .before .before .before .before .before .before .before .before .enter .kept .1 .1 .1 .1 .0))) (c .before .before .before .before .before .before .before .before .before .before .before .before .before .before .before .before .before .before .before .before .before .before .before .before .before .survey .kept .1 .1 .1 .0) (c .before .before .before .before .before .before .before .before .before .before .before .before .before .before .before .before .before .before .before .before .before .before .before .before .before .survey .kept .1 .1 .1 .1 .0))) (c .before .before .before .depth .given .1)
+each-tell-requires t c κs = comprehensions.close-sunk (c .before .before .before .before .before .before .before .before .before .before .before .before .before .before .before .before .before .before
+    .before .before .before .before .before .before .before .before .before .before .before .before .before .before .before .before .before .before .before .before .before .before .before .before
+    .before .before .before .before .before .before .before .pre .1) (c .before .before .before .before .before .before .before .before .before .before .before .before .before .before .before .before
+    .before .before .before .before .before .before .before .before .before .before .before .before .before .before .before .before .before .before .before .before .before .before .before .before
+    .enter .ensures (c .before .before .before .before .before .before .before .before .before .before .before .before .before .before .before .before .before .before .before .before .before .before
+    .before .before .before .before .before .before .before .before .before .before .before .before .before .before .before .before .before .before .before .before .before .before .before .before
+    .before .before .before .pre .1) .goes-in _ _ (c .before .before .before .before .before .before .before .before .before .before .before .before .before .before .before .before .before .before
+    .before .before .before .before .before .before .before .before .before .before .before .before .before .inner .given .1)) (c .before .before .before .before .before .before .before .before
+    .before .before .before .before .before .before .before .before .before .before .before .before .before .before .before .before .before .before .before .before .before .before .before .before
+    .before .before .before .before .before .before .before .before .enter .kept .1 .1 .1 .1 .0) (c .before .before .before .before .before .before .before .before .before .before .before .before
+    .before .before .before .before .before .before .before .before .before .before .before .before .before .survey .ensures (over-ready (c .before .before .before .before .before .before .before
+    .before .before .before .before .before .before .before .before .before .before .before .before .before .before .before .before .before .before .before .before .before .before .before .before
+    .before .before .before .before .before .before .before .before .before .before .before .before .before .before .before .before .before .before .pre .1) (c .before .before .before .before .before
+    .before .before .before .before .before .before .before .before .before .before .before .before .before .before .before .before .before .before .before .before .before .before .before .before
+    .before .before .before .before .before .before .before .before .before .before .before .enter .ensures (c .before .before .before .before .before .before .before .before .before .before .before
+    .before .before .before .before .before .before .before .before .before .before .before .before .before .before .before .before .before .before .before .before .before .before .before .before
+    .before .before .before .before .before .before .before .before .before .before .before .before .before .before .pre .1) .goes-in _ _ (c .before .before .before .before .before .before .before
+    .before .before .before .before .before .before .before .before .before .before .before .before .before .before .before .before .before .before .before .before .before .before .before .before
+    .inner .given .1)) (c .before .before .before .before .before .before .before .before .before .before .before .before .before .before .before .before .before .before .before .before .before
+    .before .before .before .before .before .before .before .before .before .before .before .before .before .before .before .before .before .before .before .enter .kept .1 .1 .1 .1 .0))) (c .before
+    .before .before .before .before .before .before .before .before .before .before .before .before .before .before .before .before .before .before .before .before .before .before .before .before
+    .survey .kept .1 .1 .1 .0) (c .before .before .before .before .before .before .before .before .before .before .before .before .before .before .before .before .before .before .before .before
+    .before .before .before .before .before .survey .kept .1 .1 .1 .1 .0) (c .before .before .before .before .before .before .before .before .before .before .before .before .before .before .before
+    .before .before .before .before .before .before .before .before .before .before .before .before .before .before .before .before .before .before .before .before .before .before .before .before
+    .before .enter .kept .1 .1 .1 .1 .1 .0) (c .before .before .before .before .before .before .before .before .before .before .before .before .walk .ensures (told-ready (c .before .before .before
+    .before .before .before .before .before .before .before .before .before .before .before .before .before .before .before .before .before .before .before .before .before .before .before .before
+    .before .before .before .before .before .before .before .before .before .before .before .before .before .before .before .before .before .before .before .before .before .before .pre .1) (c .before
+    .before .before .before .before .before .before .before .before .before .before .before .before .before .before .before .before .before .before .before .before .before .before .before .before
+    .before .before .before .before .before .before .before .before .before .before .before .before .before .before .before .enter .ensures (c .before .before .before .before .before .before .before
+    .before .before .before .before .before .before .before .before .before .before .before .before .before .before .before .before .before .before .before .before .before .before .before .before
+    .before .before .before .before .before .before .before .before .before .before .before .before .before .before .before .before .before .before .pre .1) .goes-in _ _ (c .before .before .before
+    .before .before .before .before .before .before .before .before .before .before .before .before .before .before .before .before .before .before .before .before .before .before .before .before
+    .before .before .before .before .inner .given .1)) (c .before .before .before .before .before .before .before .before .before .before .before .before .before .before .before .before .before
+    .before .before .before .before .before .before .before .before .before .before .before .before .before .before .before .before .before .before .before .before .before .before .before .enter .kept
+    .1 .1 .1 .1 .0) (c .before .before .before .before .before .before .before .before .before .before .before .before .before .before .before .before .before .before .before .before .before .before
+    .before .before .before .survey .ensures (over-ready (c .before .before .before .before .before .before .before .before .before .before .before .before .before .before .before .before .before
+    .before .before .before .before .before .before .before .before .before .before .before .before .before .before .before .before .before .before .before .before .before .before .before .before
+    .before .before .before .before .before .before .before .before .pre .1) (c .before .before .before .before .before .before .before .before .before .before .before .before .before .before .before
+    .before .before .before .before .before .before .before .before .before .before .before .before .before .before .before .before .before .before .before .before .before .before .before .before
+    .before .enter .ensures (c .before .before .before .before .before .before .before .before .before .before .before .before .before .before .before .before .before .before .before .before .before
+    .before .before .before .before .before .before .before .before .before .before .before .before .before .before .before .before .before .before .before .before .before .before .before .before
+    .before .before .before .before .pre .1) .goes-in _ _ (c .before .before .before .before .before .before .before .before .before .before .before .before .before .before .before .before .before
+    .before .before .before .before .before .before .before .before .before .before .before .before .before .before .inner .given .1)) (c .before .before .before .before .before .before .before
+    .before .before .before .before .before .before .before .before .before .before .before .before .before .before .before .before .before .before .before .before .before .before .before .before
+    .before .before .before .before .before .before .before .before .before .enter .kept .1 .1 .1 .1 .0))) (c .before .before .before .before .before .before .before .before .before .before .before
+    .before .before .before .before .before .before .before .before .before .before .before .before .before .before .survey .kept .1 .1 .1 .0) (c .before .before .before .before .before .before
+    .before .before .before .before .before .before .before .before .before .before .before .before .before .before .before .before .before .before .before .survey .kept .1 .1 .1 .1 .0))) (c .before
+    .before .before .depth .given .1)
 
 each-sub-lift-tree : (t : ℕ) → each-lts.Need-sub-lift-tree (each-callees t) (each-at t) each.Post
-each-sub-lift-tree t c = omega (arith, c .before .before .before .before .before .before .before .before .before .before .before .before .before .before .before .before .before .before .before .before .before .before .before .before .before .before .before .before .before .before .before .before .before .before .before .before .before .before .before .before .before .before .before .before .before .before .before .before .before .before .before .before .before .before .before .pre .1 .space)
+each-sub-lift-tree t c = omega (
+  arith,
+  c .before .before .before .before .before .before .before .before .before .before .before .before .before .before .before .before .before .before .before .before
+      .before .before .before .before .before .before .before .before .before .before .before .before .before .before .before .before .before .before .before .before .before .before .before .before
+      .before .before .before .before .before .before .before .before .before .before .before .pre .1 .space,
+)
 
 each-lift-tree-requires : (t : ℕ) → each-lts.Need-lift-tree-requires (each-callees t) (each-at t) each.Post
-each-lift-tree-requires t c κs = comprehensions.lift-fits (c .before .before .before .before .before .before .before .before .before .before .before .before .before .before .before .before .before .before .before .before .before .before .before .before .before .before .before .before .before .before .before .before .before .before .before .before .before .before .before .before .before .before .before .before .before .before .before .before .before .before .before .before .before .before .before .pre .1) (c .before .before .before .before .before .before .before .before .before .before .before .before .before .before .before .before .before .before .before .before .before .before .before .before .before .before .before .before .before .before .before .before .before .before .before .before .before .before .before .before .before .before .before .before .before .before .enter .ensures (c .before .before .before .before .before .before .before .before .before .before .before .before .before .before .before .before .before .before .before .before .before .before .before .before .before .before .before .before .before .before .before .before .before .before .before .before .before .before .before .before .before .before .before .before .before .before .before .before .before .before .before .before .before .before .before .pre .1) .goes-in _ _ (c .before .before .before .before .before .before .before .before .before .before .before .before .before .before .before .before .before .before .before .before .before .before .before .before .before .before .before .before .before .before .before .before .before .before .before .before .before .inner .given .1)) (c .before .before .before .before .before .before .before .before .before .before .before .before .before .before .before .before .before .before .before .before .before .before .before .before .before .before .before .before .before .before .before .before .before .before .before .before .before .before .before .before .before .before .before .before .before .before .enter .kept .1 .1 .1 .1 .0) (c .before .before .before .before .before .before .before .before .before .before .before .before .before .before .before .before .before .before .before .before .before .before .before .before .before .before .before .before .before .before .before .survey .ensures (over-ready (c .before .before .before .before .before .before .before .before .before .before .before .before .before .before .before .before .before .before .before .before .before .before .before .before .before .before .before .before .before .before .before .before .before .before .before .before .before .before .before .before .before .before .before .before .before .before .before .before .before .before .before .before .before .before .before .pre .1) (c .before .before .before .before .before .before .before .before .before .before .before .before .before .before .before .before .before .before .before .before .before .before .before .before .before .before .before .before .before .before .before .before .before .before .before .before .before .before .before .before .before .before .before .before .before .before .enter .ensures (c .before .before .before .before .before .before .before .before .before .before .before .before .before .before .before .before .before .before .before .before .before .before .before .before .before .before .before .before .before .before .before .before .before .before .before .before .before .before .before .before .before .before .before .before .before .before .before .before .before .before .before .before .before .before .before .pre .1) .goes-in _ _ (c .before .before .before .before .before .before .before .before .before .before .before .before .before .before .before .before .before .before .before .before .before .before .before .before .before .before .before .before .before .before .before .before .before .before .before .before .before .inner .given .1)) (c .before .before .before .before .before .before .before .before .before .before .before .before .before .before .before .before .before .before .before .before .before .before .before .before .before .before .before .before .before .before .before .before .before .before .before .before .before .before .before .before .before .before .before .before .before .before .enter .kept .1 .1 .1 .1 .0))) (c .before .before .before .before .before .before .before .before .before .before .before .before .before .before .before .before .before .before .before .before .before .before .before .before .before .before .before .before .before .before .before .survey .kept .1 .1 .1 .0) (c .before .before .before .before .before .before .before .before .before .before .before .before .before .before .before .before .before .before .before .before .before .before .before .before .before .before .before .before .before .before .before .survey .kept .1 .1 .1 .1 .0) (c .before .before .before .before .before .before .before .before .before .before .before .before .before .before .before .before .before .before .before .before .before .before .before .before .before .before .before .before .before .before .before .before .before .before .before .before .before .before .before .before .before .before .before .before .before .before .enter .kept .1 .1 .1 .1 .1 .0) (c .before .before .before .before .before .before .before .before .before .before .before .before .before .before .before .before .before .before .walk .ensures (told-ready (c .before .before .before .before .before .before .before .before .before .before .before .before .before .before .before .before .before .before .before .before .before .before .before .before .before .before .before .before .before .before .before .before .before .before .before .before .before .before .before .before .before .before .before .before .before .before .before .before .before .before .before .before .before .before .before .pre .1) (c .before .before .before .before .before .before .before .before .before .before .before .before .before .before .before .before .before .before .before .before .before .before .before .before .before .before .before .before .before .before .before .before .before .before .before .before .before .before .before .before .before .before .before .before .before .before .enter .ensures (c .before .before .before .before .before .before .before .before .before .before .before .before .before .before .before .before .before .before .before .before .before .before .before .before .before .before .before .before .before .before .before .before .before .before .before .before .before .before .before .before .before .before .before .before .before .before .before .before .before .before .before .before .before .before .before .pre .1) .goes-in _ _ (c .before .before .before .before .before .before .before .before .before .before .before .before .before .before .before .before .before .before .before .before .before .before .before .before .before .before .before .before .before .before .before .before .before .before .before .before .before .inner .given .1)) (c .before .before .before .before .before .before .before .before .before .before .before .before .before .before .before .before .before .before .before .before .before .before .before .before .before .before .before .before .before .before .before .before .before .before .before .before .before .before .before .before .before .before .before .before .before .before .enter .kept .1 .1 .1 .1 .0) (c .before .before .before .before .before .before .before .before .before .before .before .before .before .before .before .before .before .before .before .before .before .before .before .before .before .before .before .before .before .before .before .survey .ensures (over-ready (c .before .before .before .before .before .before .before .before .before .before .before .before .before .before .before .before .before .before .before .before .before .before .before .before .before .before .before .before .before .before .before .before .before .before .before .before .before .before .before .before .before .before .before .before .before .before .before .before .before .before .before .before .before .before .before .pre .1) (c .before .before .before .before .before .before .before .before .before .before .before .before .before .before .before .before .before .before .before .before .before .before .before .before .before .before .before .before .before .before .before .before .before .before .before .before .before .before .before .before .before .before .before .before .before .before .enter .ensures (c .before .before .before .before .before .before .before .before .before .before .before .before .before .before .before .before .before .before .before .before .before .before .before .before .before .before .before .before .before .before .before .before .before .before .before .before .before .before .before .before .before .before .before .before .before .before .before .before .before .before .before .before .before .before .before .pre .1) .goes-in _ _ (c .before .before .before .before .before .before .before .before .before .before .before .before .before .before .before .before .before .before .before .before .before .before .before .before .before .before .before .before .before .before .before .before .before .before .before .before .before .inner .given .1)) (c .before .before .before .before .before .before .before .before .before .before .before .before .before .before .before .before .before .before .before .before .before .before .before .before .before .before .before .before .before .before .before .before .before .before .before .before .before .before .before .before .before .before .before .before .before .before .enter .kept .1 .1 .1 .1 .0))) (c .before .before .before .before .before .before .before .before .before .before .before .before .before .before .before .before .before .before .before .before .before .before .before .before .before .before .before .before .before .before .before .survey .kept .1 .1 .1 .0) (c .before .before .before .before .before .before .before .before .before .before .before .before .before .before .before .before .before .before .before .before .before .before .before .before .before .before .before .before .before .before .before .survey .kept .1 .1 .1 .1 .0))) (c .before .before .before .before .before .before .before .before .before .depth .given .1) (c .before .before .before .before .before .before .before .before .before .before .before .before .before .before .before .before .before .before .walk .kept .1 .1 .1 .1 .0)
+each-lift-tree-requires t c κs = comprehensions.lift-fits (c .before .before .before .before .before .before .before .before .before .before .before .before .before .before .before .before .before
+    .before .before .before .before .before .before .before .before .before .before .before .before .before .before .before .before .before .before .before .before .before .before .before .before
+    .before .before .before .before .before .before .before .before .before .before .before .before .before .before .pre .1) (c .before .before .before .before .before .before .before .before .before
+    .before .before .before .before .before .before .before .before .before .before .before .before .before .before .before .before .before .before .before .before .before .before .before .before
+    .before .before .before .before .before .before .before .before .before .before .before .before .before .enter .ensures (c .before .before .before .before .before .before .before .before .before
+    .before .before .before .before .before .before .before .before .before .before .before .before .before .before .before .before .before .before .before .before .before .before .before .before
+    .before .before .before .before .before .before .before .before .before .before .before .before .before .before .before .before .before .before .before .before .before .before .pre .1) .goes-in _
+    _ (c .before .before .before .before .before .before .before .before .before .before .before .before .before .before .before .before .before .before .before .before .before .before .before .before
+    .before .before .before .before .before .before .before .before .before .before .before .before .before .inner .given .1)) (c .before .before .before .before .before .before .before .before
+    .before .before .before .before .before .before .before .before .before .before .before .before .before .before .before .before .before .before .before .before .before .before .before .before
+    .before .before .before .before .before .before .before .before .before .before .before .before .before .before .enter .kept .1 .1 .1 .1 .0) (c .before .before .before .before .before .before
+    .before .before .before .before .before .before .before .before .before .before .before .before .before .before .before .before .before .before .before .before .before .before .before .before
+    .before .survey .ensures (over-ready (c .before .before .before .before .before .before .before .before .before .before .before .before .before .before .before .before .before .before .before
+    .before .before .before .before .before .before .before .before .before .before .before .before .before .before .before .before .before .before .before .before .before .before .before .before
+    .before .before .before .before .before .before .before .before .before .before .before .before .pre .1) (c .before .before .before .before .before .before .before .before .before .before .before
+    .before .before .before .before .before .before .before .before .before .before .before .before .before .before .before .before .before .before .before .before .before .before .before .before
+    .before .before .before .before .before .before .before .before .before .before .before .enter .ensures (c .before .before .before .before .before .before .before .before .before .before .before
+    .before .before .before .before .before .before .before .before .before .before .before .before .before .before .before .before .before .before .before .before .before .before .before .before
+    .before .before .before .before .before .before .before .before .before .before .before .before .before .before .before .before .before .before .before .before .pre .1) .goes-in _ _ (c .before
+    .before .before .before .before .before .before .before .before .before .before .before .before .before .before .before .before .before .before .before .before .before .before .before .before
+    .before .before .before .before .before .before .before .before .before .before .before .before .inner .given .1)) (c .before .before .before .before .before .before .before .before .before
+    .before .before .before .before .before .before .before .before .before .before .before .before .before .before .before .before .before .before .before .before .before .before .before .before
+    .before .before .before .before .before .before .before .before .before .before .before .before .before .enter .kept .1 .1 .1 .1 .0))) (c .before .before .before .before .before .before .before
+    .before .before .before .before .before .before .before .before .before .before .before .before .before .before .before .before .before .before .before .before .before .before .before .before
+    .survey .kept .1 .1 .1 .0) (c .before .before .before .before .before .before .before .before .before .before .before .before .before .before .before .before .before .before .before .before
+    .before .before .before .before .before .before .before .before .before .before .before .survey .kept .1 .1 .1 .1 .0) (c .before .before .before .before .before .before .before .before .before
+    .before .before .before .before .before .before .before .before .before .before .before .before .before .before .before .before .before .before .before .before .before .before .before .before
+    .before .before .before .before .before .before .before .before .before .before .before .before .before .enter .kept .1 .1 .1 .1 .1 .0) (c .before .before .before .before .before .before .before
+    .before .before .before .before .before .before .before .before .before .before .before .walk .ensures (told-ready (c .before .before .before .before .before .before .before .before .before
+    .before .before .before .before .before .before .before .before .before .before .before .before .before .before .before .before .before .before .before .before .before .before .before .before
+    .before .before .before .before .before .before .before .before .before .before .before .before .before .before .before .before .before .before .before .before .before .before .pre .1) (c .before
+    .before .before .before .before .before .before .before .before .before .before .before .before .before .before .before .before .before .before .before .before .before .before .before .before
+    .before .before .before .before .before .before .before .before .before .before .before .before .before .before .before .before .before .before .before .before .before .enter .ensures (c .before
+    .before .before .before .before .before .before .before .before .before .before .before .before .before .before .before .before .before .before .before .before .before .before .before .before
+    .before .before .before .before .before .before .before .before .before .before .before .before .before .before .before .before .before .before .before .before .before .before .before .before
+    .before .before .before .before .before .before .pre .1) .goes-in _ _ (c .before .before .before .before .before .before .before .before .before .before .before .before .before .before .before
+    .before .before .before .before .before .before .before .before .before .before .before .before .before .before .before .before .before .before .before .before .before .before .inner .given .1))
+    (c .before .before .before .before .before .before .before .before .before .before .before .before .before .before .before .before .before .before .before .before .before .before .before .before
+    .before .before .before .before .before .before .before .before .before .before .before .before .before .before .before .before .before .before .before .before .before .before .enter .kept .1 .1
+    .1 .1 .0) (c .before .before .before .before .before .before .before .before .before .before .before .before .before .before .before .before .before .before .before .before .before .before .before
+    .before .before .before .before .before .before .before .before .survey .ensures (over-ready (c .before .before .before .before .before .before .before .before .before .before .before .before
+    .before .before .before .before .before .before .before .before .before .before .before .before .before .before .before .before .before .before .before .before .before .before .before .before
+    .before .before .before .before .before .before .before .before .before .before .before .before .before .before .before .before .before .before .before .pre .1) (c .before .before .before .before
+    .before .before .before .before .before .before .before .before .before .before .before .before .before .before .before .before .before .before .before .before .before .before .before .before
+    .before .before .before .before .before .before .before .before .before .before .before .before .before .before .before .before .before .before .enter .ensures (c .before .before .before .before
+    .before .before .before .before .before .before .before .before .before .before .before .before .before .before .before .before .before .before .before .before .before .before .before .before
+    .before .before .before .before .before .before .before .before .before .before .before .before .before .before .before .before .before .before .before .before .before .before .before .before
+    .before .before .before .pre .1) .goes-in _ _ (c .before .before .before .before .before .before .before .before .before .before .before .before .before .before .before .before .before .before
+    .before .before .before .before .before .before .before .before .before .before .before .before .before .before .before .before .before .before .before .inner .given .1)) (c .before .before
+    .before .before .before .before .before .before .before .before .before .before .before .before .before .before .before .before .before .before .before .before .before .before .before .before
+    .before .before .before .before .before .before .before .before .before .before .before .before .before .before .before .before .before .before .before .before .enter .kept .1 .1 .1 .1 .0))) (c
+    .before .before .before .before .before .before .before .before .before .before .before .before .before .before .before .before .before .before .before .before .before .before .before .before
+    .before .before .before .before .before .before .before .survey .kept .1 .1 .1 .0) (c .before .before .before .before .before .before .before .before .before .before .before .before .before
+    .before .before .before .before .before .before .before .before .before .before .before .before .before .before .before .before .before .before .survey .kept .1 .1 .1 .1 .0))) (c .before .before
+    .before .before .before .before .before .before .before .depth .given .1) (c .before .before .before .before .before .before .before .before .before .before .before .before .before .before .before
+    .before .before .before .walk .kept .1 .1 .1 .1 .0)
 
 each-add-t58 : (t : ℕ) → each-lts.Need-add-t58 (each-callees t) (each-at t) each.Post
-each-add-t58 t c = omega (arith, comprehensions.one-deeper (c .before .before .before .before .before .before .before .before .before .before .before .before .before .before .before .before .before .before .before .before .before .before .before .before .before .before .before .before .before .before .before .before .before .before .before .before .before .before .before .before .before .before .before .before .before .before .before .before .before .before .before .before .before .before .before .before .before .before .pre .1) (c .before .before .before .before .before .before .before .before .before .before .before .before .before .before .before .before .before .before .before .before .before .before .before .before .before .before .before .before .before .before .before .before .before .before .before .before .before .before .before .before .before .before .before .before .before .before .before .before .before .enter .ensures (c .before .before .before .before .before .before .before .before .before .before .before .before .before .before .before .before .before .before .before .before .before .before .before .before .before .before .before .before .before .before .before .before .before .before .before .before .before .before .before .before .before .before .before .before .before .before .before .before .before .before .before .before .before .before .before .before .before .before .pre .1) .goes-in _ _ (c .before .before .before .before .before .before .before .before .before .before .before .before .before .before .before .before .before .before .before .before .before .before .before .before .before .before .before .before .before .before .before .before .before .before .before .before .before .before .before .before .inner .given .1)) (c .before .before .before .before .before .before .before .before .before .before .before .before .before .before .before .before .before .before .before .before .before .before .before .before .before .before .before .before .before .before .before .before .before .before .before .before .before .before .before .before .before .before .before .before .before .before .before .before .before .enter .kept .1 .1 .1 .1 .0) (c .before .before .before .before .before .before .before .before .before .before .before .before .before .before .before .before .before .before .before .before .before .before .before .before .before .before .before .before .before .before .before .before .before .before .survey .ensures (over-ready (c .before .before .before .before .before .before .before .before .before .before .before .before .before .before .before .before .before .before .before .before .before .before .before .before .before .before .before .before .before .before .before .before .before .before .before .before .before .before .before .before .before .before .before .before .before .before .before .before .before .before .before .before .before .before .before .before .before .before .pre .1) (c .before .before .before .before .before .before .before .before .before .before .before .before .before .before .before .before .before .before .before .before .before .before .before .before .before .before .before .before .before .before .before .before .before .before .before .before .before .before .before .before .before .before .before .before .before .before .before .before .before .enter .ensures (c .before .before .before .before .before .before .before .before .before .before .before .before .before .before .before .before .before .before .before .before .before .before .before .before .before .before .before .before .before .before .before .before .before .before .before .before .before .before .before .before .before .before .before .before .before .before .before .before .before .before .before .before .before .before .before .before .before .before .pre .1) .goes-in _ _ (c .before .before .before .before .before .before .before .before .before .before .before .before .before .before .before .before .before .before .before .before .before .before .before .before .before .before .before .before .before .before .before .before .before .before .before .before .before .before .before .before .inner .given .1)) (c .before .before .before .before .before .before .before .before .before .before .before .before .before .before .before .before .before .before .before .before .before .before .before .before .before .before .before .before .before .before .before .before .before .before .before .before .before .before .before .before .before .before .before .before .before .before .before .before .before .enter .kept .1 .1 .1 .1 .0))) (c .before .before .before .before .before .before .before .before .before .before .before .before .before .before .before .before .before .before .before .before .before .before .before .before .before .before .before .before .before .before .before .before .before .before .survey .kept .1 .1 .1 .0) (c .before .before .before .before .before .before .before .before .before .before .before .before .before .before .before .before .before .before .before .before .before .before .before .before .before .before .before .before .before .before .before .before .before .before .survey .kept .1 .1 .1 .1 .0) (c .before .before .before .before .before .before .before .before .before .before .before .before .before .before .before .before .before .before .before .before .before .before .before .before .before .before .before .before .before .before .before .before .before .before .before .before .before .before .before .before .before .before .before .before .before .before .before .before .before .enter .kept .1 .1 .1 .1 .1 .0) (c .before .before .before .before .before .before .before .before .before .before .before .before .before .before .before .before .before .before .before .before .before .walk .ensures (told-ready (c .before .before .before .before .before .before .before .before .before .before .before .before .before .before .before .before .before .before .before .before .before .before .before .before .before .before .before .before .before .before .before .before .before .before .before .before .before .before .before .before .before .before .before .before .before .before .before .before .before .before .before .before .before .before .before .before .before .before .pre .1) (c .before .before .before .before .before .before .before .before .before .before .before .before .before .before .before .before .before .before .before .before .before .before .before .before .before .before .before .before .before .before .before .before .before .before .before .before .before .before .before .before .before .before .before .before .before .before .before .before .before .enter .ensures (c .before .before .before .before .before .before .before .before .before .before .before .before .before .before .before .before .before .before .before .before .before .before .before .before .before .before .before .before .before .before .before .before .before .before .before .before .before .before .before .before .before .before .before .before .before .before .before .before .before .before .before .before .before .before .before .before .before .before .pre .1) .goes-in _ _ (c .before .before .before .before .before .before .before .before .before .before .before .before .before .before .before .before .before .before .before .before .before .before .before .before .before .before .before .before .before .before .before .before .before .before .before .before .before .before .before .before .inner .given .1)) (c .before .before .before .before .before .before .before .before .before .before .before .before .before .before .before .before .before .before .before .before .before .before .before .before .before .before .before .before .before .before .before .before .before .before .before .before .before .before .before .before .before .before .before .before .before .before .before .before .before .enter .kept .1 .1 .1 .1 .0) (c .before .before .before .before .before .before .before .before .before .before .before .before .before .before .before .before .before .before .before .before .before .before .before .before .before .before .before .before .before .before .before .before .before .before .survey .ensures (over-ready (c .before .before .before .before .before .before .before .before .before .before .before .before .before .before .before .before .before .before .before .before .before .before .before .before .before .before .before .before .before .before .before .before .before .before .before .before .before .before .before .before .before .before .before .before .before .before .before .before .before .before .before .before .before .before .before .before .before .before .pre .1) (c .before .before .before .before .before .before .before .before .before .before .before .before .before .before .before .before .before .before .before .before .before .before .before .before .before .before .before .before .before .before .before .before .before .before .before .before .before .before .before .before .before .before .before .before .before .before .before .before .before .enter .ensures (c .before .before .before .before .before .before .before .before .before .before .before .before .before .before .before .before .before .before .before .before .before .before .before .before .before .before .before .before .before .before .before .before .before .before .before .before .before .before .before .before .before .before .before .before .before .before .before .before .before .before .before .before .before .before .before .before .before .before .pre .1) .goes-in _ _ (c .before .before .before .before .before .before .before .before .before .before .before .before .before .before .before .before .before .before .before .before .before .before .before .before .before .before .before .before .before .before .before .before .before .before .before .before .before .before .before .before .inner .given .1)) (c .before .before .before .before .before .before .before .before .before .before .before .before .before .before .before .before .before .before .before .before .before .before .before .before .before .before .before .before .before .before .before .before .before .before .before .before .before .before .before .before .before .before .before .before .before .before .before .before .before .enter .kept .1 .1 .1 .1 .0))) (c .before .before .before .before .before .before .before .before .before .before .before .before .before .before .before .before .before .before .before .before .before .before .before .before .before .before .before .before .before .before .before .before .before .before .survey .kept .1 .1 .1 .0) (c .before .before .before .before .before .before .before .before .before .before .before .before .before .before .before .before .before .before .before .before .before .before .before .before .before .before .before .before .before .before .before .before .before .before .survey .kept .1 .1 .1 .1 .0))) (c .before .before .before .before .before .before .before .before .before .before .before .before .depth .given .1))
+each-add-t58 t c = omega (
+  arith,
+  comprehensions.one-deeper (c .before .before .before .before .before .before .before .before .before .before .before .before .before .before .before .before .before
+      .before .before .before .before .before .before .before .before .before .before .before .before .before .before .before .before .before .before .before .before .before .before .before .before
+      .before .before .before .before .before .before .before .before .before .before .before .before .before .before .before .before .before .pre .1) (c .before .before .before .before .before .before
+      .before .before .before .before .before .before .before .before .before .before .before .before .before .before .before .before .before .before .before .before .before .before .before .before
+      .before .before .before .before .before .before .before .before .before .before .before .before .before .before .before .before .before .before .before .enter .ensures (c .before .before .before
+      .before .before .before .before .before .before .before .before .before .before .before .before .before .before .before .before .before .before .before .before .before .before .before .before
+      .before .before .before .before .before .before .before .before .before .before .before .before .before .before .before .before .before .before .before .before .before .before .before .before
+      .before .before .before .before .before .before .before .pre .1) .goes-in _ _ (c .before .before .before .before .before .before .before .before .before .before .before .before .before .before
+      .before .before .before .before .before .before .before .before .before .before .before .before .before .before .before .before .before .before .before .before .before .before .before .before
+      .before .before .inner .given .1)) (c .before .before .before .before .before .before .before .before .before .before .before .before .before .before .before .before .before .before .before
+      .before .before .before .before .before .before .before .before .before .before .before .before .before .before .before .before .before .before .before .before .before .before .before .before
+      .before .before .before .before .before .before .enter .kept .1 .1 .1 .1 .0) (c .before .before .before .before .before .before .before .before .before .before .before .before .before .before
+      .before .before .before .before .before .before .before .before .before .before .before .before .before .before .before .before .before .before .before .before .survey .ensures (over-ready (c
+      .before .before .before .before .before .before .before .before .before .before .before .before .before .before .before .before .before .before .before .before .before .before .before .before
+      .before .before .before .before .before .before .before .before .before .before .before .before .before .before .before .before .before .before .before .before .before .before .before .before
+      .before .before .before .before .before .before .before .before .before .before .pre .1) (c .before .before .before .before .before .before .before .before .before .before .before .before .before
+      .before .before .before .before .before .before .before .before .before .before .before .before .before .before .before .before .before .before .before .before .before .before .before .before
+      .before .before .before .before .before .before .before .before .before .before .before .before .enter .ensures (c .before .before .before .before .before .before .before .before .before .before
+      .before .before .before .before .before .before .before .before .before .before .before .before .before .before .before .before .before .before .before .before .before .before .before .before
+      .before .before .before .before .before .before .before .before .before .before .before .before .before .before .before .before .before .before .before .before .before .before .before .before .pre
+      .1) .goes-in _ _ (c .before .before .before .before .before .before .before .before .before .before .before .before .before .before .before .before .before .before .before .before .before .before
+      .before .before .before .before .before .before .before .before .before .before .before .before .before .before .before .before .before .before .inner .given .1)) (c .before .before .before
+      .before .before .before .before .before .before .before .before .before .before .before .before .before .before .before .before .before .before .before .before .before .before .before .before
+      .before .before .before .before .before .before .before .before .before .before .before .before .before .before .before .before .before .before .before .before .before .before .enter .kept .1 .1
+      .1 .1 .0))) (c .before .before .before .before .before .before .before .before .before .before .before .before .before .before .before .before .before .before .before .before .before .before
+      .before .before .before .before .before .before .before .before .before .before .before .before .survey .kept .1 .1 .1 .0) (c .before .before .before .before .before .before .before .before
+      .before .before .before .before .before .before .before .before .before .before .before .before .before .before .before .before .before .before .before .before .before .before .before .before
+      .before .before .survey .kept .1 .1 .1 .1 .0) (c .before .before .before .before .before .before .before .before .before .before .before .before .before .before .before .before .before .before
+      .before .before .before .before .before .before .before .before .before .before .before .before .before .before .before .before .before .before .before .before .before .before .before .before
+      .before .before .before .before .before .before .before .enter .kept .1 .1 .1 .1 .1 .0) (c .before .before .before .before .before .before .before .before .before .before .before .before .before
+      .before .before .before .before .before .before .before .before .walk .ensures (told-ready (c .before .before .before .before .before .before .before .before .before .before .before .before
+      .before .before .before .before .before .before .before .before .before .before .before .before .before .before .before .before .before .before .before .before .before .before .before .before
+      .before .before .before .before .before .before .before .before .before .before .before .before .before .before .before .before .before .before .before .before .before .before .pre .1) (c .before
+      .before .before .before .before .before .before .before .before .before .before .before .before .before .before .before .before .before .before .before .before .before .before .before .before
+      .before .before .before .before .before .before .before .before .before .before .before .before .before .before .before .before .before .before .before .before .before .before .before .before
+      .enter .ensures (c .before .before .before .before .before .before .before .before .before .before .before .before .before .before .before .before .before .before .before .before .before .before
+      .before .before .before .before .before .before .before .before .before .before .before .before .before .before .before .before .before .before .before .before .before .before .before .before
+      .before .before .before .before .before .before .before .before .before .before .before .before .pre .1) .goes-in _ _ (c .before .before .before .before .before .before .before .before .before
+      .before .before .before .before .before .before .before .before .before .before .before .before .before .before .before .before .before .before .before .before .before .before .before .before
+      .before .before .before .before .before .before .before .inner .given .1)) (c .before .before .before .before .before .before .before .before .before .before .before .before .before .before
+      .before .before .before .before .before .before .before .before .before .before .before .before .before .before .before .before .before .before .before .before .before .before .before .before
+      .before .before .before .before .before .before .before .before .before .before .before .enter .kept .1 .1 .1 .1 .0) (c .before .before .before .before .before .before .before .before .before
+      .before .before .before .before .before .before .before .before .before .before .before .before .before .before .before .before .before .before .before .before .before .before .before .before
+      .before .survey .ensures (over-ready (c .before .before .before .before .before .before .before .before .before .before .before .before .before .before .before .before .before .before .before
+      .before .before .before .before .before .before .before .before .before .before .before .before .before .before .before .before .before .before .before .before .before .before .before .before
+      .before .before .before .before .before .before .before .before .before .before .before .before .before .before .before .pre .1) (c .before .before .before .before .before .before .before .before
+      .before .before .before .before .before .before .before .before .before .before .before .before .before .before .before .before .before .before .before .before .before .before .before .before
+      .before .before .before .before .before .before .before .before .before .before .before .before .before .before .before .before .before .enter .ensures (c .before .before .before .before .before
+      .before .before .before .before .before .before .before .before .before .before .before .before .before .before .before .before .before .before .before .before .before .before .before .before
+      .before .before .before .before .before .before .before .before .before .before .before .before .before .before .before .before .before .before .before .before .before .before .before .before
+      .before .before .before .before .before .pre .1) .goes-in _ _ (c .before .before .before .before .before .before .before .before .before .before .before .before .before .before .before .before
+      .before .before .before .before .before .before .before .before .before .before .before .before .before .before .before .before .before .before .before .before .before .before .before .before
+      .inner .given .1)) (c .before .before .before .before .before .before .before .before .before .before .before .before .before .before .before .before .before .before .before .before .before
+      .before .before .before .before .before .before .before .before .before .before .before .before .before .before .before .before .before .before .before .before .before .before .before .before
+      .before .before .before .before .enter .kept .1 .1 .1 .1 .0))) (c .before .before .before .before .before .before .before .before .before .before .before .before .before .before .before .before
+      .before .before .before .before .before .before .before .before .before .before .before .before .before .before .before .before .before .before .survey .kept .1 .1 .1 .0) (c .before .before
+      .before .before .before .before .before .before .before .before .before .before .before .before .before .before .before .before .before .before .before .before .before .before .before .before
+      .before .before .before .before .before .before .before .before .survey .kept .1 .1 .1 .1 .0))) (c .before .before .before .before .before .before .before .before .before .before .before .before
+      .depth .given .1),
+)
 
 each-enum-known-r : (t : ℕ) → each-lts.Need-enum-known-r (each-callees t) (each-at t) each.Post
 each-enum-known-r t c = search needs
@@ -251,34 +590,133 @@ each-enum-known-r-2 : (t : ℕ) → each-lts.Need-enum-known-r-2 (each-callees t
 each-enum-known-r-2 t c = search needs
 
 each-same-length : (t : ℕ) → each-lts.Need-same-length (each-callees t) (each-at t) each.Post
-each-same-length t c = c .before .before .lift-tree .kept .0 ∙ ((c .before .before .before .before .before .before .before .before .before .before .before .before .before .before .before .before .before .before .before .before .before .walk .kept .1 .1 .1 .1 .0) ∙ ((c .before .before .before .before .before .before .before .before .before .before .before .before .before .before .before .before .before .before .before .before .before .before .before .before .before .before .before .before .before .before .before .before .before .before .survey .kept .1 .1 .1 .0) ∙ (c .before .before .before .before .before .before .before .before .before .before .before .before .before .before .before .before .before .before .before .before .before .before .before .before .before .before .before .before .before .before .before .before .before .before .before .before .before .before .before .before .before .before .before .before .before .before .before .before .before .enter .kept .1 .1 .1 .1 .0)))
+each-same-length t c = c .before .before .lift-tree .kept .0 ∙ ((c .before .before .before .before .before .before .before .before .before .before .before .before .before .before .before .before
+    .before .before .before .before .before .walk .kept .1 .1 .1 .1 .0) ∙ ((c .before .before .before .before .before .before .before .before .before .before .before .before .before .before .before
+    .before .before .before .before .before .before .before .before .before .before .before .before .before .before .before .before .before .before .before .survey .kept .1 .1 .1 .0) ∙ (c .before
+    .before .before .before .before .before .before .before .before .before .before .before .before .before .before .before .before .before .before .before .before .before .before .before .before
+    .before .before .before .before .before .before .before .before .before .before .before .before .before .before .before .before .before .before .before .before .before .before .before .before
+    .enter .kept .1 .1 .1 .1 .0)))
 
 each-same-length-2 : (t : ℕ) → each-lts.Need-same-length-2 (each-callees t) (each-at t) each.Post
-each-same-length-2 t c = c .before .before .before .before .before .before .before .before .before .before .before .before .before .before .before .before .before .before .before .before .before .walk .kept .1 .1 .1 .1 .1 .0 ∙ ((c .before .before .before .before .before .before .before .before .before .before .before .before .before .before .before .before .before .before .before .before .before .before .before .before .before .before .before .before .before .before .before .before .before .before .survey .kept .1 .1 .1 .1 .0) ∙ (c .before .before .before .before .before .before .before .before .before .before .before .before .before .before .before .before .before .before .before .before .before .before .before .before .before .before .before .before .before .before .before .before .before .before .before .before .before .before .before .before .before .before .before .before .before .before .before .before .before .enter .kept .1 .1 .1 .1 .1 .0))
+each-same-length-2 t c = c .before .before .before .before .before .before .before .before .before .before .before .before .before .before .before .before .before .before .before .before .before .walk
+    .kept .1 .1 .1 .1 .1 .0 ∙ ((c .before .before .before .before .before .before .before .before .before .before .before .before .before .before .before .before .before .before .before .before
+    .before .before .before .before .before .before .before .before .before .before .before .before .before .before .survey .kept .1 .1 .1 .1 .0) ∙ (c .before .before .before .before .before .before
+    .before .before .before .before .before .before .before .before .before .before .before .before .before .before .before .before .before .before .before .before .before .before .before .before
+    .before .before .before .before .before .before .before .before .before .before .before .before .before .before .before .before .before .before .before .enter .kept .1 .1 .1 .1 .1 .0))
 
 each-same-length-3 : (t : ℕ) → each-lts.Need-same-length-3 (each-callees t) (each-at t) each.Post
-each-same-length-3 t c = c .before .before .before .before .before .before .before .before .tell .kept .1 .1 .0 ∙ (c .before .before .before .before .before .before .before .before .before .before .before .before .before .before .before .before .before .before .before .before .before .walk .kept .1 .1 .1 .1 .1 .1 .0 ∙ (c .before .before .before .before .before .before .before .before .before .before .before .before .before .before .before .before .before .before .before .before .before .before .before .before .before .before .before .before .before .before .before .before .before .before .survey .kept .1 .1 .1 .1 .1 .0 ∙ c .before .before .before .before .before .before .before .before .before .before .before .before .before .before .before .before .before .before .before .before .before .before .before .before .before .before .before .before .before .before .before .before .before .before .before .before .before .before .before .before .before .before .before .before .before .before .before .before .before .enter .kept .1 .1 .1 .1 .1 .1 .0))
+each-same-length-3 t c = c .before .before .before .before .before .before .before .before .tell .kept .1 .1 .0 ∙ (c .before .before .before .before .before .before .before .before .before .before
+    .before .before .before .before .before .before .before .before .before .before .before .walk .kept .1 .1 .1 .1 .1 .1 .0 ∙ (c .before .before .before .before .before .before .before .before
+    .before .before .before .before .before .before .before .before .before .before .before .before .before .before .before .before .before .before .before .before .before .before .before .before
+    .before .before .survey .kept .1 .1 .1 .1 .1 .0 ∙ c .before .before .before .before .before .before .before .before .before .before .before .before .before .before .before .before .before .before
+    .before .before .before .before .before .before .before .before .before .before .before .before .before .before .before .before .before .before .before .before .before .before .before .before
+    .before .before .before .before .before .before .before .enter .kept .1 .1 .1 .1 .1 .1 .0))
 
 each-same-length-4 : (t : ℕ) → each-lts.Need-same-length-4 (each-callees t) (each-at t) each.Post
-each-same-length-4 t c = c .before .before .before .before .before .before .before .before .tell .kept .1 .0 ∙ (c .before .before .before .before .before .before .before .before .before .before .before .before .before .before .before .before .before .before .before .before .before .walk .kept .1 .1 .1 .1 .1 .1 .1 .0 ∙ (c .before .before .before .before .before .before .before .before .before .before .before .before .before .before .before .before .before .before .before .before .before .before .before .before .before .before .before .before .before .before .before .before .before .before .survey .kept .1 .1 .1 .1 .1 .1 .0 ∙ c .before .before .before .before .before .before .before .before .before .before .before .before .before .before .before .before .before .before .before .before .before .before .before .before .before .before .before .before .before .before .before .before .before .before .before .before .before .before .before .before .before .before .before .before .before .before .before .before .before .enter .kept .1 .1 .1 .1 .1 .1 .1 .0))
+each-same-length-4 t c = c .before .before .before .before .before .before .before .before .tell .kept .1 .0 ∙ (c .before .before .before .before .before .before .before .before .before .before
+    .before .before .before .before .before .before .before .before .before .before .before .walk .kept .1 .1 .1 .1 .1 .1 .1 .0 ∙ (c .before .before .before .before .before .before .before .before
+    .before .before .before .before .before .before .before .before .before .before .before .before .before .before .before .before .before .before .before .before .before .before .before .before
+    .before .before .survey .kept .1 .1 .1 .1 .1 .1 .0 ∙ c .before .before .before .before .before .before .before .before .before .before .before .before .before .before .before .before .before
+    .before .before .before .before .before .before .before .before .before .before .before .before .before .before .before .before .before .before .before .before .before .before .before .before
+    .before .before .before .before .before .before .before .before .enter .kept .1 .1 .1 .1 .1 .1 .1 .0))
 
 each-returns : (t : ℕ) → each-lts.Need-returns (each-callees t) (each-at t) each.Post
-each-returns t c = λ g. comprehensions.each-runs g (c .before .before .before .before .before .before .before .before .before .before .before .before .before .before .before .before .before .before .before .before .before .before .before .before .before .before .before .before .before .before .before .before .before .before .before .before .before .before .before .before .before .before .before .before .before .before .before .before .before .enter .ensures g .goes-in _ _ (c .before .before .before .before .before .before .before .before .before .before .before .before .before .before .before .before .before .before .before .before .before .before .before .before .before .before .before .before .before .before .before .before .before .before .before .before .before .before .before .before .inner .given .1)) (c .before .before .before .before .before .before .before .before .before .before .before .before .before .before .before .before .before .before .before .before .before .before .before .before .before .before .before .before .before .before .before .before .before .before .before .before .before .before .before .before .before .before .before .before .before .before .before .before .before .enter .kept .1 .1 .1 .1 .0) (c .before .before .before .before .before .before .before .before .before .before .before .before .before .before .before .before .before .before .before .before .before .before .before .before .before .before .before .before .before .before .before .before .before .before .survey .ensures (over-ready g (c .before .before .before .before .before .before .before .before .before .before .before .before .before .before .before .before .before .before .before .before .before .before .before .before .before .before .before .before .before .before .before .before .before .before .before .before .before .before .before .before .before .before .before .before .before .before .before .before .before .enter .ensures g .goes-in _ _ (c .before .before .before .before .before .before .before .before .before .before .before .before .before .before .before .before .before .before .before .before .before .before .before .before .before .before .before .before .before .before .before .before .before .before .before .before .before .before .before .before .inner .given .1)) (c .before .before .before .before .before .before .before .before .before .before .before .before .before .before .before .before .before .before .before .before .before .before .before .before .before .before .before .before .before .before .before .before .before .before .before .before .before .before .before .before .before .before .before .before .before .before .before .before .before .enter .kept .1 .1 .1 .1 .0))) (c .before .before .before .before .before .before .before .before .before .before .before .before .before .before .before .before .before .before .before .before .before .before .before .before .before .before .before .before .before .before .before .before .before .before .survey .kept .1 .1 .1 .0) (c .before .before .before .before .before .before .before .before .before .before .before .before .before .before .before .before .before .before .before .before .before .before .before .before .before .before .before .before .before .before .before .before .before .before .survey .kept .1 .1 .1 .1 .0) (c .before .before .before .before .before .before .before .before .before .before .before .before .before .before .before .before .before .before .before .before .before .before .before .before .before .before .before .before .before .before .before .before .before .before .before .before .before .before .before .before .before .before .before .before .before .before .before .before .before .enter .kept .1 .1 .1 .1 .1 .0) (c .before .before .before .before .before .before .before .before .before .before .before .before .before .before .before .before .before .before .before .before .before .walk .ensures (told-ready g (c .before .before .before .before .before .before .before .before .before .before .before .before .before .before .before .before .before .before .before .before .before .before .before .before .before .before .before .before .before .before .before .before .before .before .before .before .before .before .before .before .before .before .before .before .before .before .before .before .before .enter .ensures g .goes-in _ _ (c .before .before .before .before .before .before .before .before .before .before .before .before .before .before .before .before .before .before .before .before .before .before .before .before .before .before .before .before .before .before .before .before .before .before .before .before .before .before .before .before .inner .given .1)) (c .before .before .before .before .before .before .before .before .before .before .before .before .before .before .before .before .before .before .before .before .before .before .before .before .before .before .before .before .before .before .before .before .before .before .before .before .before .before .before .before .before .before .before .before .before .before .before .before .before .enter .kept .1 .1 .1 .1 .0) (c .before .before .before .before .before .before .before .before .before .before .before .before .before .before .before .before .before .before .before .before .before .before .before .before .before .before .before .before .before .before .before .before .before .before .survey .ensures (over-ready g (c .before .before .before .before .before .before .before .before .before .before .before .before .before .before .before .before .before .before .before .before .before .before .before .before .before .before .before .before .before .before .before .before .before .before .before .before .before .before .before .before .before .before .before .before .before .before .before .before .before .enter .ensures g .goes-in _ _ (c .before .before .before .before .before .before .before .before .before .before .before .before .before .before .before .before .before .before .before .before .before .before .before .before .before .before .before .before .before .before .before .before .before .before .before .before .before .before .before .before .inner .given .1)) (c .before .before .before .before .before .before .before .before .before .before .before .before .before .before .before .before .before .before .before .before .before .before .before .before .before .before .before .before .before .before .before .before .before .before .before .before .before .before .before .before .before .before .before .before .before .before .before .before .before .enter .kept .1 .1 .1 .1 .0))) (c .before .before .before .before .before .before .before .before .before .before .before .before .before .before .before .before .before .before .before .before .before .before .before .before .before .before .before .before .before .before .before .before .before .before .survey .kept .1 .1 .1 .0) (c .before .before .before .before .before .before .before .before .before .before .before .before .before .before .before .before .before .before .before .before .before .before .before .before .before .before .before .before .before .before .before .before .before .before .survey .kept .1 .1 .1 .1 .0))) (c .before .before .before .before .before .before .before .before .before .before .before .before .depth .given .1) (c .before .before .before .before .before .before .before .before .before .before .before .before .before .before .before .before .before .before .before .before .before .walk .kept .1 .1 .1 .1 .0) (c .before .before .before .before .before .before .before .before .tell .ensures) (c .before .before .lift-tree .ensures)
+each-returns t c = λ g. comprehensions.each-runs g (c .before .before .before .before .before .before .before .before .before .before .before .before .before .before .before .before .before .before
+    .before .before .before .before .before .before .before .before .before .before .before .before .before .before .before .before .before .before .before .before .before .before .before .before
+    .before .before .before .before .before .before .before .enter .ensures g .goes-in _ _ (c .before .before .before .before .before .before .before .before .before .before .before .before .before
+    .before .before .before .before .before .before .before .before .before .before .before .before .before .before .before .before .before .before .before .before .before .before .before .before
+    .before .before .before .inner .given .1)) (c .before .before .before .before .before .before .before .before .before .before .before .before .before .before .before .before .before .before
+    .before .before .before .before .before .before .before .before .before .before .before .before .before .before .before .before .before .before .before .before .before .before .before .before
+    .before .before .before .before .before .before .before .enter .kept .1 .1 .1 .1 .0) (c .before .before .before .before .before .before .before .before .before .before .before .before .before
+    .before .before .before .before .before .before .before .before .before .before .before .before .before .before .before .before .before .before .before .before .before .survey .ensures (over-ready
+    g (c .before .before .before .before .before .before .before .before .before .before .before .before .before .before .before .before .before .before .before .before .before .before .before .before
+    .before .before .before .before .before .before .before .before .before .before .before .before .before .before .before .before .before .before .before .before .before .before .before .before
+    .before .enter .ensures g .goes-in _ _ (c .before .before .before .before .before .before .before .before .before .before .before .before .before .before .before .before .before .before .before
+    .before .before .before .before .before .before .before .before .before .before .before .before .before .before .before .before .before .before .before .before .before .inner .given .1)) (c
+    .before .before .before .before .before .before .before .before .before .before .before .before .before .before .before .before .before .before .before .before .before .before .before .before
+    .before .before .before .before .before .before .before .before .before .before .before .before .before .before .before .before .before .before .before .before .before .before .before .before
+    .before .enter .kept .1 .1 .1 .1 .0))) (c .before .before .before .before .before .before .before .before .before .before .before .before .before .before .before .before .before .before .before
+    .before .before .before .before .before .before .before .before .before .before .before .before .before .before .before .survey .kept .1 .1 .1 .0) (c .before .before .before .before .before
+    .before .before .before .before .before .before .before .before .before .before .before .before .before .before .before .before .before .before .before .before .before .before .before .before
+    .before .before .before .before .before .survey .kept .1 .1 .1 .1 .0) (c .before .before .before .before .before .before .before .before .before .before .before .before .before .before .before
+    .before .before .before .before .before .before .before .before .before .before .before .before .before .before .before .before .before .before .before .before .before .before .before .before
+    .before .before .before .before .before .before .before .before .before .before .enter .kept .1 .1 .1 .1 .1 .0) (c .before .before .before .before .before .before .before .before .before .before
+    .before .before .before .before .before .before .before .before .before .before .before .walk .ensures (told-ready g (c .before .before .before .before .before .before .before .before .before
+    .before .before .before .before .before .before .before .before .before .before .before .before .before .before .before .before .before .before .before .before .before .before .before .before
+    .before .before .before .before .before .before .before .before .before .before .before .before .before .before .before .before .enter .ensures g .goes-in _ _ (c .before .before .before .before
+    .before .before .before .before .before .before .before .before .before .before .before .before .before .before .before .before .before .before .before .before .before .before .before .before
+    .before .before .before .before .before .before .before .before .before .before .before .before .inner .given .1)) (c .before .before .before .before .before .before .before .before .before
+    .before .before .before .before .before .before .before .before .before .before .before .before .before .before .before .before .before .before .before .before .before .before .before .before
+    .before .before .before .before .before .before .before .before .before .before .before .before .before .before .before .before .enter .kept .1 .1 .1 .1 .0) (c .before .before .before .before
+    .before .before .before .before .before .before .before .before .before .before .before .before .before .before .before .before .before .before .before .before .before .before .before .before
+    .before .before .before .before .before .before .survey .ensures (over-ready g (c .before .before .before .before .before .before .before .before .before .before .before .before .before .before
+    .before .before .before .before .before .before .before .before .before .before .before .before .before .before .before .before .before .before .before .before .before .before .before .before
+    .before .before .before .before .before .before .before .before .before .before .before .enter .ensures g .goes-in _ _ (c .before .before .before .before .before .before .before .before .before
+    .before .before .before .before .before .before .before .before .before .before .before .before .before .before .before .before .before .before .before .before .before .before .before .before
+    .before .before .before .before .before .before .before .inner .given .1)) (c .before .before .before .before .before .before .before .before .before .before .before .before .before .before
+    .before .before .before .before .before .before .before .before .before .before .before .before .before .before .before .before .before .before .before .before .before .before .before .before
+    .before .before .before .before .before .before .before .before .before .before .before .enter .kept .1 .1 .1 .1 .0))) (c .before .before .before .before .before .before .before .before .before
+    .before .before .before .before .before .before .before .before .before .before .before .before .before .before .before .before .before .before .before .before .before .before .before .before
+    .before .survey .kept .1 .1 .1 .0) (c .before .before .before .before .before .before .before .before .before .before .before .before .before .before .before .before .before .before .before
+    .before .before .before .before .before .before .before .before .before .before .before .before .before .before .before .survey .kept .1 .1 .1 .1 .0))) (c .before .before .before .before .before
+    .before .before .before .before .before .before .before .depth .given .1) (c .before .before .before .before .before .before .before .before .before .before .before .before .before .before .before
+    .before .before .before .before .before .before .walk .kept .1 .1 .1 .1 .0) (c .before .before .before .before .before .before .before .before .tell .ensures) (c .before .before .lift-tree
+    .ensures)
 
 each-same-length-5 : (t : ℕ) → each-lts.Need-same-length-5 (each-callees t) (each-at t) each.Post
-each-same-length-5 t c = (c .before .before .before .before .before .before .before .before .before .before .walk .kept .1 .1 .1 .1 .0) ∙ ((c .before .before .before .before .before .before .before .before .before .before .before .before .before .before .before .before .before .before .before .before .before .before .before .survey .kept .1 .1 .1 .0) ∙ (c .before .before .before .before .before .before .before .before .before .before .before .before .before .before .before .before .before .before .before .before .before .before .before .before .before .before .before .before .before .before .before .before .before .before .before .before .before .before .enter .kept .1 .1 .1 .1 .0))
+each-same-length-5 t c = (c .before .before .before .before .before .before .before .before .before .before .walk .kept .1 .1 .1 .1 .0) ∙ ((c .before .before .before .before .before .before .before
+    .before .before .before .before .before .before .before .before .before .before .before .before .before .before .before .before .survey .kept .1 .1 .1 .0) ∙ (c .before .before .before .before
+    .before .before .before .before .before .before .before .before .before .before .before .before .before .before .before .before .before .before .before .before .before .before .before .before
+    .before .before .before .before .before .before .before .before .before .before .enter .kept .1 .1 .1 .1 .0))
 
 each-same-length-6 : (t : ℕ) → each-lts.Need-same-length-6 (each-callees t) (each-at t) each.Post
-each-same-length-6 t c = c .before .before .before .before .before .before .before .before .before .before .walk .kept .1 .1 .1 .1 .1 .0 ∙ ((c .before .before .before .before .before .before .before .before .before .before .before .before .before .before .before .before .before .before .before .before .before .before .before .survey .kept .1 .1 .1 .1 .0) ∙ (c .before .before .before .before .before .before .before .before .before .before .before .before .before .before .before .before .before .before .before .before .before .before .before .before .before .before .before .before .before .before .before .before .before .before .before .before .before .before .enter .kept .1 .1 .1 .1 .1 .0))
+each-same-length-6 t c = c .before .before .before .before .before .before .before .before .before .before .walk .kept .1 .1 .1 .1 .1 .0 ∙ ((c .before .before .before .before .before .before .before
+    .before .before .before .before .before .before .before .before .before .before .before .before .before .before .before .before .survey .kept .1 .1 .1 .1 .0) ∙ (c .before .before .before .before
+    .before .before .before .before .before .before .before .before .before .before .before .before .before .before .before .before .before .before .before .before .before .before .before .before
+    .before .before .before .before .before .before .before .before .before .before .enter .kept .1 .1 .1 .1 .1 .0))
 
 each-same-length-7 : (t : ℕ) → each-lts.Need-same-length-7 (each-callees t) (each-at t) each.Post
-each-same-length-7 t c = c .before .before .before .before .before .before .before .before .before .before .walk .kept .1 .1 .1 .1 .1 .1 .0 ∙ (c .before .before .before .before .before .before .before .before .before .before .before .before .before .before .before .before .before .before .before .before .before .before .before .survey .kept .1 .1 .1 .1 .1 .0 ∙ c .before .before .before .before .before .before .before .before .before .before .before .before .before .before .before .before .before .before .before .before .before .before .before .before .before .before .before .before .before .before .before .before .before .before .before .before .before .before .enter .kept .1 .1 .1 .1 .1 .1 .0)
+each-same-length-7 t c = c .before .before .before .before .before .before .before .before .before .before .walk .kept .1 .1 .1 .1 .1 .1 .0 ∙ (c .before .before .before .before .before .before .before
+    .before .before .before .before .before .before .before .before .before .before .before .before .before .before .before .before .survey .kept .1 .1 .1 .1 .1 .0 ∙ c .before .before .before .before
+    .before .before .before .before .before .before .before .before .before .before .before .before .before .before .before .before .before .before .before .before .before .before .before .before
+    .before .before .before .before .before .before .before .before .before .before .enter .kept .1 .1 .1 .1 .1 .1 .0)
 
 each-same-length-8 : (t : ℕ) → each-lts.Need-same-length-8 (each-callees t) (each-at t) each.Post
-each-same-length-8 t c = c .before .before .before .before .before .before .before .before .before .before .walk .kept .1 .1 .1 .1 .1 .1 .1 .0 ∙ (c .before .before .before .before .before .before .before .before .before .before .before .before .before .before .before .before .before .before .before .before .before .before .before .survey .kept .1 .1 .1 .1 .1 .1 .0 ∙ c .before .before .before .before .before .before .before .before .before .before .before .before .before .before .before .before .before .before .before .before .before .before .before .before .before .before .before .before .before .before .before .before .before .before .before .before .before .before .enter .kept .1 .1 .1 .1 .1 .1 .1 .0)
+each-same-length-8 t c = c .before .before .before .before .before .before .before .before .before .before .walk .kept .1 .1 .1 .1 .1 .1 .1 .0 ∙ (c .before .before .before .before .before .before
+    .before .before .before .before .before .before .before .before .before .before .before .before .before .before .before .before .before .survey .kept .1 .1 .1 .1 .1 .1 .0 ∙ c .before .before
+    .before .before .before .before .before .before .before .before .before .before .before .before .before .before .before .before .before .before .before .before .before .before .before .before
+    .before .before .before .before .before .before .before .before .before .before .before .before .enter .kept .1 .1 .1 .1 .1 .1 .1 .0)
 
 each-returns-2 : (t : ℕ) → each-lts.Need-returns-2 (each-callees t) (each-at t) each.Post
-each-returns-2 t c = λ g. comprehensions.inside-stopped g (c .before .before .before .before .before .before .before .before .before .before .before .before .before .before .before .before .before .before .before .before .before .before .before .before .before .before .before .before .before .before .before .before .before .before .before .before .before .before .enter .ensures g .goes-in _ _ (c .before .before .before .before .before .before .before .before .before .before .before .before .before .before .before .before .before .before .before .before .before .before .before .before .before .before .before .before .before .inner .given .1)) (c .before .before .before .before .before .before .before .before .before .before .before .before .before .before .before .before .before .before .before .before .before .before .before .before .before .before .before .before .before .before .before .before .before .before .before .before .before .before .enter .kept .1 .1 .1 .1 .0) (c .before .before .before .before .before .before .before .before .before .before .before .before .before .before .before .before .before .before .before .before .before .before .before .survey .ensures (over-ready g (c .before .before .before .before .before .before .before .before .before .before .before .before .before .before .before .before .before .before .before .before .before .before .before .before .before .before .before .before .before .before .before .before .before .before .before .before .before .before .enter .ensures g .goes-in _ _ (c .before .before .before .before .before .before .before .before .before .before .before .before .before .before .before .before .before .before .before .before .before .before .before .before .before .before .before .before .before .inner .given .1)) (c .before .before .before .before .before .before .before .before .before .before .before .before .before .before .before .before .before .before .before .before .before .before .before .before .before .before .before .before .before .before .before .before .before .before .before .before .before .before .enter .kept .1 .1 .1 .1 .0))) (c .before .before .before .before .before .before .before .before .before .before .before .before .before .before .before .before .before .before .before .before .before .before .before .survey .kept .1 .1 .1 .0) (c .before .before .before .before .before .before .before .before .before .before .before .before .before .before .before .before .before .before .before .before .before .before .before .survey .kept .1 .1 .1 .1 .0) (c .before .before .before .before .before .before .before .before .before .before .before .before .before .before .before .before .before .before .before .before .before .before .before .before .before .before .before .before .before .before .before .before .before .before .before .before .before .before .enter .kept .1 .1 .1 .1 .1 .0) (c .before .before .before .before .before .before .before .before .before .before .walk .ensures (told-ready g (c .before .before .before .before .before .before .before .before .before .before .before .before .before .before .before .before .before .before .before .before .before .before .before .before .before .before .before .before .before .before .before .before .before .before .before .before .before .before .enter .ensures g .goes-in _ _ (c .before .before .before .before .before .before .before .before .before .before .before .before .before .before .before .before .before .before .before .before .before .before .before .before .before .before .before .before .before .inner .given .1)) (c .before .before .before .before .before .before .before .before .before .before .before .before .before .before .before .before .before .before .before .before .before .before .before .before .before .before .before .before .before .before .before .before .before .before .before .before .before .before .enter .kept .1 .1 .1 .1 .0) (c .before .before .before .before .before .before .before .before .before .before .before .before .before .before .before .before .before .before .before .before .before .before .before .survey .ensures (over-ready g (c .before .before .before .before .before .before .before .before .before .before .before .before .before .before .before .before .before .before .before .before .before .before .before .before .before .before .before .before .before .before .before .before .before .before .before .before .before .before .enter .ensures g .goes-in _ _ (c .before .before .before .before .before .before .before .before .before .before .before .before .before .before .before .before .before .before .before .before .before .before .before .before .before .before .before .before .before .inner .given .1)) (c .before .before .before .before .before .before .before .before .before .before .before .before .before .before .before .before .before .before .before .before .before .before .before .before .before .before .before .before .before .before .before .before .before .before .before .before .before .before .enter .kept .1 .1 .1 .1 .0))) (c .before .before .before .before .before .before .before .before .before .before .before .before .before .before .before .before .before .before .before .before .before .before .before .survey .kept .1 .1 .1 .0) (c .before .before .before .before .before .before .before .before .before .before .before .before .before .before .before .before .before .before .before .before .before .before .before .survey .kept .1 .1 .1 .1 .0))) (c .before .r .given .1)
+each-returns-2 t c = λ g. comprehensions.inside-stopped g (c .before .before .before .before .before .before .before .before .before .before .before .before .before .before .before .before .before
+    .before .before .before .before .before .before .before .before .before .before .before .before .before .before .before .before .before .before .before .before .before .enter .ensures g .goes-in _
+    _ (c .before .before .before .before .before .before .before .before .before .before .before .before .before .before .before .before .before .before .before .before .before .before .before .before
+    .before .before .before .before .before .inner .given .1)) (c .before .before .before .before .before .before .before .before .before .before .before .before .before .before .before .before
+    .before .before .before .before .before .before .before .before .before .before .before .before .before .before .before .before .before .before .before .before .before .before .enter .kept .1 .1
+    .1 .1 .0) (c .before .before .before .before .before .before .before .before .before .before .before .before .before .before .before .before .before .before .before .before .before .before .before
+    .survey .ensures (over-ready g (c .before .before .before .before .before .before .before .before .before .before .before .before .before .before .before .before .before .before .before .before
+    .before .before .before .before .before .before .before .before .before .before .before .before .before .before .before .before .before .before .enter .ensures g .goes-in _ _ (c .before .before
+    .before .before .before .before .before .before .before .before .before .before .before .before .before .before .before .before .before .before .before .before .before .before .before .before
+    .before .before .before .inner .given .1)) (c .before .before .before .before .before .before .before .before .before .before .before .before .before .before .before .before .before .before
+    .before .before .before .before .before .before .before .before .before .before .before .before .before .before .before .before .before .before .before .before .enter .kept .1 .1 .1 .1 .0))) (c
+    .before .before .before .before .before .before .before .before .before .before .before .before .before .before .before .before .before .before .before .before .before .before .before .survey
+    .kept .1 .1 .1 .0) (c .before .before .before .before .before .before .before .before .before .before .before .before .before .before .before .before .before .before .before .before .before
+    .before .before .survey .kept .1 .1 .1 .1 .0) (c .before .before .before .before .before .before .before .before .before .before .before .before .before .before .before .before .before .before
+    .before .before .before .before .before .before .before .before .before .before .before .before .before .before .before .before .before .before .before .before .enter .kept .1 .1 .1 .1 .1 .0) (c
+    .before .before .before .before .before .before .before .before .before .before .walk .ensures (told-ready g (c .before .before .before .before .before .before .before .before .before .before
+    .before .before .before .before .before .before .before .before .before .before .before .before .before .before .before .before .before .before .before .before .before .before .before .before
+    .before .before .before .before .enter .ensures g .goes-in _ _ (c .before .before .before .before .before .before .before .before .before .before .before .before .before .before .before .before
+    .before .before .before .before .before .before .before .before .before .before .before .before .before .inner .given .1)) (c .before .before .before .before .before .before .before .before
+    .before .before .before .before .before .before .before .before .before .before .before .before .before .before .before .before .before .before .before .before .before .before .before .before
+    .before .before .before .before .before .before .enter .kept .1 .1 .1 .1 .0) (c .before .before .before .before .before .before .before .before .before .before .before .before .before .before
+    .before .before .before .before .before .before .before .before .before .survey .ensures (over-ready g (c .before .before .before .before .before .before .before .before .before .before .before
+    .before .before .before .before .before .before .before .before .before .before .before .before .before .before .before .before .before .before .before .before .before .before .before .before
+    .before .before .before .enter .ensures g .goes-in _ _ (c .before .before .before .before .before .before .before .before .before .before .before .before .before .before .before .before .before
+    .before .before .before .before .before .before .before .before .before .before .before .before .inner .given .1)) (c .before .before .before .before .before .before .before .before .before
+    .before .before .before .before .before .before .before .before .before .before .before .before .before .before .before .before .before .before .before .before .before .before .before .before
+    .before .before .before .before .before .enter .kept .1 .1 .1 .1 .0))) (c .before .before .before .before .before .before .before .before .before .before .before .before .before .before .before
+    .before .before .before .before .before .before .before .before .survey .kept .1 .1 .1 .0) (c .before .before .before .before .before .before .before .before .before .before .before .before
+    .before .before .before .before .before .before .before .before .before .before .before .survey .kept .1 .1 .1 .1 .0))) (c .before .r .given .1)
 
 each-same-length-9 : (t : ℕ) → each-lts.Need-same-length-9 (each-callees t) (each-at t) each.Post
 each-same-length-9 t c = search needs
@@ -329,22 +767,70 @@ survey-add-walk-2 : (t : ℕ) → survey-lts.Need-add-walk-2 (survey-callees t) 
 survey-add-walk-2 t c = omega (arith, c .before .before .before .before .before .before .before .before .before .before .before .before .pre .1 .bytes, c .before .before .before .before .before .before .before .before .before .before .before .before .pre .1 .ready .short)
 
 survey-walk-requires : (t : ℕ) → survey-lts.Need-walk-requires (survey-callees t) (survey-at t) survey.Post
-survey-walk-requires t c κs = (omega (arith, c .before .before .before .before .before .before .before .before .before .before .before .before .before .before .before .before .pre .0, c .before .before .before .before .before .before .before .before .before .before .before .before .before .before .before .before .pre .1 .bytes), survey-ready (c .before .before .before .before .before .before .before .before .before .before .before .before .before .before .before .before .pre .1) (c .before .before .before .before .before .before .before .before .before .before .if1 .left) (c .before .before .before .before .before .before .begin-survey .ensures))
+survey-walk-requires t c κs = (
+  omega (
+    arith,
+    c .before .before .before .before .before .before .before .before .before .before .before .before .before .before .before .before .pre .0,
+    c .before
+        .before .before .before .before .before .before .before .before .before .before .before .before .before .before .before .pre .1 .bytes,
+  ),
+  survey-ready (c .before .before .before .before .before
+      .before .before .before .before .before .before .before .before .before .before .before .pre .1) (c .before .before .before .before .before .before .before .before .before .before .if1 .left) (c
+      .before .before .before .before .before .before .begin-survey .ensures),
+)
 
 survey-enum-known-depth : (t : ℕ) → survey-lts.Need-enum-known-depth (survey-callees t) (survey-at t) survey.Post
 survey-enum-known-depth t c = search needs
 
 survey-mul-open-body : (t : ℕ) → survey-lts.Need-mul-open-body (survey-callees t) (survey-at t) survey.Post
-survey-mul-open-body t c = omega (arith, shallow (c .before .before .before .before .before .before .before .before .before .before .before .before .before .before .before .before .before .before .before .before .before .before .before .before .before .before .before .before .pre .1) (c .before .before .before .before .before .before .before .before .before .before .before .before .before .before .before .before .before .before .before .before .before .before .if1 .left) (c .before .before .before .before .before .before .before .before .before .before .before .before .before .before .before .before .before .before .begin-survey .ensures) (c .before .before .before .before .before .before .before .before .before .before .before .walk .ensures (survey-ready (c .before .before .before .before .before .before .before .before .before .before .before .before .before .before .before .before .before .before .before .before .before .before .before .before .before .before .before .before .pre .1) (c .before .before .before .before .before .before .before .before .before .before .before .before .before .before .before .before .before .before .before .before .before .before .if1 .left) (c .before .before .before .before .before .before .before .before .before .before .before .before .before .before .before .before .before .before .begin-survey .ensures))) (c .before .before .depth .given .1))
+survey-mul-open-body t c = omega (
+  arith,
+  shallow (c .before .before .before .before .before .before .before .before .before .before .before .before .before .before .before .before .before .before
+      .before .before .before .before .before .before .before .before .before .before .pre .1) (c .before .before .before .before .before .before .before .before .before .before .before .before .before
+      .before .before .before .before .before .before .before .before .before .if1 .left) (c .before .before .before .before .before .before .before .before .before .before .before .before .before
+      .before .before .before .before .before .begin-survey .ensures) (c .before .before .before .before .before .before .before .before .before .before .before .walk .ensures (survey-ready (c .before
+      .before .before .before .before .before .before .before .before .before .before .before .before .before .before .before .before .before .before .before .before .before .before .before .before
+      .before .before .before .pre .1) (c .before .before .before .before .before .before .before .before .before .before .before .before .before .before .before .before .before .before .before .before
+      .before .before .if1 .left) (c .before .before .before .before .before .before .before .before .before .before .before .before .before .before .before .before .before .before .begin-survey
+      .ensures))) (c .before .before .depth .given .1),
+)
 
 survey-add-open-body : (t : ℕ) → survey-lts.Need-add-open-body (survey-callees t) (survey-at t) survey.Post
-survey-add-open-body t c = omega (arith, shallow (c .before .before .before .before .before .before .before .before .before .before .before .before .before .before .before .before .before .before .before .before .before .before .before .before .before .before .before .before .pre .1) (c .before .before .before .before .before .before .before .before .before .before .before .before .before .before .before .before .before .before .before .before .before .before .if1 .left) (c .before .before .before .before .before .before .before .before .before .before .before .before .before .before .before .before .before .before .begin-survey .ensures) (c .before .before .before .before .before .before .before .before .before .before .before .walk .ensures (survey-ready (c .before .before .before .before .before .before .before .before .before .before .before .before .before .before .before .before .before .before .before .before .before .before .before .before .before .before .before .before .pre .1) (c .before .before .before .before .before .before .before .before .before .before .before .before .before .before .before .before .before .before .before .before .before .before .if1 .left) (c .before .before .before .before .before .before .before .before .before .before .before .before .before .before .before .before .before .before .begin-survey .ensures))) (c .before .before .depth .given .1))
+survey-add-open-body t c = omega (
+  arith,
+  shallow (c .before .before .before .before .before .before .before .before .before .before .before .before .before .before .before .before .before .before
+      .before .before .before .before .before .before .before .before .before .before .pre .1) (c .before .before .before .before .before .before .before .before .before .before .before .before .before
+      .before .before .before .before .before .before .before .before .before .if1 .left) (c .before .before .before .before .before .before .before .before .before .before .before .before .before
+      .before .before .before .before .before .begin-survey .ensures) (c .before .before .before .before .before .before .before .before .before .before .before .walk .ensures (survey-ready (c .before
+      .before .before .before .before .before .before .before .before .before .before .before .before .before .before .before .before .before .before .before .before .before .before .before .before
+      .before .before .before .pre .1) (c .before .before .before .before .before .before .before .before .before .before .before .before .before .before .before .before .before .before .before .before
+      .before .before .if1 .left) (c .before .before .before .before .before .before .before .before .before .before .before .before .before .before .before .before .before .before .begin-survey
+      .ensures))) (c .before .before .depth .given .1),
+)
 
 survey-sub-open-body : (t : ℕ) → survey-lts.Need-sub-open-body (survey-callees t) (survey-at t) survey.Post
-survey-sub-open-body t c = omega (arith, tree-fits (c .before .before .before .before .before .before .before .before .before .before .before .before .before .before .before .before .before .before .before .before .before .before .before .before .before .before .before .before .pre .1) (c .before .before .before .before .before .before .before .before .before .before .before .before .before .before .before .before .before .before .before .before .before .before .if1 .left) (c .before .before .before .before .before .before .before .before .before .before .before .before .before .before .before .before .before .before .begin-survey .ensures) (c .before .before .before .before .before .before .before .before .before .before .before .walk .ensures (survey-ready (c .before .before .before .before .before .before .before .before .before .before .before .before .before .before .before .before .before .before .before .before .before .before .before .before .before .before .before .before .pre .1) (c .before .before .before .before .before .before .before .before .before .before .before .before .before .before .before .before .before .before .before .before .before .before .if1 .left) (c .before .before .before .before .before .before .before .before .before .before .before .before .before .before .before .before .before .before .begin-survey .ensures))) (c .before .before .depth .given .1))
+survey-sub-open-body t c = omega (
+  arith,
+  tree-fits (c .before .before .before .before .before .before .before .before .before .before .before .before .before .before .before .before .before .before
+      .before .before .before .before .before .before .before .before .before .before .pre .1) (c .before .before .before .before .before .before .before .before .before .before .before .before .before
+      .before .before .before .before .before .before .before .before .before .if1 .left) (c .before .before .before .before .before .before .before .before .before .before .before .before .before
+      .before .before .before .before .before .begin-survey .ensures) (c .before .before .before .before .before .before .before .before .before .before .before .walk .ensures (survey-ready (c .before
+      .before .before .before .before .before .before .before .before .before .before .before .before .before .before .before .before .before .before .before .before .before .before .before .before
+      .before .before .before .pre .1) (c .before .before .before .before .before .before .before .before .before .before .before .before .before .before .before .before .before .before .before .before
+      .before .before .if1 .left) (c .before .before .before .before .before .before .before .before .before .before .before .before .before .before .before .before .before .before .begin-survey
+      .ensures))) (c .before .before .depth .given .1),
+)
 
 survey-open-body-requires : (t : ℕ) → survey-lts.Need-open-body-requires (survey-callees t) (survey-at t) survey.Post
-survey-open-body-requires t c κs = open-ready (c .before .before .before .before .before .before .before .before .before .before .before .before .before .before .before .before .before .before .before .before .before .before .before .before .before .before .before .before .before .before .pre .1) (c .before .before .before .before .before .before .before .before .before .before .before .before .before .before .before .before .before .before .before .before .before .before .before .before .if1 .left) (c .before .before .before .before .before .before .before .before .before .before .before .before .before .before .before .before .before .before .before .before .begin-survey .ensures) (c .before .before .before .before .before .before .before .before .before .before .before .before .before .walk .ensures (survey-ready (c .before .before .before .before .before .before .before .before .before .before .before .before .before .before .before .before .before .before .before .before .before .before .before .before .before .before .before .before .before .before .pre .1) (c .before .before .before .before .before .before .before .before .before .before .before .before .before .before .before .before .before .before .before .before .before .before .before .before .if1 .left) (c .before .before .before .before .before .before .before .before .before .before .before .before .before .before .before .before .before .before .before .before .begin-survey .ensures))) (c .before .before .before .before .depth .given .1) (c .before .before .before .before .before .before .before .before .before .before .before .before .before .walk .kept .1 .1 .1 .1 .0)
+survey-open-body-requires t c κs = open-ready (c .before .before .before .before .before .before .before .before .before .before .before .before .before .before .before .before .before .before .before
+    .before .before .before .before .before .before .before .before .before .before .before .pre .1) (c .before .before .before .before .before .before .before .before .before .before .before .before
+    .before .before .before .before .before .before .before .before .before .before .before .before .if1 .left) (c .before .before .before .before .before .before .before .before .before .before
+    .before .before .before .before .before .before .before .before .before .before .begin-survey .ensures) (c .before .before .before .before .before .before .before .before .before .before .before
+    .before .before .walk .ensures (survey-ready (c .before .before .before .before .before .before .before .before .before .before .before .before .before .before .before .before .before .before
+    .before .before .before .before .before .before .before .before .before .before .before .before .pre .1) (c .before .before .before .before .before .before .before .before .before .before .before
+    .before .before .before .before .before .before .before .before .before .before .before .before .before .if1 .left) (c .before .before .before .before .before .before .before .before .before
+    .before .before .before .before .before .before .before .before .before .before .before .begin-survey .ensures))) (c .before .before .before .before .depth .given .1) (c .before .before .before
+    .before .before .before .before .before .before .before .before .before .before .walk .kept .1 .1 .1 .1 .0)
 
 survey-enum-told : (t : ℕ) → survey-lts.Need-enum-told (survey-callees t) (survey-at t) survey.Post
 survey-enum-told t c = search needs
@@ -362,7 +848,14 @@ survey-same-length-4 : (t : ℕ) → survey-lts.Need-same-length-4 (survey-calle
 survey-same-length-4 t c = search needs
 
 survey-returns-2 : (t : ℕ) → survey-lts.Need-returns-2 (survey-callees t) (survey-at t) survey.Post
-survey-returns-2 t c = λ g. line-told g (c .before .before .before .before .before .before .before .before .before .before .before .before .before .before .before .before .before .before .before .before .before .before .before .before .before .before .before .before .before .if1 .left) (c .before .before .before .before .before .before .before .before .before .before .before .before .before .before .before .before .before .before .before .before .before .before .before .before .before .begin-survey .ensures) (c .before .before .before .before .before .before .before .before .before .before .before .before .before .before .before .before .before .before .walk .ensures (survey-ready g (c .before .before .before .before .before .before .before .before .before .before .before .before .before .before .before .before .before .before .before .before .before .before .before .before .before .before .before .before .before .if1 .left) (c .before .before .before .before .before .before .before .before .before .before .before .before .before .before .before .before .before .before .before .before .before .before .before .before .before .begin-survey .ensures))) (c .before .before .before .before .before .before .before .before .before .depth .given .1) (c .before .before .before .before .before .before .before .before .before .before .before .before .before .before .before .before .before .before .walk .kept .1 .1 .1 .1 .0) refl (c .before .before .before .before .open-body .ensures)
+survey-returns-2 t c = λ g. line-told g (c .before .before .before .before .before .before .before .before .before .before .before .before .before .before .before .before .before .before .before
+    .before .before .before .before .before .before .before .before .before .before .if1 .left) (c .before .before .before .before .before .before .before .before .before .before .before .before
+    .before .before .before .before .before .before .before .before .before .before .before .before .before .begin-survey .ensures) (c .before .before .before .before .before .before .before .before
+    .before .before .before .before .before .before .before .before .before .before .walk .ensures (survey-ready g (c .before .before .before .before .before .before .before .before .before .before
+    .before .before .before .before .before .before .before .before .before .before .before .before .before .before .before .before .before .before .before .if1 .left) (c .before .before .before
+    .before .before .before .before .before .before .before .before .before .before .before .before .before .before .before .before .before .before .before .before .before .before .begin-survey
+    .ensures))) (c .before .before .before .before .before .before .before .before .before .depth .given .1) (c .before .before .before .before .before .before .before .before .before .before .before
+    .before .before .before .before .before .before .before .walk .kept .1 .1 .1 .1 .0) refl (c .before .before .before .before .open-body .ensures)
 
 survey-same-length-5 : (t : ℕ) → survey-lts.Need-same-length-5 (survey-callees t) (survey-at t) survey.Post
 survey-same-length-5 t c = search needs
@@ -377,7 +870,11 @@ survey-same-length-8 : (t : ℕ) → survey-lts.Need-same-length-8 (survey-calle
 survey-same-length-8 t c = search needs
 
 survey-returns-3 : (t : ℕ) → survey-lts.Need-returns-3 (survey-callees t) (survey-at t) survey.Post
-survey-returns-3 t c = λ g. never-stops g (c .before .before .before .before .before .before .before .before .before .before .before .before .before .before .before .before .before .before .before .before .if1 .left) (c .before .before .before .before .before .before .before .before .before .before .before .before .before .before .before .before .begin-survey .ensures) (c .before .before .before .before .before .before .before .before .before .walk .ensures (survey-ready g (c .before .before .before .before .before .before .before .before .before .before .before .before .before .before .before .before .before .before .before .before .if1 .left) (c .before .before .before .before .before .before .before .before .before .before .before .before .before .before .before .before .begin-survey .ensures))) (c .enum-told .given .1)
+survey-returns-3 t c = λ g. never-stops g (c .before .before .before .before .before .before .before .before .before .before .before .before .before .before .before .before .before .before .before
+    .before .if1 .left) (c .before .before .before .before .before .before .before .before .before .before .before .before .before .before .before .before .begin-survey .ensures) (c .before .before
+    .before .before .before .before .before .before .before .walk .ensures (survey-ready g (c .before .before .before .before .before .before .before .before .before .before .before .before .before
+    .before .before .before .before .before .before .before .if1 .left) (c .before .before .before .before .before .before .before .before .before .before .before .before .before .before .before
+    .before .begin-survey .ensures))) (c .enum-told .given .1)
 
 walk-route-at-requires : (t : ℕ) → walk-lts.Need-route-at-requires (walk-callees t) (walk-at t) walk.Post
 walk-route-at-requires t c κs = dispatch.room-behind (c .before .before .before .before .pre .1)
@@ -395,7 +892,8 @@ walk-enum-known-form : (t : ℕ) → walk-lts.Need-enum-known-form (walk-callees
 walk-enum-known-form t c = search needs
 
 walk-single-requires : (t : ℕ) → walk-lts.Need-single-requires (walk-callees t) (walk-at t) walk.Post
-walk-single-requires t c κs = dispatch.sole-at (c .before .before .before .before .before .before .before .before .before .before .before .before .pre .1) (sym (c .before .before .before .before .before .form .given .1) ∙ c .before .before .before .before .before .before .before .route-at .ensures) .sole
+walk-single-requires t c κs = dispatch.sole-at (c .before .before .before .before .before .before .before .before .before .before .before .before .pre .1) (sym (c .before .before .before .before
+    .before .form .given .1) ∙ c .before .before .before .before .before .before .before .route-at .ensures) .sole
 
 walk-enum-known-x-2 : (t : ℕ) → walk-lts.Need-enum-known-x-2 (walk-callees t) (walk-at t) walk.Post
 walk-enum-known-x-2 t c = search needs
@@ -404,19 +902,30 @@ walk-add-iota : (t : ℕ) → walk-lts.Need-add-iota (walk-callees t) (walk-at t
 walk-add-iota t c = omega (arith, dispatch.room-behind (c .before .before .before .before .before .before .before .before .pre .1))
 
 walk-iota-requires : (t : ℕ) → walk-lts.Need-iota-requires (walk-callees t) (walk-at t) walk.Post
-walk-iota-requires t c κs = dispatch.counting-at (c .before .before .before .before .before .before .before .before .before .before .before .before .pre .1) (sym (c .before .before .before .before .before .x2 .given .1) ∙ c .before .before .before .before .before .before .before .route-at .ensures) .counting
+walk-iota-requires t c κs = dispatch.counting-at (c .before .before .before .before .before .before .before .before .before .before .before .before .pre .1) (sym (c .before .before .before .before
+    .before .x2 .given .1) ∙ c .before .before .before .before .before .before .before .route-at .ensures) .counting
 
 walk-enum-told : (t : ℕ) → walk-lts.Need-enum-told (walk-callees t) (walk-at t) walk.Post
 walk-enum-told t c = search needs
 
 walk-binding-requires : (t : ℕ) → walk-lts.Need-binding-requires (walk-callees t) (walk-at t) walk.Post
-walk-binding-requires t c κs = (omega (arith, c .before .before .before .before .before .before .before .before .before .before .before .pre .0), dispatch.binding-at (c .before .before .before .before .before .before .before .before .before .before .before .pre .1) (sym (c .before .before .before .before .enum-told .given .1) ∙ c .before .before .before .before .before .before .route-at .ensures) .binding)
+walk-binding-requires t c κs = (
+  omega (arith, c .before .before .before .before .before .before .before .before .before .before .before .pre .0),
+  dispatch.binding-at (c .before .before .before .before
+      .before .before .before .before .before .before .before .pre .1) (sym (c .before .before .before .before .enum-told .given .1) ∙ c .before .before .before .before .before .before .route-at
+      .ensures) .binding,
+)
 
 walk-enum-told-2 : (t : ℕ) → walk-lts.Need-enum-told-2 (walk-callees t) (walk-at t) walk.Post
 walk-enum-told-2 t c = search needs
 
 walk-each-requires : (t : ℕ) → walk-lts.Need-each-requires (walk-callees t) (walk-at t) walk.Post
-walk-each-requires t c κs = (omega (arith, c .before .before .before .before .before .before .before .before .before .before .before .pre .0), dispatch.each-at (c .before .before .before .before .before .before .before .before .before .before .before .pre .1) (sym (c .before .before .before .before .enum-told2 .given .1) ∙ c .before .before .before .before .before .before .route-at .ensures) .each)
+walk-each-requires t c κs = (
+  omega (arith, c .before .before .before .before .before .before .before .before .before .before .before .pre .0),
+  dispatch.each-at (c .before .before .before .before
+      .before .before .before .before .before .before .before .pre .1) (sym (c .before .before .before .before .enum-told2 .given .1) ∙ c .before .before .before .before .before .before .route-at
+      .ensures) .each,
+)
 
 walk-enum-told-3 : (t : ℕ) → walk-lts.Need-enum-told-3 (walk-callees t) (walk-at t) walk.Post
 walk-enum-told-3 t c = search needs
@@ -440,7 +949,10 @@ walk-same-length-5 : (t : ℕ) → walk-lts.Need-same-length-5 (walk-callees t) 
 walk-same-length-5 t c = search needs
 
 walk-returns-2 : (t : ℕ) → walk-lts.Need-returns-2 (walk-callees t) (walk-at t) walk.Post
-walk-returns-2 t c = λ g. dispatch.sole-at g (sym (c .before .before .before .before .before .before .before .before .before .before .before .before .before .form .given .1) ∙ c .before .before .before .before .before .before .before .before .before .before .before .before .before .before .before .route-at .ensures) .runs _ (c .before .before .before .before .before .before .before .single .ensures (dispatch.sole-at g (sym (c .before .before .before .before .before .before .before .before .before .before .before .before .before .form .given .1) ∙ c .before .before .before .before .before .before .before .before .before .before .before .before .before .before .before .route-at .ensures) .sole))
+walk-returns-2 t c = λ g. dispatch.sole-at g (sym (c .before .before .before .before .before .before .before .before .before .before .before .before .before .form .given .1) ∙ c .before .before
+    .before .before .before .before .before .before .before .before .before .before .before .before .before .route-at .ensures) .runs _ (c .before .before .before .before .before .before .before
+    .single .ensures (dispatch.sole-at g (sym (c .before .before .before .before .before .before .before .before .before .before .before .before .before .form .given .1) ∙ c .before .before .before
+    .before .before .before .before .before .before .before .before .before .before .before .before .route-at .ensures) .sole))
 
 walk-same-length-6 : (t : ℕ) → walk-lts.Need-same-length-6 (walk-callees t) (walk-at t) walk.Post
 walk-same-length-6 t c = search needs
@@ -455,7 +967,10 @@ walk-same-length-9 : (t : ℕ) → walk-lts.Need-same-length-9 (walk-callees t) 
 walk-same-length-9 t c = search needs
 
 walk-returns-3 : (t : ℕ) → walk-lts.Need-returns-3 (walk-callees t) (walk-at t) walk.Post
-walk-returns-3 t c = λ g. dispatch.counting-at g (sym (c .before .before .before .before .before .before .before .before .before .before .before .before .before .x2 .given .1) ∙ c .before .before .before .before .before .before .before .before .before .before .before .before .before .before .before .route-at .ensures) .runs _ (c .before .before .before .before .before .before .before .iota .ensures (dispatch.counting-at g (sym (c .before .before .before .before .before .before .before .before .before .before .before .before .before .x2 .given .1) ∙ c .before .before .before .before .before .before .before .before .before .before .before .before .before .before .before .route-at .ensures) .counting))
+walk-returns-3 t c = λ g. dispatch.counting-at g (sym (c .before .before .before .before .before .before .before .before .before .before .before .before .before .x2 .given .1) ∙ c .before .before
+    .before .before .before .before .before .before .before .before .before .before .before .before .before .route-at .ensures) .runs _ (c .before .before .before .before .before .before .before .iota
+    .ensures (dispatch.counting-at g (sym (c .before .before .before .before .before .before .before .before .before .before .before .before .before .x2 .given .1) ∙ c .before .before .before .before
+    .before .before .before .before .before .before .before .before .before .before .before .route-at .ensures) .counting))
 
 walk-same-length-10 : (t : ℕ) → walk-lts.Need-same-length-10 (walk-callees t) (walk-at t) walk.Post
 walk-same-length-10 t c = search needs
@@ -470,7 +985,10 @@ walk-same-length-13 : (t : ℕ) → walk-lts.Need-same-length-13 (walk-callees t
 walk-same-length-13 t c = search needs
 
 walk-returns-4 : (t : ℕ) → walk-lts.Need-returns-4 (walk-callees t) (walk-at t) walk.Post
-walk-returns-4 t c = λ g. dispatch.binding-at g (sym (c .before .before .before .before .before .before .before .before .before .before .before .before .enum-told .given .1) ∙ c .before .before .before .before .before .before .before .before .before .before .before .before .before .before .route-at .ensures) .runs _ (c .before .before .before .before .before .before .before .binding .ensures (dispatch.binding-at g (sym (c .before .before .before .before .before .before .before .before .before .before .before .before .enum-told .given .1) ∙ c .before .before .before .before .before .before .before .before .before .before .before .before .before .before .route-at .ensures) .binding))
+walk-returns-4 t c = λ g. dispatch.binding-at g (sym (c .before .before .before .before .before .before .before .before .before .before .before .before .enum-told .given .1) ∙ c .before .before
+    .before .before .before .before .before .before .before .before .before .before .before .before .route-at .ensures) .runs _ (c .before .before .before .before .before .before .before .binding
+    .ensures (dispatch.binding-at g (sym (c .before .before .before .before .before .before .before .before .before .before .before .before .enum-told .given .1) ∙ c .before .before .before .before
+    .before .before .before .before .before .before .before .before .before .before .route-at .ensures) .binding))
 
 walk-same-length-14 : (t : ℕ) → walk-lts.Need-same-length-14 (walk-callees t) (walk-at t) walk.Post
 walk-same-length-14 t c = search needs
@@ -485,7 +1003,10 @@ walk-same-length-17 : (t : ℕ) → walk-lts.Need-same-length-17 (walk-callees t
 walk-same-length-17 t c = search needs
 
 walk-returns-5 : (t : ℕ) → walk-lts.Need-returns-5 (walk-callees t) (walk-at t) walk.Post
-walk-returns-5 t c = λ g. dispatch.each-at g (sym (c .before .before .before .before .before .before .before .before .before .before .before .before .enum-told2 .given .1) ∙ c .before .before .before .before .before .before .before .before .before .before .before .before .before .before .route-at .ensures) .runs _ (c .before .before .before .before .before .before .before .each .ensures (dispatch.each-at g (sym (c .before .before .before .before .before .before .before .before .before .before .before .before .enum-told2 .given .1) ∙ c .before .before .before .before .before .before .before .before .before .before .before .before .before .before .route-at .ensures) .each))
+walk-returns-5 t c = λ g. dispatch.each-at g (sym (c .before .before .before .before .before .before .before .before .before .before .before .before .enum-told2 .given .1) ∙ c .before .before .before
+    .before .before .before .before .before .before .before .before .before .before .before .route-at .ensures) .runs _ (c .before .before .before .before .before .before .before .each .ensures
+    (dispatch.each-at g (sym (c .before .before .before .before .before .before .before .before .before .before .before .before .enum-told2 .given .1) ∙ c .before .before .before .before .before
+    .before .before .before .before .before .before .before .before .before .route-at .ensures) .each))
 
 walk-returns-6 : (t : ℕ) → walk-lts.Need-returns-6 (walk-callees t) (walk-at t) walk.Post
 walk-returns-6 t c = λ g. dispatch.no-record g (sym (c .enum-told3 .given .1) ∙ c .before .before .route-at .ensures)

@@ -62,7 +62,8 @@ returns-4 : tie.Need-returns-4
 returns-4 c = ap (routed (c .before .before .before .before .args .k)) (sym (c .enum-told3 .given .1) ∙ c .before .before .head-at .ensures)
 
 returns-5 : tie.Need-returns-5
-returns-5 c = ap (λ u. route.Single (form.Const u) (c .before .before .before .before .before .args .k + 6)) (toZ-ofZ (record { sfits = c .known-told2 .given .0 .1 })) ∙ ap (routed (c .before .before .before .before .before .args .k)) (sym (c .before .z .given .1) ∙ c .before .before .before .head-at .ensures)
+returns-5 c = ap (λ u. route.Single (form.Const u) (c .before .before .before .before .before .args .k + 6)) (toZ-ofZ (record { sfits = c .known-told2 .given .0 .1 })) ∙ ap (routed (c .before .before
+    .before .before .before .args .k)) (sym (c .before .z .given .1) ∙ c .before .before .before .head-at .ensures)
 
 returns-6 : tie.Need-returns-6
 returns-6 c = ap (routed (c .before .before .before .before .before .args .k)) (sym (c .before .x2 .given .1) ∙ c .before .before .before .head-at .ensures)

@@ -25,10 +25,20 @@ enum-known-made : tie.Need-enum-known-made
 enum-known-made c = search needs
 
 add-spent : tie.Need-add-spent
-add-spent c = omega (arith, costs (c .before .before .before .before .before .before .before .before .before .before .pre .1) (c .before .before .before .before .before .before .before .before .before .before .args .n) (c .before .before .before .before .before .transduce .ensures (c .before .before .before .before .before .before .before .before .before .before .pre .0 .store) (applies (c .before .before .before .before .before .before .before .before .before .before .pre .1))) (c .before .before .made .given .1))
+add-spent c = omega (
+  arith,
+  costs (c .before .before .before .before .before .before .before .before .before .before .pre .1) (c .before .before .before .before .before .before .before .before .before
+      .before .args .n) (c .before .before .before .before .before .transduce .ensures (c .before .before .before .before .before .before .before .before .before .before .pre .0 .store) (applies (c
+      .before .before .before .before .before .before .before .before .before .before .pre .1))) (c .before .before .made .given .1),
+)
 
 add-spent-2 : tie.Need-add-spent-2
-add-spent-2 c = omega (arith, costs (c .before .before .before .before .before .before .before .before .before .before .pre .1) (c .before .before .before .before .before .before .before .before .before .before .args .n) (c .before .before .before .before .before .transduce .ensures (c .before .before .before .before .before .before .before .before .before .before .pre .0 .store) (applies (c .before .before .before .before .before .before .before .before .before .before .pre .1))) (c .before .before .made .given .1))
+add-spent-2 c = omega (
+  arith,
+  costs (c .before .before .before .before .before .before .before .before .before .before .pre .1) (c .before .before .before .before .before .before .before .before
+      .before .before .args .n) (c .before .before .before .before .before .transduce .ensures (c .before .before .before .before .before .before .before .before .before .before .pre .0 .store) (applies
+      (c .before .before .before .before .before .before .before .before .before .before .pre .1))) (c .before .before .made .given .1),
+)
 
 output-kind-requires : tie.Need-output-kind-requires
 output-kind-requires c κs = tt
@@ -37,7 +47,10 @@ taken-requires : tie.Need-taken-requires
 taken-requires c κs = tt
 
 advance-requires-2 : tie.Need-advance-requires-2
-advance-requires-2 c κs = room-for (c .before .before .before .before .before .before .before .before .before .before .before .before .before .pre .1) (c .before .before .before .before .before .before .before .before .before .before .before .before .before .args .n) (c .before .before .before .before .before .before .before .before .transduce .ensures (c .before .before .before .before .before .before .before .before .before .before .before .before .before .pre .0 .store) (applies (c .before .before .before .before .before .before .before .before .before .before .before .before .before .pre .1))) _ (c .before .before .before .before .before .made .given .1) (took _ _ (c .taken .ensures) (c .before .output-kind .ensures))
+advance-requires-2 c κs = room-for (c .before .before .before .before .before .before .before .before .before .before .before .before .before .pre .1) (c .before .before .before .before .before
+    .before .before .before .before .before .before .before .before .args .n) (c .before .before .before .before .before .before .before .before .transduce .ensures (c .before .before .before .before
+    .before .before .before .before .before .before .before .before .before .pre .0 .store) (applies (c .before .before .before .before .before .before .before .before .before .before .before .before
+    .before .pre .1))) _ (c .before .before .before .before .before .made .given .1) (took _ _ (c .taken .ensures) (c .before .output-kind .ensures))
 
 enum-told : tie.Need-enum-told
 enum-told c = search needs
@@ -70,7 +83,12 @@ same-length-3 : tie.Need-same-length-3
 same-length-3 c = search needs
 
 returns-2 : tie.Need-returns-2
-returns-2 c = λ m x. performed-made x _ (c .before .before .before .before .before .before .before .before .before .before .before .transduce .ensures (m .store) (applies x)) (c .before .before .before .before .before .before .before .before .made .given .1) (omega (arith, c .before .before .before .before .before .before .before .before .before .before .before .before .before .before .if1 .left)) (took _ _ (c .before .before .before .taken .ensures) (c .before .before .before .before .output-kind .ensures)) (c .before .before .advance2 .ensures)
+returns-2 c = λ m x. performed-made x _ (c .before .before .before .before .before .before .before .before .before .before .before .transduce .ensures (m .store) (applies x)) (c .before .before
+    .before .before .before .before .before .before .made .given .1) (omega (
+      arith,
+      c .before .before .before .before .before .before .before .before .before .before .before .before .before .before
+          .if1 .left,
+    )) (took _ _ (c .before .before .before .taken .ensures) (c .before .before .before .before .output-kind .ensures)) (c .before .before .advance2 .ensures)
 
 same-length-4 : tie.Need-same-length-4
 same-length-4 c = search needs
