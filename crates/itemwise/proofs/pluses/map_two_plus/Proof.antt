@@ -112,31 +112,49 @@ sub-if1 : tie.Need-sub-if1
 sub-if1 c = search needs
 
 first-outside-requires : tie.Need-first-outside-requires
-first-outside-requires c κs = let s = c .before .before .before .before .before in let k = call (s .args .buf .now) (s .args .out) (s .args .n) (s .args .at1) (s .args .len1) (s .args .at2) (s .args .len2) (s .pre) (c .before .before .before .before .lengths .ensures) in omega (arith, inside k (c .before .before .enum-told .given .1), k .room)
+first-outside-requires c κs =
+    let s = c .before .before .before .before .before in
+    let k = call (s .args .buf .now) (s .args .out) (s .args .n) (s .args .at1) (s .args .len1) (s .args .at2) (s .args .len2) (s .pre) (c .before .before .before .before .lengths .ensures) in
+    omega (arith, inside k (c .before .before .enum-told .given .1), k .room)
 
 same-length : tie.Need-same-length
 same-length c = search needs
 
 returns-2 : tie.Need-returns-2
-returns-2 c = let s = c .before .before .before .before .before .before in let k = call (s .args .buf .now) (s .args .out) (s .args .n) (s .args .at1) (s .args .len1) (s .args .at2) (s .args .len2) (s .pre) (c .before .before .before .before .before .lengths .ensures) in (full k (c .before .before .before .enum-told .given .1) (c .before .before .if1 .taken) (c .first-outside .ensures), refl)
+returns-2 c =
+    let s = c .before .before .before .before .before .before in
+    let k = call (s .args .buf .now) (s .args .out) (s .args .n) (s .args .at1) (s .args .len1) (s .args .at2) (s .args .len2) (s .pre) (c .before .before .before .before .before .lengths .ensures) in
+    (full k (c .before .before .before .enum-told .given .1) (c .before .before .if1 .taken) (c .first-outside .ensures), refl)
 
 add-requires : tie.Need-add-requires
-add-requires c κs = let s = c .before .before .before .before .before in let k = call (s .args .buf .now) (s .args .out) (s .args .n) (s .args .at1) (s .args .len1) (s .args .at2) (s .args .len2) (s .pre) (c .before .before .before .before .lengths .ensures) in omega (arith, inside k (c .before .before .enum-told .given .1), k .room, c .before .if1 .left)
+add-requires c κs =
+    let s = c .before .before .before .before .before in
+    let k = call (s .args .buf .now) (s .args .out) (s .args .n) (s .args .at1) (s .args .len1) (s .args .at2) (s .args .len2) (s .pre) (c .before .before .before .before .lengths .ensures) in
+    omega (arith, inside k (c .before .before .enum-told .given .1), k .room, c .before .if1 .left)
 
 same-length-2 : tie.Need-same-length-2
 same-length-2 c = search needs
 
 returns-3 : tie.Need-returns-3
-returns-3 c = let s = c .before .before .before .before .before .before .before .before in let k = call (s .args .buf .now) (s .args .out) (s .args .n) (s .args .at1) (s .args .len1) (s .args .at2) (s .args .len2) (s .pre) (c .before .before .before .before .before .before .before .lengths .ensures) in (made k (c .before .before .before .before .before .enum-told .given .1) (c .before .before .add .ensures) (c .before .before .before .before .if1 .left) (c .if2 .taken), c .before .before .add .ensures .behind)
+returns-3 c =
+    let s = c .before .before .before .before .before .before .before .before in
+    let k = call (s .args .buf .now) (s .args .out) (s .args .n) (s .args .at1) (s .args .len1) (s .args .at2) (s .args .len2) (s .pre) (c .before .before .before .before .before .before .before .lengths .ensures) in
+    (made k (c .before .before .before .before .before .enum-told .given .1) (c .before .before .add .ensures) (c .before .before .before .before .if1 .left) (c .if2 .taken), c .before .before .add .ensures .behind)
 
 first-outside-requires-2 : tie.Need-first-outside-requires-2
-first-outside-requires-2 c κs = let s = c .before .before .before .before .before .before .before .before .before in let k = call (s .args .buf .now) (s .args .out) (s .args .n) (s .args .at1) (s .args .len1) (s .args .at2) (s .args .len2) (s .pre) (c .before .before .before .before .before .before .before .before .lengths .ensures) in omega (arith, inside k (c .before .before .before .before .before .before .enum-told .given .1), k .room, c .before .before .before .add .kept .0)
+first-outside-requires-2 c κs =
+    let s = c .before .before .before .before .before .before .before .before .before in
+    let k = call (s .args .buf .now) (s .args .out) (s .args .n) (s .args .at1) (s .args .len1) (s .args .at2) (s .args .len2) (s .pre) (c .before .before .before .before .before .before .before .before .lengths .ensures) in
+    omega (arith, inside k (c .before .before .before .before .before .before .enum-told .given .1), k .room, c .before .before .before .add .kept .0)
 
 same-length-3 : tie.Need-same-length-3
 same-length-3 c = search needs
 
 returns-4 : tie.Need-returns-4
-returns-4 c = let s = c .before .before .before .before .before .before .before .before .before .before in let k = call (s .args .buf .now) (s .args .out) (s .args .n) (s .args .at1) (s .args .len1) (s .args .at2) (s .args .len2) (s .pre) (c .before .before .before .before .before .before .before .before .before .lengths .ensures) in (refuses k (c .before .before .before .before .before .before .before .enum-told .given .1) (c .before .before .before .before .add .ensures) (c .before .before .if2 .left) (c .first-outside2 .ensures), c .before .before .before .before .add .ensures .behind)
+returns-4 c =
+    let s = c .before .before .before .before .before .before .before .before .before .before in
+    let k = call (s .args .buf .now) (s .args .out) (s .args .n) (s .args .at1) (s .args .len1) (s .args .at2) (s .args .len2) (s .pre) (c .before .before .before .before .before .before .before .before .before .lengths .ensures) in
+    (refuses k (c .before .before .before .before .before .before .before .enum-told .given .1) (c .before .before .before .before .add .ensures) (c .before .before .if2 .left) (c .first-outside2 .ensures), c .before .before .before .before .add .ensures .behind)
 
 pub map-two-plus-spec : {M : Type 1} → statement M
 map-two-plus-spec =

@@ -145,19 +145,28 @@ enum-known-needed : tie.Need-enum-known-needed
 enum-known-needed c = search needs
 
 write-flags-requires : tie.Need-write-flags-requires
-write-flags-requires c κs = let s = c .before .before .before .before .before .before .before .before .before in let k = call (s .args .buf .now) (s .args .out) (s .args .n) (s .args .at) (s .args .len) (s .pre) (c .before .before .before .before .before .before .before .before .lengths .ensures) in writable k (c .before .before .before .before .before .before .enum-told .given .1) (c .before .before .before .before .measure .ensures) _ (c .before .before .needed .given .1)
+write-flags-requires c κs =
+    let s = c .before .before .before .before .before .before .before .before .before in
+    let k = call (s .args .buf .now) (s .args .out) (s .args .n) (s .args .at) (s .args .len) (s .pre) (c .before .before .before .before .before .before .before .before .lengths .ensures) in
+    writable k (c .before .before .before .before .before .before .enum-told .given .1) (c .before .before .before .before .measure .ensures) _ (c .before .before .needed .given .1)
 
 same-length : tie.Need-same-length
 same-length c = search needs
 
 returns-2 : tie.Need-returns-2
-returns-2 c = let s = c .before .before .before .before .before .before .before .before .before .before .before in let k = call (s .args .buf .now) (s .args .out) (s .args .n) (s .args .at) (s .args .len) (s .pre) (c .before .before .before .before .before .before .before .before .before .before .lengths .ensures) in wrote k (c .before .before .before .before .before .before .before .before .enum-told .given .1) (c .before .before .before .before .before .before .measure .ensures) _ (c .before .before .before .before .needed .given .1) (c .before .write-flags .ensures)
+returns-2 c =
+    let s = c .before .before .before .before .before .before .before .before .before .before .before in
+    let k = call (s .args .buf .now) (s .args .out) (s .args .n) (s .args .at) (s .args .len) (s .pre) (c .before .before .before .before .before .before .before .before .before .before .lengths .ensures) in
+    wrote k (c .before .before .before .before .before .before .before .before .enum-told .given .1) (c .before .before .before .before .before .before .measure .ensures) _ (c .before .before .before .before .needed .given .1) (c .before .write-flags .ensures)
 
 same-length-2 : tie.Need-same-length-2
 same-length-2 c = search needs
 
 returns-3 : tie.Need-returns-3
-returns-3 c = let s = c .before .before .before .before .before .before in let k = call (s .args .buf .now) (s .args .out) (s .args .n) (s .args .at) (s .args .len) (s .pre) (c .before .before .before .before .before .lengths .ensures) in refused k (c .before .before .before .enum-told .given .1) (c .before .measure .ensures) (not-made _ (c .match2 .keys2))
+returns-3 c =
+    let s = c .before .before .before .before .before .before in
+    let k = call (s .args .buf .now) (s .args .out) (s .args .n) (s .args .at) (s .args .len) (s .pre) (c .before .before .before .before .before .lengths .ensures) in
+    refused k (c .before .before .before .enum-told .given .1) (c .before .measure .ensures) (not-made _ (c .match2 .keys2))
 
 pub to-flags-spec : {M : Type 1} → statement M
 to-flags-spec =

@@ -185,7 +185,9 @@ loop-less : tie.Need-loop-less Inv-loop μ-loop
 loop-less c = omega arith
 
 loop-again : tie.Need-loop-again Inv-loop μ-loop
-loop-again c = turn (c .before .before .before .before .before .before .before .before .loop .inv) (c .before .before .before .before .before .before .before .loop-test .taken) (c .before .before .before .before .before .before .in-range .ensures) (c .before .before .before .before .before .if1 .taken) (c .before .before .before .before .x .given) (c .before .before .held .ensures) (c .before .store .ensures)
+loop-again c =
+    turn (c .before .before .before .before .before .before .before .before .loop .inv) (c .before .before .before .before .before .before .before .loop-test .taken) (c .before .before .before .before .before .before .in-range .ensures) (c .before .before .before .before .before .if1 .taken) (c .before .before .before .before .x .given)
+    (c .before .before .held .ensures) (c .before .store .ensures)
 
 same-length : tie.Need-same-length Inv-loop μ-loop
 same-length c = c .before .before .before .loop .inv .same

@@ -106,7 +106,10 @@ same-length : tie.Need-same-length
 same-length c = search needs
 
 returns : tie.Need-returns
-returns c = let s = c .before .before .before .before .before in let k = call (s .args .buf .now) (s .args .out) (s .args .n) (s .args .start) (s .args .flags-at) (s .args .flags-len) (s .args .at) (s .args .len) (s .pre) (s .fits .start) (c .before .before .before .fits2 .ensures eachF refl refl) in (unfit k _ (c .before .misfit .given .1), refl)
+returns c =
+    let s = c .before .before .before .before .before in
+    let k = call (s .args .buf .now) (s .args .out) (s .args .n) (s .args .start) (s .args .flags-at) (s .args .flags-len) (s .args .at) (s .args .len) (s .pre) (s .fits .start) (c .before .before .before .fits2 .ensures eachF refl refl) in
+    (unfit k _ (c .before .misfit .given .1), refl)
 
 enum-told : tie.Need-enum-told
 enum-told c = search needs
@@ -115,7 +118,10 @@ sub-room : tie.Need-sub-room
 sub-room c = search needs
 
 scan-requires : tie.Need-scan-requires
-scan-requires c κs = let s = c .before .before .before .before .before in let k = call (s .args .buf .now) (s .args .out) (s .args .n) (s .args .start) (s .args .flags-at) (s .args .flags-len) (s .args .at) (s .args .len) (s .pre) (s .fits .start) (c .before .before .before .fits2 .ensures eachF refl refl) in (s .args .flags-len, s .args .len, scannable k (c .before .enum-told .given .1))
+scan-requires c κs =
+    let s = c .before .before .before .before .before in
+    let k = call (s .args .buf .now) (s .args .out) (s .args .n) (s .args .start) (s .args .flags-at) (s .args .flags-len) (s .args .at) (s .args .len) (s .pre) (s .fits .start) (c .before .before .before .fits2 .ensures eachF refl refl) in
+    (s .args .flags-len, s .args .len, scannable k (c .before .enum-told .given .1))
 
 enum-known-outside : tie.Need-enum-known-outside
 enum-known-outside c = search needs
@@ -124,7 +130,11 @@ same-length-2 : tie.Need-same-length-2
 same-length-2 c = c .before .before .before .before .scan .kept .0
 
 returns-2 : tie.Need-returns-2
-returns-2 c = let s = c .before .before .before .before .before .before .before .before .before .before in let k = call (s .args .buf .now) (s .args .out) (s .args .n) (s .args .start) (s .args .flags-at) (s .args .flags-len) (s .args .at) (s .args .len) (s .pre) (s .fits .start) (c .before .before .before .before .before .before .before .before .fits2 .ensures eachF refl refl) in let f = c .before .before .before .before .scan .ensures _ _ (scannable k (c .before .before .before .before .before .before .enum-told .given .1)) in (stops k (c .before .before .before .before .before .before .enum-told .given .1) f _ (c .before .outside .given .1), f .behind)
+returns-2 c =
+    let s = c .before .before .before .before .before .before .before .before .before .before in
+    let k = call (s .args .buf .now) (s .args .out) (s .args .n) (s .args .start) (s .args .flags-at) (s .args .flags-len) (s .args .at) (s .args .len) (s .pre) (s .fits .start) (c .before .before .before .before .before .before .before .before .fits2 .ensures eachF refl refl) in
+    let f = c .before .before .before .before .scan .ensures _ _ (scannable k (c .before .before .before .before .before .before .enum-told .given .1)) in
+    (stops k (c .before .before .before .before .before .before .enum-told .given .1) f _ (c .before .outside .given .1), f .behind)
 
 enum-told-2 : tie.Need-enum-told-2
 enum-told-2 c = search needs
@@ -133,13 +143,21 @@ same-length-3 : tie.Need-same-length-3
 same-length-3 c = c .before .before .before .before .scan .kept .0
 
 returns-3 : tie.Need-returns-3
-returns-3 c = let s = c .before .before .before .before .before .before .before .before .before .before in let k = call (s .args .buf .now) (s .args .out) (s .args .n) (s .args .start) (s .args .flags-at) (s .args .flags-len) (s .args .at) (s .args .len) (s .pre) (s .fits .start) (c .before .before .before .before .before .before .before .before .fits2 .ensures eachF refl refl) in let f = c .before .before .before .before .scan .ensures _ _ (scannable k (c .before .before .before .before .before .before .enum-told .given .1)) in (made k (c .before .before .before .before .before .before .enum-told .given .1) f (c .before .enum-told2 .given .1) (c .if1 .taken), f .behind)
+returns-3 c =
+    let s = c .before .before .before .before .before .before .before .before .before .before in
+    let k = call (s .args .buf .now) (s .args .out) (s .args .n) (s .args .start) (s .args .flags-at) (s .args .flags-len) (s .args .at) (s .args .len) (s .pre) (s .fits .start) (c .before .before .before .before .before .before .before .before .fits2 .ensures eachF refl refl) in
+    let f = c .before .before .before .before .scan .ensures _ _ (scannable k (c .before .before .before .before .before .before .enum-told .given .1)) in
+    (made k (c .before .before .before .before .before .before .enum-told .given .1) f (c .before .enum-told2 .given .1) (c .if1 .taken), f .behind)
 
 same-length-4 : tie.Need-same-length-4
 same-length-4 c = c .before .before .before .before .scan .kept .0
 
 returns-4 : tie.Need-returns-4
-returns-4 c = let s = c .before .before .before .before .before .before .before .before .before .before in let k = call (s .args .buf .now) (s .args .out) (s .args .n) (s .args .start) (s .args .flags-at) (s .args .flags-len) (s .args .at) (s .args .len) (s .pre) (s .fits .start) (c .before .before .before .before .before .before .before .before .fits2 .ensures eachF refl refl) in let f = c .before .before .before .before .scan .ensures _ _ (scannable k (c .before .before .before .before .before .before .enum-told .given .1)) in (full k (c .before .before .before .before .before .before .enum-told .given .1) f (c .before .enum-told2 .given .1) (c .if1 .left), f .behind)
+returns-4 c =
+    let s = c .before .before .before .before .before .before .before .before .before .before in
+    let k = call (s .args .buf .now) (s .args .out) (s .args .n) (s .args .start) (s .args .flags-at) (s .args .flags-len) (s .args .at) (s .args .len) (s .pre) (s .fits .start) (c .before .before .before .before .before .before .before .before .fits2 .ensures eachF refl refl) in
+    let f = c .before .before .before .before .scan .ensures _ _ (scannable k (c .before .before .before .before .before .before .enum-told .given .1)) in
+    (full k (c .before .before .before .before .before .before .enum-told .given .1) f (c .before .enum-told2 .given .1) (c .if1 .left), f .behind)
 
 pub scan-plus-spec : {M : Type 1} → statement M
 scan-plus-spec =

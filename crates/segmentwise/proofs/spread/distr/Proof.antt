@@ -78,7 +78,10 @@ same-length : tie.Need-same-length
 same-length c = refl
 
 returns : tie.Need-returns
-returns c = let s = c .before .before .before .before .before in let k = call (s .args .buf .now) (s .args .out) (s .args .n) (s .args .flags-at) (s .args .flags-len) (s .args .at) (s .args .len) (s .pre) (c .before .before .before .fits2 .ensures eachT refl refl) in unfit k _ (c .before .misfit .given .1)
+returns c =
+    let s = c .before .before .before .before .before in
+    let k = call (s .args .buf .now) (s .args .out) (s .args .n) (s .args .flags-at) (s .args .flags-len) (s .args .at) (s .args .len) (s .pre) (c .before .before .before .fits2 .ensures eachT refl refl) in
+    unfit k _ (c .before .misfit .given .1)
 
 enum-told : tie.Need-enum-told
 enum-told c = search needs
@@ -93,16 +96,25 @@ same-length-2 : tie.Need-same-length-2
 same-length-2 c = refl
 
 returns-2 : tie.Need-returns-2
-returns-2 c = let s = c .before .before .before .before .before in let k = call (s .args .buf .now) (s .args .out) (s .args .n) (s .args .flags-at) (s .args .flags-len) (s .args .at) (s .args .len) (s .pre) (c .before .before .before .fits2 .ensures eachT refl refl) in full k (c .before .enum-told .given .1) (c .if1 .taken)
+returns-2 c =
+    let s = c .before .before .before .before .before in
+    let k = call (s .args .buf .now) (s .args .out) (s .args .n) (s .args .flags-at) (s .args .flags-len) (s .args .at) (s .args .len) (s .pre) (c .before .before .before .fits2 .ensures eachT refl refl) in
+    full k (c .before .enum-told .given .1) (c .if1 .taken)
 
 distribute-requires : tie.Need-distribute-requires
-distribute-requires c κs = let s = c .before .before .before .before .before .before in let k = call (s .args .buf .now) (s .args .out) (s .args .n) (s .args .flags-at) (s .args .flags-len) (s .args .at) (s .args .len) (s .pre) (c .before .before .before .before .fits2 .ensures eachT refl refl) in (s .args .flags-len, s .args .len, spreads k (c .before .before .enum-told .given .1) (c .before .if1 .left))
+distribute-requires c κs =
+    let s = c .before .before .before .before .before .before in
+    let k = call (s .args .buf .now) (s .args .out) (s .args .n) (s .args .flags-at) (s .args .flags-len) (s .args .at) (s .args .len) (s .pre) (c .before .before .before .before .fits2 .ensures eachT refl refl) in
+    (s .args .flags-len, s .args .len, spreads k (c .before .before .enum-told .given .1) (c .before .if1 .left))
 
 same-length-3 : tie.Need-same-length-3
 same-length-3 c = search needs
 
 returns-3 : tie.Need-returns-3
-returns-3 c = let s = c .before .before .before .before .before .before .before .before in let k = call (s .args .buf .now) (s .args .out) (s .args .n) (s .args .flags-at) (s .args .flags-len) (s .args .at) (s .args .len) (s .pre) (c .before .before .before .before .before .before .fits2 .ensures eachT refl refl) in made k (c .before .before .before .before .enum-told .given .1) (c .before .before .before .if1 .left) (c .before .distribute .ensures _ _ (spreads k (c .before .before .before .before .enum-told .given .1) (c .before .before .before .if1 .left)))
+returns-3 c =
+    let s = c .before .before .before .before .before .before .before .before in
+    let k = call (s .args .buf .now) (s .args .out) (s .args .n) (s .args .flags-at) (s .args .flags-len) (s .args .at) (s .args .len) (s .pre) (c .before .before .before .before .before .before .fits2 .ensures eachT refl refl) in
+    made k (c .before .before .before .before .enum-told .given .1) (c .before .before .before .if1 .left) (c .before .distribute .ensures _ _ (spreads k (c .before .before .before .before .enum-told .given .1) (c .before .before .before .if1 .left)))
 
 pub distr-spec : {M : Type 1} → statement M
 distr-spec =

@@ -105,7 +105,10 @@ same-length : tie.Need-same-length
 same-length c = search needs
 
 returns : tie.Need-returns
-returns c = let s = c .before .before .before .before .before in let k = call (s .args .buf .now) (s .args .out) (s .args .n) (s .args .flags-at) (s .args .flags-len) (s .args .at) (s .args .len) (s .pre) (c .before .before .before .fits2 .ensures eachF refl refl) in (unfit k _ (c .before .misfit .given .1), refl)
+returns c =
+    let s = c .before .before .before .before .before in
+    let k = call (s .args .buf .now) (s .args .out) (s .args .n) (s .args .flags-at) (s .args .flags-len) (s .args .at) (s .args .len) (s .pre) (c .before .before .before .fits2 .ensures eachF refl refl) in
+    (unfit k _ (c .before .misfit .given .1), refl)
 
 enum-told : tie.Need-enum-told
 enum-told c = search needs
@@ -114,31 +117,52 @@ sub-if1 : tie.Need-sub-if1
 sub-if1 c = search needs
 
 first-outside-requires : tie.Need-first-outside-requires
-first-outside-requires c κs = let s = c .before .before .before .before .before .before in let k = call (s .args .buf .now) (s .args .out) (s .args .n) (s .args .flags-at) (s .args .flags-len) (s .args .at) (s .args .len) (s .pre) (c .before .before .before .before .fits2 .ensures eachF refl refl) in (s .args .flags-len, s .args .len, s .args .out, fitting k (c .before .before .enum-told .given .1))
+first-outside-requires c κs =
+    let s = c .before .before .before .before .before .before in
+    let k = call (s .args .buf .now) (s .args .out) (s .args .n) (s .args .flags-at) (s .args .flags-len) (s .args .at) (s .args .len) (s .pre) (c .before .before .before .before .fits2 .ensures eachF refl refl) in
+    (s .args .flags-len, s .args .len, s .args .out, fitting k (c .before .before .enum-told .given .1))
 
 same-length-2 : tie.Need-same-length-2
 same-length-2 c = search needs
 
 returns-2 : tie.Need-returns-2
-returns-2 c = let s = c .before .before .before .before .before .before .before in let k = call (s .args .buf .now) (s .args .out) (s .args .n) (s .args .flags-at) (s .args .flags-len) (s .args .at) (s .args .len) (s .pre) (c .before .before .before .before .before .fits2 .ensures eachF refl refl) in (full k (c .before .before .before .enum-told .given .1) (c .before .before .if1 .taken) (c .first-outside .ensures _ _ _ (fitting k (c .before .before .before .enum-told .given .1))), refl)
+returns-2 c =
+    let s = c .before .before .before .before .before .before .before in
+    let k = call (s .args .buf .now) (s .args .out) (s .args .n) (s .args .flags-at) (s .args .flags-len) (s .args .at) (s .args .len) (s .pre) (c .before .before .before .before .before .fits2 .ensures eachF refl refl) in
+    (full k (c .before .before .before .enum-told .given .1) (c .before .before .if1 .taken) (c .first-outside .ensures _ _ _ (fitting k (c .before .before .before .enum-told .given .1))), refl)
 
 sum-requires : tie.Need-sum-requires
-sum-requires c κs = let s = c .before .before .before .before .before .before in let k = call (s .args .buf .now) (s .args .out) (s .args .n) (s .args .flags-at) (s .args .flags-len) (s .args .at) (s .args .len) (s .pre) (c .before .before .before .before .fits2 .ensures eachF refl refl) in ((s .args .flags-len, s .args .len, fitting k (c .before .before .enum-told .given .1)), omega (arith, k .room, c .before .if1 .left))
+sum-requires c κs =
+    let s = c .before .before .before .before .before .before in
+    let k = call (s .args .buf .now) (s .args .out) (s .args .n) (s .args .flags-at) (s .args .flags-len) (s .args .at) (s .args .len) (s .pre) (c .before .before .before .before .fits2 .ensures eachF refl refl) in
+    ((s .args .flags-len, s .args .len, fitting k (c .before .before .enum-told .given .1)), omega (arith, k .room, c .before .if1 .left))
 
 same-length-3 : tie.Need-same-length-3
 same-length-3 c = search needs
 
 returns-3 : tie.Need-returns-3
-returns-3 c = let s = c .before .before .before .before .before .before .before .before .before in let k = call (s .args .buf .now) (s .args .out) (s .args .n) (s .args .flags-at) (s .args .flags-len) (s .args .at) (s .args .len) (s .pre) (c .before .before .before .before .before .before .before .fits2 .ensures eachF refl refl) in let f = c .before .before .sum .ensures _ _ (fitting k (c .before .before .before .before .before .enum-told .given .1)) in (made k (c .before .before .before .before .before .enum-told .given .1) f (c .before .before .before .before .if1 .left) (c .if2 .taken), f .behind)
+returns-3 c =
+    let s = c .before .before .before .before .before .before .before .before .before in
+    let k = call (s .args .buf .now) (s .args .out) (s .args .n) (s .args .flags-at) (s .args .flags-len) (s .args .at) (s .args .len) (s .pre) (c .before .before .before .before .before .before .before .fits2 .ensures eachF refl refl) in
+    let f = c .before .before .sum .ensures _ _ (fitting k (c .before .before .before .before .before .enum-told .given .1)) in
+    (made k (c .before .before .before .before .before .enum-told .given .1) f (c .before .before .before .before .if1 .left) (c .if2 .taken), f .behind)
 
 first-outside-requires-2 : tie.Need-first-outside-requires-2
-first-outside-requires-2 c κs = let s = c .before .before .before .before .before .before .before .before .before .before in let k = call (s .args .buf .now) (s .args .out) (s .args .n) (s .args .flags-at) (s .args .flags-len) (s .args .at) (s .args .len) (s .pre) (c .before .before .before .before .before .before .before .before .fits2 .ensures eachF refl refl) in let f = c .before .before .before .sum .ensures _ _ (fitting k (c .before .before .before .before .before .before .enum-told .given .1)) in (s .args .flags-len, s .args .len, s .args .out, fitting-still k (c .before .before .before .before .before .before .enum-told .given .1) f (c .before .before .before .sum .kept .0))
+first-outside-requires-2 c κs =
+    let s = c .before .before .before .before .before .before .before .before .before .before in
+    let k = call (s .args .buf .now) (s .args .out) (s .args .n) (s .args .flags-at) (s .args .flags-len) (s .args .at) (s .args .len) (s .pre) (c .before .before .before .before .before .before .before .before .fits2 .ensures eachF refl refl) in
+    let f = c .before .before .before .sum .ensures _ _ (fitting k (c .before .before .before .before .before .before .enum-told .given .1)) in
+    (s .args .flags-len, s .args .len, s .args .out, fitting-still k (c .before .before .before .before .before .before .enum-told .given .1) f (c .before .before .before .sum .kept .0))
 
 same-length-4 : tie.Need-same-length-4
 same-length-4 c = search needs
 
 returns-4 : tie.Need-returns-4
-returns-4 c = let s = c .before .before .before .before .before .before .before .before .before .before .before in let k = call (s .args .buf .now) (s .args .out) (s .args .n) (s .args .flags-at) (s .args .flags-len) (s .args .at) (s .args .len) (s .pre) (c .before .before .before .before .before .before .before .before .before .fits2 .ensures eachF refl refl) in let f = c .before .before .before .before .sum .ensures _ _ (fitting k (c .before .before .before .before .before .before .before .enum-told .given .1)) in (refuses k (c .before .before .before .before .before .before .before .enum-told .given .1) f (c .before .before .if2 .left) (c .first-outside2 .ensures _ _ _ (fitting-still k (c .before .before .before .before .before .before .before .enum-told .given .1) f (c .before .before .before .before .sum .kept .0))), f .behind)
+returns-4 c =
+    let s = c .before .before .before .before .before .before .before .before .before .before .before in
+    let k = call (s .args .buf .now) (s .args .out) (s .args .n) (s .args .flags-at) (s .args .flags-len) (s .args .at) (s .args .len) (s .pre) (c .before .before .before .before .before .before .before .before .before .fits2 .ensures eachF refl refl) in
+    let f = c .before .before .before .before .sum .ensures _ _ (fitting k (c .before .before .before .before .before .before .before .enum-told .given .1)) in
+    (refuses k (c .before .before .before .before .before .before .before .enum-told .given .1) f (c .before .before .if2 .left) (c .first-outside2 .ensures _ _ _ (fitting-still k (c .before .before .before .before .before .before .before .enum-told .given .1) f (c .before .before .before .before .sum .kept .0))), f .behind)
 
 pub sum-plus-spec : {M : Type 1} → statement M
 sum-plus-spec =

@@ -67,7 +67,9 @@ wanted-requires : tie.Need-wanted-requires
 wanted-requires c κs = tt
 
 returns : tie.Need-returns
-returns c = quick (c .before .before .before .before .before .before .before .args .buf .now) (c .before .before .before .before .before .before .before .args .n) (c .before .before .before .before .before .before .before .args .at) (c .before .before .before .before .before .before .before .args .len) (c .before .before .before .before .before .before .before .pre) (c .before .before .before .before .before .before .segments .ensures) (c .before .before .before .before .m .given .1) (c .before .before .if1 .taken) (c .before .wanted .ensures) (c .if2 .taken)
+returns c =
+    let s = c .before .before .before .before .before .before .before in
+    quick (s .args .buf .now) (s .args .n) (s .args .at) (s .args .len) (s .pre) (c .before .before .before .before .before .before .segments .ensures) (c .before .before .before .before .m .given .1) (c .before .before .if1 .taken) (c .before .wanted .ensures) (c .if2 .taken)
 
 enum-told : tie.Need-enum-told
 enum-told c = search needs
