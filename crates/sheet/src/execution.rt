@@ -77,7 +77,16 @@ pub fn execute(
     let mut env = [0u32; WORDS];
     let mut state = [0usize; FIXED];
     let mut text = [0u8; 0];
-    let ran = perform(job, formula, counts, &mut env, buf, &mut state, &mut text, answer);
+    let ran = perform(
+        job,
+        formula,
+        counts,
+        &mut env,
+        buf,
+        &mut state,
+        &mut text,
+        answer,
+    );
     let from = spoiled_from(ran, buf.len());
     clear(buf, from);
     ran
