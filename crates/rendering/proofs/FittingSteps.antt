@@ -1,166 +1,79 @@
--- Flags tried one by one, and a row of streams tried level by level from the outermost on.
-use Prim.Native.Nat.{ℕ, zero, suc, _+_, _-_, _≤_, _<_}
-use mathlib.Core.Bool.{true, false}
+-- Flags tried by how many segments they are, and a row of streams tried level by level from the outermost on.
+use Prim.Native.Nat.{ℕ, suc, _+_, _-_, _≤_, _<_}
+use mathlib.Core.Bool.{false}
 use mathlib.Core.List.{List, [], _∷_, _++_, reverse, reverse-append}
 use mathlib.Core.Option.{Option, some, none}
 use mathlib.Core.Path.{_≡_, refl, sym, ap, ap₂, _∙_}
-use native.Mathlib.Nat.{add-zero}
-use native.Mathlib.Numerals.{add-one}
 use native.Mathlib.Omega.{arith}
 use borrow.Author.Tests.{eq-eqb, ne-eqb}
-use lib.IntN.{ℤ, pos, negsuc}
-use lib.ListN.{length, getD, take, drop, drop-of-length-le}
-use lib.Seq.{drop-cons, drop-drop, take-suc, take-all, take-take, length-take-le, getD-take}
-use mir.Syntax.{w32}
-use mir.Val.{SFits, toZ, ofZ}
-use mir.Facts.{toZ-ofZ}
+use lib.IntN.{ℤ}
+use lib.ListN.{length, getD, take, drop}
+use lib.Seq.{drop-drop, take-suc, take-all, take-take, length-take-le, getD-take}
+use Rattle.laws.specs.Parts.{part}
+use Rattle.laws.proofs.Never.{never}
 use Rattle.snesl.specs.Machine.{sumOf}
 use Rattle.snesl.specs.Trees.{Tree, leaf, node, grow}
 use Rattle.snesl.specs.Transducers.{flagOf, misfit, countF, alone}
 use Rattle.snesl.specs.Representation.{misfitTree, parts, treeOf}
-use Rattle.rendering.specs.Fitting.{flagAs, fitFor, fitOf, fittingFor, fittingOf, InRow}
-use Rattle.rendering.specs.declared.fitting.Flag.the-variants.{F, T, Neither}
+use Rattle.flags.specs.Flags.{shapeFor}
+use Rattle.flags.specs.Segments.{wholes}
+use Rattle.flags.specs.declared.reading.Shape.{Shape}
+use Rattle.flags.specs.declared.reading.Shape.the-variants.{Whole, Ragged}
+use Rattle.flags.proofs.Fronts.{fits-count, whole-fits, fits-whole}
+use Rattle.rendering.specs.Fitting.{fitFor, fitOf, fittingFor, fittingOf, InRow}
 use Rattle.rendering.specs.declared.fitting.Fit.the-variants.{Items, No}
 use Rattle.rendering.specs.declared.fitting.Fitting.the-variants.{Fits, Misfit}
 use Rattle.levels.proofs.Counting.{sum-front, sum-less}
 
--- ---- an element as a flag
+-- ---- flags told by how many segments they are
 
-pub of-bits : {z : ℤ} (n : ℕ) → SFits w32 z → ofZ w32 z ≡ n → z ≡ toZ w32 n
-of-bits n f e = sym (toZ-ofZ f) ∙ ap (toZ w32) e
+all-flags : (fs : List ℤ) → part 0 (length fs) fs ≡ fs
+unfolding part
+all-flags fs = take-all (length fs) fs (omega arith)
 
-pub same-flag : (z : ℤ) → SFits w32 z → flagAs (toZ w32 (ofZ w32 z)) ≡ flagAs z
-same-flag z f = ap flagAs (toZ-ofZ f)
+module _ (fs : List ℤ) {shape : Shape} (read : shape ≡ shapeFor (wholes flagOf 0 false (part 0 (length fs) fs))) where
+  told : shape ≡ shapeFor (wholes flagOf 0 false fs)
+  told = read ∙ ap (λ (l : List ℤ). shapeFor (wholes flagOf 0 false l)) (all-flags fs)
 
-pub flag-F : {z : ℤ} → SFits w32 z → ofZ w32 z ≡ 0 → F ≡ flagAs z
-flag-F f e = ap flagAs (sym (of-bits 0 f e))
+  -- flags that fit are as many segments as they are to be
+  misfits : (n : ℕ) → (shape ≡ Whole n → ⊥) → No ≡ fitOf n fs
+  misfits n other = go (misfit flagOf {B = ℤ} alone 0 n fs []) refl
+    where
+      go : (o : Option ℕ) → misfit flagOf {B = ℤ} alone 0 n fs [] ≡ o → No ≡ fitFor o (countF flagOf fs)
+      go none h =
+          let z : 0 + n ≡ n = omega arith in
+          absurd (other (told ∙ ap shapeFor (fits-whole flagOf n 0 fs h) ∙ ap Whole z))
+      go (some k) h = refl
 
-pub flag-T : {z : ℤ} → SFits w32 z → ofZ w32 z ≡ 1 → T ≡ flagAs z
-flag-T f e = ap flagAs (sym (of-bits 1 f e))
+  pub fit-ragged : shape ≡ Ragged → (n : ℕ) → No ≡ fitOf n fs
+  fit-ragged ragged n = misfits n (λ e. never (cc))
 
-pub flag-neither : (z : ℤ) → (ofZ w32 z ≡ 0 → ⊥) → (ofZ w32 z ≡ 1 → ⊥) → Neither ≡ flagAs z
-flag-neither (pos zero) p q = absurd (p refl)
-flag-neither (pos (suc zero)) p q = absurd (q refl)
-flag-neither (pos (suc (suc n))) p q = refl
-flag-neither (negsuc n) p q = refl
+  module _ {m : ℕ} (whole : shape ≡ Whole m) where
+    pub fit-other : {n : ℕ} → (m ≡ n → ⊥) → No ≡ fitOf n fs
+    fit-other {n} other = misfits n (λ e. other (cc))
 
-as-F : (z : ℤ) → F ≡ flagAs z → flagOf z ≡ some false
-as-F (pos zero) e = refl
-as-F (pos (suc zero)) e = let x : _≡_ {A = ℕ} 0 1 = cc in absurd (omega arith)
-as-F (pos (suc (suc n))) e = let x : _≡_ {A = ℕ} 0 1 = cc in absurd (omega arith)
-as-F (negsuc n) e = let x : _≡_ {A = ℕ} 0 1 = cc in absurd (omega arith)
+    is-whole : wholes flagOf 0 false fs ≡ some m
+    is-whole = go (wholes flagOf 0 false fs) told
+      where
+        go : (o : Option ℕ) → shape ≡ shapeFor o → o ≡ some m
+        go none e = never (cc)
+        go (some k) e = cc
 
-as-T : (z : ℤ) → T ≡ flagAs z → flagOf z ≡ some true
-as-T (pos zero) e = let x : _≡_ {A = ℕ} 0 1 = cc in absurd (omega arith)
-as-T (pos (suc zero)) e = refl
-as-T (pos (suc (suc n))) e = let x : _≡_ {A = ℕ} 0 1 = cc in absurd (omega arith)
-as-T (negsuc n) e = let x : _≡_ {A = ℕ} 0 1 = cc in absurd (omega arith)
+    fits : misfit flagOf {B = ℤ} alone 0 m fs [] ≡ none
+    fits =
+        let e : m - 0 ≡ m = omega arith in
+        ap (λ (k : ℕ). misfit flagOf {B = ℤ} alone 0 k fs []) (sym e) ∙ whole-fits flagOf alone 0 false fs m [] is-whole refl
 
-as-neither : (z : ℤ) → Neither ≡ flagAs z → flagOf z ≡ none
-as-neither (pos zero) e = let x : _≡_ {A = ℕ} 0 1 = cc in absurd (omega arith)
-as-neither (pos (suc zero)) e = let x : _≡_ {A = ℕ} 0 1 = cc in absurd (omega arith)
-as-neither (pos (suc (suc n))) e = refl
-as-neither (negsuc n) e = refl
+    counts : countF flagOf fs + m ≡ length fs
+    counts = fits-count flagOf alone m 0 fs [] fits
 
--- ---- flags from some place on: so many segments are left, and so many items were met
+    pub fit-fewer : m ≤ length fs
+    fit-fewer = omega (arith, counts)
 
-module _ (k n items : ℕ) (z : ℤ) (zs : List ℤ) where
-  answer-F : flagOf z ≡ some false → fitFor (misfit flagOf {B = ℤ} alone k (suc n) (z ∷ zs) []) (items + countF flagOf (z ∷ zs))
-      ≡ fitFor (misfit flagOf {B = ℤ} alone k (suc n) zs []) (items + 1 + countF flagOf zs)
-  unfolding misfit countF
-  answer-F e =
-      let m : misfit flagOf {B = ℤ} alone k (suc n) (z ∷ zs) [] ≡ misfit flagOf {B = ℤ} alone k (suc n) zs [] = rw (e, misfit) in
-      let f : countF flagOf (z ∷ zs) ≡ suc (countF flagOf zs) = rw (e, countF) in
-      let j : items + countF flagOf (z ∷ zs) ≡ items + 1 + countF flagOf zs = omega arith in
-      ap₂ fitFor m j
-
-  answer-T : flagOf z ≡ some true → fitFor (misfit flagOf {B = ℤ} alone k (suc n) (z ∷ zs) []) (items + countF flagOf (z ∷ zs))
-      ≡ fitFor (misfit flagOf {B = ℤ} alone (suc k) n zs []) (items + countF flagOf zs)
-  unfolding misfit countF
-  answer-T e =
-      let m : misfit flagOf {B = ℤ} alone k (suc n) (z ∷ zs) [] ≡ misfit flagOf {B = ℤ} alone (suc k) n zs [] = rw (e, misfit) in
-      let f : countF flagOf (z ∷ zs) ≡ countF flagOf zs = rw (e, countF) in
-      ap₂ fitFor m (ap (λ (c : ℕ). items + c) f)
-
-  answer-neither : flagOf z ≡ none → fitFor (misfit flagOf {B = ℤ} alone k (suc n) (z ∷ zs) []) (items + countF flagOf (z ∷ zs)) ≡ No
-  unfolding misfit
-  answer-neither e =
-      let m : misfit flagOf {B = ℤ} alone k (suc n) (z ∷ zs) [] ≡ some k = rw (e, misfit) in
-      ap (λ (o : Option ℕ). fitFor o (items + countF flagOf (z ∷ zs))) m
-
-pub record Trying (n : ℕ) (fs : List ℤ) (left items i : ℕ) : Type 0 where
-  pub done : ℕ
-  pub whole : fitOf n fs ≡ fitFor (misfit flagOf {B = ℤ} alone done left (drop i fs) []) (items + countF flagOf (drop i fs))
-  pub few : items ≤ i
-
-pub trying-start : (n : ℕ) (fs : List ℤ) → Trying n fs n 0 0
-trying-start n fs =
-    let z : countF flagOf fs ≡ 0 + countF flagOf fs = omega arith in
-    record { done = 0; whole = ap (fitFor (misfit flagOf {B = ℤ} alone 0 n fs [])) z; few = omega arith }
-
-module _ {n : ℕ} {fs : List ℤ} {left items i : ℕ} (a : Trying n fs left items i) where
-  pub trying-end : length fs ≤ i → left ≡ 0 → Items items ≡ fitOf n fs
-  unfolding misfit countF
-  trying-end h z =
-      sym
-      (a .whole
-      ∙ ap₂ (λ (zs : List ℤ) (m : ℕ). fitFor (misfit flagOf {B = ℤ} alone (a .done) m zs []) (items + countF flagOf zs)) (drop-of-length-le fs h) z
-      ∙ ap Items (add-zero items))
-
-  pub trying-short : length fs ≤ i → (left ≡ 0 → ⊥) → No ≡ fitOf n fs
-  unfolding misfit countF
-  trying-short h z =
-      let m : left ≡ suc (left - 1) = omega arith in
-      sym
-      (a .whole
-      ∙ ap₂ (λ (zs : List ℤ) (m : ℕ). fitFor (misfit flagOf {B = ℤ} alone (a .done) m zs []) (items + countF flagOf zs)) (drop-of-length-le fs h) m)
-
-  module _ (h : i < length fs) where
-    seen : drop i fs ≡ getD fs i (pos 0) ∷ drop (i + 1) fs
-    seen = drop-cons fs i (pos 0) h ∙ ap (λ (j : ℕ). getD fs i (pos 0) ∷ drop j fs) (sym (add-one i))
-
-    read : (m : ℕ) → left ≡ m
-        → fitOf n fs
-        ≡ fitFor (misfit flagOf {B = ℤ} alone (a .done) m (getD fs i (pos 0) ∷ drop (i + 1) fs) [])
-        (items + countF flagOf (getD fs i (pos 0) ∷ drop (i + 1) fs))
-    read m e =
-        a .whole
-        ∙ ap₂ (λ (zs : List ℤ) (x : ℕ). fitFor (misfit flagOf {B = ℤ} alone (a .done) x zs []) (items + countF flagOf zs)) seen e
-
-    pub trying-full : left ≡ 0 → No ≡ fitOf n fs
-    unfolding misfit
-    trying-full z = sym (read 0 z)
-
-    module _ (l : left ≡ 0 → ⊥) where
-      less : left ≡ suc (left - 1)
-      less = omega arith
-
-      pub trying-F : F ≡ flagAs (getD fs i (pos 0)) → Trying n fs left (items + 1) (i + 1)
-      trying-F e =
-          record {
-            done = a .done;
-            whole =
-                read (suc (left - 1)) less
-                ∙ answer-F (a .done) (left - 1) items (getD fs i (pos 0)) (drop (i + 1) fs) (as-F (getD fs i (pos 0)) e)
-                ∙ ap (λ (m : ℕ). fitFor (misfit flagOf {B = ℤ} alone (a .done) m (drop (i + 1) fs) []) (items + 1 + countF flagOf (drop (i + 1) fs))) (sym less);
-            few = omega (arith, a .few);
-          }
-
-      pub trying-T : T ≡ flagAs (getD fs i (pos 0)) → Trying n fs (left - 1) items (i + 1)
-      trying-T e =
-          record {
-            done = suc (a .done);
-            whole =
-                read (suc (left - 1)) less
-                ∙ answer-T (a .done) (left - 1) items (getD fs i (pos 0)) (drop (i + 1) fs) (as-T (getD fs i (pos 0)) e);
-            few = omega (arith, a .few);
-          }
-
-      pub trying-neither : Neither ≡ flagAs (getD fs i (pos 0)) → No ≡ fitOf n fs
-      trying-neither e =
-          sym
-          (read (suc (left - 1)) less
-          ∙ answer-neither (a .done) (left - 1) items (getD fs i (pos 0)) (drop (i + 1) fs) (as-neither (getD fs i (pos 0)) e))
+    pub fit-items : {n : ℕ} → m ≡ n → Items (length fs - m) ≡ fitOf n fs
+    fit-items right =
+        let e : length fs - m ≡ countF flagOf fs = omega (arith, counts) in
+        ap Items e ∙ sym (ap (λ (o : Option ℕ). fitFor o (countF flagOf fs)) fits) ∙ ap (λ (k : ℕ). fitOf k fs) right
 
 -- ---- the levels of a row
 

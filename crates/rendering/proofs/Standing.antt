@@ -8,28 +8,16 @@ use native.Mathlib.Numerals.{add-one}
 use native.Mathlib.Omega.{arith}
 use borrow.Author.Tests.{ltb-true, ltb-false}
 use lib.Dec.{ltb}
-use lib.IntN.{ℤ, pos, negsuc}
+use lib.IntN.{ℤ, pos}
 use lib.ListN.{length, getD, set, take, drop, replicate, length-append, length-replicate, drop-of-length-le}
 use lib.Seq.{drop-cons, take-take, take-append-seam, getD-set-same, getD-set-other}
 use native.Mathlib.Nat.{add-zero}
-use mir.Syntax.{w32}
-use mir.Val.{SFits, ofZ}
 use Rattle.snesl.specs.Values.{Val}
 use Rattle.snesl.specs.Streams.{bit}
 use Rattle.snesl.specs.Representation.{concat, segments}
 use Rattle.valuetext.specs.Laying.{advance}
 use Rattle.rendering.specs.Standing.{StandsAt, Stands}
-use Rattle.rendering.specs.Showing.{isStop}
-use Rattle.rendering.proofs.FittingSteps.{of-bits}
 use Rattle.valuetext.proofs.Laying.{concat-append, bits-append, bits-length, length-advance}
-
-pub no-stop : (z : ℤ) → SFits w32 z → ofZ w32 z ≡ 0 → false ≡ isStop z
-no-stop z f e = ap isStop (sym (of-bits 0 f e))
-
-pub a-stop : (z : ℤ) → (ofZ w32 z ≡ 0 → ⊥) → true ≡ isStop z
-a-stop (pos zero) e = absurd (e refl)
-a-stop (pos (suc n)) e = refl
-a-stop (negsuc n) e = refl
 
 -- ---- elements at a place
 

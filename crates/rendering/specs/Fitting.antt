@@ -1,6 +1,5 @@
 -- Which streams represent a value, as the definitions of snesl's Representation have it.
-use Prim.Native.Nat.{ℕ, suc, _+_, _≤_, _<_}
-use mathlib.Core.Bool.{Bool, true, false}
+use Prim.Native.Nat.{ℕ, suc, _≤_, _<_}
 use mathlib.Core.List.{List, []}
 use mathlib.Core.Option.{Option, some, none}
 use mathlib.Core.Path.{_≡_}
@@ -9,20 +8,10 @@ use lib.ListN.{length, getD, take}
 use Rattle.snesl.specs.Machine.{sumOf}
 use Rattle.snesl.specs.Transducers.{flagOf, misfit, countF, alone}
 use Rattle.snesl.specs.Representation.{misfitTree, treeOf}
-use Rattle.rendering.specs.declared.fitting.Flag.{Flag}
-use Rattle.rendering.specs.declared.fitting.Flag.the-variants.{F, T, Neither}
 use Rattle.rendering.specs.declared.fitting.Fit.{Fit}
 use Rattle.rendering.specs.declared.fitting.Fit.the-variants.{Items, No}
 use Rattle.rendering.specs.declared.fitting.Fitting.{Fitting}
 use Rattle.rendering.specs.declared.fitting.Fitting.the-variants.{Fits, Misfit}
-
-abbrev pub flagFor : Option Bool → Flag
-flagFor none = Neither
-flagFor (some false) = F
-flagFor (some true) = T
-
-abbrev pub flagAs : ℤ → Flag
-flagAs z = flagFor (flagOf z)
 
 -- flags of so many items, unless something is wrong with them
 abbrev pub fitFor : Option ℕ → ℕ → Fit

@@ -1,14 +1,9 @@
 // Whether streams represent a value: the outermost flags are one segment, each other flags one for each F outside, and the data one int for each F.
+use flags::reading::Shape;
+use flags::segments;
 ghost use mathlib.Core.Path.{_≡_};
 ghost use lib.ListN.{length};
-ghost use Rattle.rendering.specs.Fitting.{flagAs, fitOf, fittingOf, InRow};
-
-// An element read as a flag.
-pub enum Flag {
-    F,
-    T,
-    Neither,
-}
+ghost use Rattle.rendering.specs.Fitting.{fitOf, fittingOf, InRow};
 
 // How many items flags have, if they fit.
 pub enum Fit {
@@ -22,48 +17,16 @@ pub enum Fitting {
     Misfit(usize),
 }
 
-fn flag_of(z: i32) -> Flag
-    ensures { λ r. ⌜ r ≡ flagAs z ⌝ }
-{
-    if z == 0 {
-        return Flag::F;
-    }
-    if z == 1 {
-        return Flag::T;
-    }
-    Flag::Neither
-}
-
-// Whether these are n segments, each some F's and a T, and nothing else.
+// Whether these are n segments, each some F's and a T, and nothing else. Each flag that ends no segment is an item.
 fn fit_flags(flags: &[i32], n: usize) -> Fit
     ensures { λ r. ⌜ r ≡ fitOf n (now (flags .entry)) ⌝ }
 {
-    let mut left = n;
-    let mut items: usize = 0;
-    let mut i: usize = 0;
-    while i < flags.len() {
-        if left == 0 {
-            return Fit::No;
-        }
-        let z = flags[i];
-        match flag_of(z) {
-            Flag::F => {
-                items += 1;
-                i += 1;
-            }
-            Flag::T => {
-                left -= 1;
-                i += 1;
-            }
-            Flag::Neither => {
-                return Fit::No;
-            }
+    if let Shape::Whole(m) = segments(flags, 0, flags.len()) {
+        if m == n {
+            return Fit::Items(flags.len() - m);
         }
     }
-    if left > 0 {
-        return Fit::No;
-    }
-    Fit::Items(items)
+    Fit::No
 }
 
 // Streams one after another, tried level by level from the outermost flags on.

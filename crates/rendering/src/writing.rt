@@ -1,6 +1,8 @@
 // The text of a value whose streams stand in a buffer: each level has a cursor at its next element. Lent no bytes, the writers only measure.
 use decimals::numbers::put;
 use decimals::numbers::write_int;
+use flags::flag_at;
+use flags::reading::Flag;
 ghost use Prim.Native.Nat.{_+_, _<_};
 ghost use mathlib.Core.Path.{_≡_};
 ghost use lib.IntN.{pos};
@@ -15,11 +17,11 @@ fn stops(elements: &[i32], cursors: &mut [usize], level: usize) -> bool
 {
     let at = cursors[level];
     cursors[level] = at + 1;
-    let z = elements[at];
-    if z == 0 {
-        return false;
+    match flag_at(elements, at) {
+        Flag::F => false,
+        Flag::T => true,
+        Flag::Neither => true,
     }
-    true
 }
 
 fn write_leaf(elements: &[i32], cursors: &mut [usize], answer: &mut [u8], at: usize) -> usize
