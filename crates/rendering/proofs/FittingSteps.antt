@@ -49,8 +49,8 @@ module _ (fs : List ℤ) {shape : Shape} (read : shape ≡ shapeFor (wholes flag
   fit-ragged ragged n = misfits n (λ e. never (cc))
 
   module _ {m : ℕ} (whole : shape ≡ Whole m) where
-    pub fit-other : {n : ℕ} → (m ≡ n → ⊥) → No ≡ fitOf n fs
-    fit-other {n} other = misfits n (λ e. other (cc))
+    pub fit-other : (n : ℕ) → (m ≡ n → ⊥) → No ≡ fitOf n fs
+    fit-other n other = misfits n (λ e. other (cc))
 
     is-whole : wholes flagOf 0 false fs ≡ some m
     is-whole = go (wholes flagOf 0 false fs) told
@@ -70,8 +70,8 @@ module _ (fs : List ℤ) {shape : Shape} (read : shape ≡ shapeFor (wholes flag
     pub fit-fewer : m ≤ length fs
     fit-fewer = omega (arith, counts)
 
-    pub fit-items : {n : ℕ} → m ≡ n → Items (length fs - m) ≡ fitOf n fs
-    fit-items right =
+    pub fit-items : (n : ℕ) → m ≡ n → Items (length fs - m) ≡ fitOf n fs
+    fit-items n right =
         let e : length fs - m ≡ countF flagOf fs = omega (arith, counts) in
         ap Items e ∙ sym (ap (λ (o : Option ℕ). fitFor o (countF flagOf fs)) fits) ∙ ap (λ (k : ℕ). fitOf k fs) right
 

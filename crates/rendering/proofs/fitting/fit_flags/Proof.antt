@@ -15,13 +15,17 @@ sub-t8 : tie.Need-sub-t8
 sub-t8 c = fit-fewer (c .before .before .before .before .before .args .flags .now) (c .before .before .before .before .segments .ensures) (c .before .before .m .given .1)
 
 returns : tie.Need-returns
-returns c = fit-items (c .before .before .before .before .before .args .flags .now) (c .before .before .before .before .segments .ensures) (c .before .before .m .given .1) (c .if1 .taken)
+returns c =
+    let s = c .before .before .before .before .before in
+    fit-items (s .args .flags .now) (c .before .before .before .before .segments .ensures) (c .before .before .m .given .1) (s .args .n) (omega (arith, c .if1 .taken))
 
 enum-told : tie.Need-enum-told
 enum-told c = search needs
 
 returns-2 : tie.Need-returns-2
-returns-2 c = fit-other (c .before .before .before .before .before .args .flags .now) (c .before .before .before .before .segments .ensures) (c .before .before .m .given .1) (c .if1 .left)
+returns-2 c =
+    let s = c .before .before .before .before .before in
+    fit-other (s .args .flags .now) (c .before .before .before .before .segments .ensures) (c .before .before .m .given .1) (s .args .n) (λ e. omega (arith, c .if1 .left))
 
 returns-3 : tie.Need-returns-3
 returns-3 c = fit-ragged (c .before .before .before .args .flags .now) (c .before .before .segments .ensures) (c .enum-told .given .1) (c .before .before .before .args .n)
