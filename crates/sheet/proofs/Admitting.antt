@@ -1,8 +1,9 @@
 -- Refusals 1 to 7 step by step, and what the job's outcome is where one of them is met or none.
-use Prim.Native.Nat.{ℕ}
+use Prim.Native.Nat.{ℕ, _+_, _*_, _≤_}
 use mathlib.Core.Bool.{Bool, true, false}
 use mathlib.Core.List.{List}
 use mathlib.Core.Path.{_≡_, refl, sym, ap, subst, _∙_}
+use native.Mathlib.Omega.{arith}
 use lib.Dec.{eqb}
 use lib.IntN.{ℤ}
 use lib.ListN.{length}
@@ -19,18 +20,25 @@ use Rattle.snesl.specs.Checking as checking
 use Rattle.snesl.specs.Checking.{Typed, typed, context, depths, checkFormula}
 use Rattle.snesl.specs.Inputs.{Values, wrong, right, inputValues}
 use Rattle.snesl.specs.Outcome.{refusal, outcomeRead, outcomeTyped, valued, outcome, streamsRefused}
+use Rattle.snesl.proofs.Formed.{job-formed}
 use Rattle.snesl.proofs.Jobs.EarlyRefusals.{early-keeps, reading-refuses-early, checking-refuses-early}
 use Rattle.formula.specs.Reading.{formulaOf, jobOf}
 use Rattle.formula.specs.declared.read.JobRead.the-variants as found
 use Rattle.formula.specs.declared.read.FormulaRead.the-variants as formula
 use Rattle.checking.specs.Checks.{judgedOf, judgeFront}
 use Rattle.checking.specs.declared.check.Judged.the-variants as judged
+use Rattle.environment.specs.Needs.{words}
+use Rattle.leaves.specs.Places.{shallow-none, mostWords}
+use Rattle.runner.proofs.Measures.{words-most}
 use Rattle.inputs.specs.Supply.{Read, textsOf, tallied}
+use Rattle.inputs.specs.Loading.{bindingWords}
+use Rattle.inputs.proofs.Supplying.{inputs-supplied, inputs-few}
 use Rattle.inputs.specs.declared.texts.Texts.the-variants as texts
 use Rattle.sheet.specs.declared.admission.Admission.{Admission}
 use Rattle.sheet.specs.declared.admission.Admission.the-variants.{Admitted, Refused}
 use Rattle.sheet.specs.Admission.{admissionValued, admissionTyped, admissionRead, admission, countsTyped, countsRead, admissionCounts}
 use Rattle.sheet.specs.Runs as runs
+use Rattle.sheet.proofs.Needing.{inputs-shallow}
 
 -- ---- step by step
 
@@ -128,29 +136,35 @@ module _ (t : List ℕ) where
           go (checking.Typed.refused s) q = never (cc)
           go (typed d′ e) q = refl
 
-      valued-is : admission t ≡ admissionValued f (inputValues t (g .inputs) (g .spans))
+      valued-is : admission t ≡ admissionValued f n (inputValues t (g .inputs) (g .spans))
       valued-is = admission-is ∙ go (checkFormula (g .inputs) (g .raw)) (e ∙ ap judgeFront the-front)
         where
           go : (y : Typed (context (g .inputs))) → judged.Typed d n ≡ judgedOf y
-              → admissionTyped t f (g .inputs) (g .spans) y ≡ admissionValued f (inputValues t (g .inputs) (g .spans))
+              → admissionTyped t f (g .inputs) (g .spans) y ≡ admissionValued f n (inputValues t (g .inputs) (g .spans))
           go (checking.Typed.refused s) q = never (cc)
-          go (typed d′ e) q = refl
+          go (typed d′ e) q =
+              let same : words e ≡ n = cc in
+              ap (λ (m : ℕ). admissionValued f m (inputValues t (g .inputs) (g .spans))) same
 
       pub refused-valued : (p : ℕ) → texts.Bad p ≡ textsOf (inputValues t (g .inputs) (g .spans)) → Refused (NoValueText p) ≡ admission t
       refused-valued p q = go (inputValues t (g .inputs) (g .spans)) q ∙ sym valued-is
         where
-          go : (v : Values (depths (g .inputs))) → texts.Bad p ≡ textsOf v → Refused (NoValueText p) ≡ admissionValued f v
+          go : (v : Values (depths (g .inputs))) → texts.Bad p ≡ textsOf v → Refused (NoValueText p) ≡ admissionValued f n v
           go (wrong r) q = let same : p ≡ r = cc in ap (λ (i : ℕ). Refused (NoValueText i)) same
           go (right vs) q = never (cc)
 
-      pub admitted : texts.Good ≡ textsOf (inputValues t (g .inputs) (g .spans)) → Admitted f ≡ admission t
+      pub admitted : texts.Good ≡ textsOf (inputValues t (g .inputs) (g .spans)) → Admitted f n ≡ admission t
       admitted q = go (inputValues t (g .inputs) (g .spans)) q ∙ sym valued-is
         where
-          go : (v : Values (depths (g .inputs))) → texts.Good ≡ textsOf v → Admitted f ≡ admissionValued f v
+          go : (v : Values (depths (g .inputs))) → texts.Good ≡ textsOf v → Admitted f n ≡ admissionValued f n v
           go (wrong r) q = never (cc)
           go (right vs) q = refl
 
 -- ---- the outcome
+
+-- the words that an admitted job needs are enough for it, and no more than the most
+abbrev pub Enough : List ℕ → Formula → (needed : ℕ) → Type 0
+Enough t f needed = runs.Admitted t f (needed + bindingWords * f .inputs) × (needed + bindingWords * f .inputs ≤ mostWords)
 
 -- a refusal that writes nothing
 pub record Turned (t : List ℕ) (r : Refusal) : Type 0 where
@@ -161,7 +175,7 @@ module _ (t : List ℕ) where
   -- by the way to the admission
   abbrev Says : Admission → Type 0
   Says (Refused r) = Turned t r
-  Says (Admitted f) = runs.Admitted t f
+  Says (Admitted f needed) = Enough t f needed
 
   says : Says (admission t)
   says = read (readJob t) refl
@@ -169,7 +183,7 @@ module _ (t : List ℕ) where
       values : (is : List Input) (k : ℕ) (e : Raw) (next : ℕ) (ss : List Span) → readJob t ≡ job is k e next ss
           → (d : ℕ) (u : Term (context is) d) → checkFormula is e ≡ typed d u
           → (v : Values (depths is)) → inputValues t is ss ≡ v
-          → Says (admissionValued (record { inputs = length is; expression = k; end = next }) v)
+          → Says (admissionValued (record { inputs = length is; expression = k; end = next }) (words u) v)
       values is k e next ss r d u c (wrong p) h =
           record {
             comes =
@@ -180,23 +194,29 @@ module _ (t : List ℕ) where
             keeps = λ old. refl;
           }
       values is k e next ss r d u c (right vs) h =
-          record {
-            accepted =
-                record {
-                  inputs = is;
-                  expression = k;
-                  raw = e;
-                  next = next;
-                  spans = ss;
-                  depth = d;
-                  term = u;
-                  given = vs;
-                  read = r;
-                  checked = c;
-                  valued = h;
-                };
-            formula = refl;
-          }
+          let found : Read t (record { inputs = length is; expression = k; end = next }) =
+          record { inputs = is; expression = k; raw = e; next = next; spans = ss; read = r; formula = refl } in
+          let most = words-most (job-formed t r c .formed) (inputs-shallow (inputs-supplied found) shallow-none) in (
+            record {
+              accepted =
+                  record {
+                    inputs = is;
+                    expression = k;
+                    raw = e;
+                    next = next;
+                    spans = ss;
+                    depth = d;
+                    term = u;
+                    given = vs;
+                    read = r;
+                    checked = c;
+                    valued = h;
+                  };
+              formula = refl;
+              room = omega arith;
+            },
+            omega (arith, most, inputs-few found),
+          )
 
       types : (is : List Input) (k : ℕ) (e : Raw) (next : ℕ) (ss : List Span) → readJob t ≡ job is k e next ss
           → (y : Typed (context is)) → checkFormula is e ≡ y
@@ -219,5 +239,5 @@ module _ (t : List ℕ) where
   pub turned : (r : Refusal) → Refused r ≡ admission t → Turned t r
   turned r e = subst Says (sym e) says
 
-  pub taken-in : (f : Formula) → Admitted f ≡ admission t → runs.Admitted t f
-  taken-in f e = subst Says (sym e) says
+  pub taken-in : (f : Formula) (needed : ℕ) → Admitted f needed ≡ admission t → Enough t f needed
+  taken-in f needed e = subst Says (sym e) says

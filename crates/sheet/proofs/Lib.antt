@@ -1,4 +1,5 @@
 pub mod Starts
+pub mod Needing
 pub mod Admitting
 pub mod Answering
 pub mod Performing

@@ -7,7 +7,7 @@ use mathlib.Core.Path.{_≡_, refl, sym, ap, ap₂, subst, _∙_}
 use native.Mathlib.Omega.{arith}
 use lib.Dec.{leb}
 use lib.IntN.{ℤ, pos}
-use lib.ListN.{length, drop, replicate, take-append-drop, take, length-append}
+use lib.ListN.{length, drop, replicate, take-append-drop, take, length-append, length-drop}
 use lib.Seq.{take-length}
 use Rattle.laws.specs.Parts.{cleared}
 use Rattle.laws.proofs.Never.{never}
@@ -36,7 +36,8 @@ use Rattle.snesl.proofs.Statements.Correctness.{a-run-has-a-value}
 use Rattle.steps.specs.Holding.{keeps}
 use Rattle.steps.specs.Walking.{walked}
 use Rattle.steps.proofs.Stores.{room-append}
-use Rattle.leaves.specs.Places.{wordsFor, mostWords}
+use Rattle.leaves.specs.Places.{places}
+use Rattle.environment.specs.Words.{treeSize}
 use Rattle.environment.specs.Needs.{words}
 use Rattle.sink.specs.Sinks.{Sink, running, feed}
 use Rattle.sink.specs.Sunk.{Sunk}
@@ -44,7 +45,7 @@ use Rattle.leaves.specs.Scenes.{Scene, answer, Left, Runs}
 use Rattle.runner.specs.Walks.{Ready}
 use Rattle.leaves.specs.declared.Walked.{Walked}
 use Rattle.leaves.specs.declared.Walked.the-variants as walks
-use Rattle.runner.proofs.Measures.{shallow-type, words-most}
+use Rattle.runner.proofs.Measures.{shallow-type, words-hold}
 use Rattle.inputs.specs.Supply.{Valued, perInput, Counted}
 use Rattle.inputs.proofs.Counting.{counted-all}
 use Rattle.inputs.specs.Loading.{bindingWords, inputsBound, Stands, Loads, loads, fills}
@@ -54,11 +55,12 @@ use Rattle.sheet.specs.declared.Ran.{Ran as Ran-answer}
 use Rattle.sheet.specs.declared.Ran.the-variants.{Value, Refused}
 use Rattle.sheet.specs.Admission.{countsTyped, countsRead, admissionCounts}
 use Rattle.sheet.specs.Runs.{ranOf, Admitted, execution, Finished, Shows, LeftBy, Performs, spoiledFrom, Executes}
+use Rattle.sheet.proofs.Needing.{spelled-few, context-long}
 
 -- ---- loading
 
 -- what loading is handed
-abbrev pub valued-of : {t : List ℕ} {f : Formula} → Admitted t f → Valued t f
+abbrev pub valued-of : {t : List ℕ} {f : Formula} {enough : ℕ} → Admitted t f enough → Valued t f
 valued-of g =
     record {
       job =
@@ -76,7 +78,7 @@ valued-of g =
     }
 
 -- the counts that its admission kept are its inputs'
-pub counted-of : {t : List ℕ} {f : Formula} (g : Admitted t f) (cs₀ : List ℕ) {cs : List ℕ} → cs ≡ admissionCounts t cs₀
+pub counted-of : {t : List ℕ} {f : Formula} {enough : ℕ} (g : Admitted t f enough) (cs₀ : List ℕ) {cs : List ℕ} → cs ≡ admissionCounts t cs₀
     → perInput * mostInputs ≤ length cs₀ → length cs ≡ length cs₀ → Counted t cs
 counted-of {t} g cs₀ e =
     counted-all (valued-of g .job) cs₀
@@ -100,10 +102,10 @@ module _ {t : List ℕ} {f : Formula} {g : Valued t f} {env env₁ : List ℕ} {
   laid (loads s k p n) = record { fitting = refl; stands = s; kept = k; space = p; few = n }
 
 -- the inputs' streams and their trees
-abbrev pub inputsOf : {t : List ℕ} {f : Formula} → Admitted t f → Store
+abbrev pub inputsOf : {t : List ℕ} {f : Formula} {enough : ℕ} → Admitted t f enough → Store
 inputsOf g = inputStreams (g .accepted .given)
 
-abbrev pub treesOf : {t : List ℕ} {f : Formula} → (g : Admitted t f) → All (Tree ℕ) (context (g .accepted .inputs))
+abbrev pub treesOf : {t : List ℕ} {f : Formula} {enough : ℕ} → (g : Admitted t f enough) → All (Tree ℕ) (context (g .accepted .inputs))
 treesOf g = turned ∅ (inputTrees 0 (depths (g .accepted .inputs)))
 
 -- ---- an outcome, and what is left where it is one
@@ -125,7 +127,7 @@ left-answered lent text m buf buf₁ e = go (leb (length text) lent) refl
 
 -- ---- from the inputs to the answer
 
-module _ {t : List ℕ} {f : Formula} (g : Admitted t f) {env env₁ : List ℕ} {buf buf₁ : List ℤ} {state₁ : List ℕ} where
+module _ {t : List ℕ} {f : Formula} {env env₁ : List ℕ} (g : Admitted t f (length env)) {buf buf₁ : List ℤ} {state₁ : List ℕ} where
   -- the inputs don't fit
   pub crowded : (r : Loaded) (s : ℕ) (ans : List ℕ) → r ≡ Full s
       → Loads (valued-of g) env env₁ buf buf₁ state₁ (inputOver (length buf) 0 0 (g .accepted .given)) r
@@ -137,7 +139,7 @@ module _ {t : List ℕ} {f : Formula} (g : Admitted t f) {env env₁ : List ℕ}
       (subst (λ (x : Loaded). Loads (valued-of g) env env₁ buf buf₁ state₁ (inputOver (length buf) 0 0 (g .accepted .given)) x) e l)))
 
   module _ (r₀ : Loaded) (sp : ℕ) (at : r₀ ≡ At sp) (l : Loads (valued-of g) env env₁ buf buf₁ state₁ (inputOver (length buf) 0 0 (g .accepted .given)) r₀)
-      (wide : mostWords ≤ length env) (text : List ℕ) where
+      (same : length env₁ ≡ length env) (text : List ℕ) where
     pub here : Laid (valued-of g) env env₁ buf buf₁ state₁ (inputOver (length buf) 0 0 (g .accepted .given)) sp
     here =
         laid
@@ -187,11 +189,20 @@ module _ {t : List ℕ} {f : Formula} (g : Admitted t f) {env env₁ : List ℕ}
         (turned ∅ (inputNames (g .accepted .inputs))) (g .accepted .depth) (g .accepted .term) (g .accepted .next)
     formed = job-formed t (g .accepted .read) (g .accepted .checked) .formed
 
-    pub low : wordsFor (mostNesting + 1) ≤ sp
-    low = omega (arith, here .space)
-
+    -- the inputs' bindings leave the words of the expression
     pub needed : words (g .accepted .term) ≤ sp
-    needed = omega (arith, low, words-most formed (here .stands .shallow))
+    needed =
+        let b = inputsBound (g .accepted .inputs) in
+        omega (
+          arith,
+          g .room,
+          same,
+          here .stands .within,
+          ap length (here .stands .spells),
+          length-drop sp env₁,
+          spelled-few (b .names) (places (inputsOf g) (b .trees)) (here .stands .shallow),
+          context-long [] (g .accepted .inputs),
+        )
 
     abbrev pub ready : Ready t (f .expression) sp env₁ buf₁ state₁ text
     ready =
@@ -283,6 +294,10 @@ module _ {t : List ℕ} {f : Formula} (g : Admitted t f) {env env₁ : List ℕ}
 
           pub shallow : depth ≤ mostDepth
           shallow = omega (arith, finish .shallow, through depth next e .deep)
+
+          -- the words of the result's tree are below sp
+          pub low : treeSize depth ≤ sp
+          low = omega (arith, words-hold (g .accepted .term), needed, through depth next e .deep)
 
           whole : buf₂ ≡ contents (m .store) ++ drop (room (m .store)) buf
           whole =

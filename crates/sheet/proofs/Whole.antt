@@ -71,7 +71,7 @@ stored buf buf′ u (refusal r) late e =
     ∙ sym (late buf)
 stored buf buf′ u (value text work steps room held) late e = e
 
-module _ {t : List ℕ} {f : Formula} (g : Admitted t f) {buf buf₁ buf₂ : List ℤ} (short : length buf ≤ mostElements) where
+module _ {t : List ℕ} {f : Formula} {enough : ℕ} (g : Admitted t f enough) {buf buf₁ buf₂ : List ℤ} (short : length buf ≤ mostElements) where
   pub kept-used : {answer answer′ : List ℕ} {r : Ran} {from : ℕ} → Performs (execution g (length buf) (length answer)) buf buf₁ answer answer′ r
       → length buf₁ ≡ length buf → from ≡ spoiledFrom r (length buf₁) → buf₂ ≡ cleared (pos 0) from buf₁
       → Demands t buf buf₂ answer answer′ (told r)

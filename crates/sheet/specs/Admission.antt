@@ -7,19 +7,20 @@ use Rattle.snesl.specs.declared.refusal.Refusal.the-variants.{NoValueText}
 use Rattle.snesl.specs.Records as records
 use Rattle.snesl.specs.Checking as checking
 use Rattle.snesl.specs.Inputs.{Values, wrong, right, inputValues}
+use Rattle.environment.specs.Needs.{words}
 use Rattle.inputs.specs.Supply.{tallied}
 use Rattle.sheet.specs.declared.admission.Admission.{Admission}
 use Rattle.sheet.specs.declared.admission.Admission.the-variants.{Admitted, Refused}
 
 -- 7
-abbrev pub admissionValued : {ds : List ℕ} → Formula → Values ds → Admission
-admissionValued f (wrong p) = Refused (NoValueText p)
-admissionValued f (right vs) = Admitted f
+abbrev pub admissionValued : {ds : List ℕ} → Formula → (needed : ℕ) → Values ds → Admission
+admissionValued f needed (wrong p) = Refused (NoValueText p)
+admissionValued f needed (right vs) = Admitted f needed
 
 -- 5 and 6
 abbrev pub admissionTyped : List ℕ → Formula → (is : List records.Input) → List records.Span → checking.Typed (checking.context is) → Admission
 admissionTyped t f is ss (checking.Typed.refused r) = Refused r
-admissionTyped t f is ss (checking.typed d e) = admissionValued f (inputValues t is ss)
+admissionTyped t f is ss (checking.typed d e) = admissionValued f (words e) (inputValues t is ss)
 
 -- 1 to 4
 abbrev pub admissionRead : List ℕ → records.JobRead → Admission

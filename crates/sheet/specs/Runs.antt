@@ -1,5 +1,5 @@
 -- What `run` answers and leaves of what it was lent, as snesl's `outcome` has it, and what its parts do of that.
-use Prim.Native.Nat.{ℕ, _≤_}
+use Prim.Native.Nat.{ℕ, _+_, _*_, _≤_}
 use mathlib.Core.List.{List, [], _∷_, _++_}
 use mathlib.Core.Path.{_≡_}
 use lib.IntN.{ℤ, pos}
@@ -14,7 +14,9 @@ use Rattle.snesl.specs.Inputs.{inputOver}
 use Rattle.snesl.specs.Demands.{Told, shows, declines, Accepted}
 use Rattle.snesl.specs.Outcome.{Outcome, refusal, value, executed, outcome, streamsAfter, answerAfter}
 use Rattle.environment.specs.Words.{treeWords}
+use Rattle.environment.specs.Needs.{words}
 use Rattle.steps.specs.Holding.{Held, place}
+use Rattle.inputs.specs.Loading.{bindingWords}
 use Rattle.sheet.specs.declared.Ran.{Ran}
 use Rattle.sheet.specs.declared.Ran.the-variants.{Value, Refused}
 
@@ -36,15 +38,23 @@ pub record Exact (t : List ℕ) (streams streams′ : List ℤ) (answer answer�
 
 -- ---- a job that meets none of 1 to 7
 
--- with the formula that was read of it
-pub record Admitted (t : List ℕ) (f : Formula) : Type 0 where
+-- with the formula that was read of it, where so many words are enough for its inputs' bindings and the walk of its expression
+pub record Admitted (t : List ℕ) (f : Formula) (enough : ℕ) : Type 0 where
   pub accepted : Accepted t
   pub formula : f ≡ record { inputs = length (accepted .inputs); expression = accepted .expression; end = accepted .next }
+  pub room : words (accepted .term) + bindingWords * length (accepted .inputs) ≤ enough
 
 -- its outcome where so many elements are used
-abbrev pub execution : {t : List ℕ} {f : Formula} → Admitted t f → (cap answerLent : ℕ) → Outcome
+abbrev pub execution : {t : List ℕ} {f : Formula} {enough : ℕ} → Admitted t f enough → (cap answerLent : ℕ) → Outcome
 execution g cap answerLent =
     executed cap answerLent (g .accepted .inputs) (g .accepted .term) (g .accepted .given) (inputOver cap 0 0 (g .accepted .given))
+
+-- the words of the three arrays that a run lends itself one of
+abbrev pub smallWords : ℕ
+smallWords = 512
+
+abbrev pub middleWords : ℕ
+middleWords = 2048
 
 -- ---- a run that went through
 

@@ -14,9 +14,9 @@ ghost use Rattle.snesl.specs.Limits.{mostInputs};
 ghost use Rattle.inputs.specs.Supply.{perInput};
 ghost use Rattle.sheet.specs.Admission.{admission, admissionCounts};
 
-// The formula of a job that meets none of 1 to 7.
+// The formula of a job that meets none of 1 to 7, and how many words the walk of its expression takes.
 pub enum Admission {
-    Admitted(Formula),
+    Admitted(Formula, usize),
     Refused(Refusal),
 }
 
@@ -31,8 +31,8 @@ pub fn admit(job: &[u8], counts: &mut [usize]) -> Admission
             let formula = found.formula;
             match check_front(job, formula) {
                 Judged::Refused(refusal) => Admission::Refused(refusal),
-                Judged::Typed(_, _) => match measure_texts(job, formula, counts) {
-                    Texts::Good => Admission::Admitted(formula),
+                Judged::Typed(_, words) => match measure_texts(job, formula, counts) {
+                    Texts::Good => Admission::Admitted(formula, words),
                     Texts::Bad(place) => Admission::Refused(Refusal::NoValueText(place)),
                 },
             }

@@ -11,22 +11,26 @@ use snesl::refusal::Refusal;
 use streams::clear;
 ghost use mathlib.Core.Path.{_≡_};
 ghost use mathlib.Core.List.{_∷_};
-ghost use Prim.Native.Nat.{_≤_};
+ghost use Prim.Native.Nat.{_+_, _*_, _≤_};
 ghost use lib.ListN.{length};
-ghost use Rattle.snesl.specs.Limits.{mostElements};
+ghost use Rattle.snesl.specs.Limits.{mostInputs, mostElements};
 ghost use Rattle.snesl.specs.Demands.{Demands};
-ghost use Rattle.inputs.specs.Loading.{idle};
+ghost use Rattle.inputs.specs.Loading.{bindingWords, idle};
 ghost use Rattle.leaves.specs.Places.{mostWords};
 ghost use Rattle.inputs.specs.Supply.{Counted};
-ghost use Rattle.sheet.specs.Runs.{told, Admitted, execution, Performs, spoiledFrom};
+ghost use Rattle.sheet.specs.Runs.{told, Admitted, smallWords, middleWords, execution, Performs, spoiledFrom};
 
 // The most words that an input's binding takes, and those that a nesting of the walk takes.
 const INPUT_WORDS: usize = 29;
 
 const NESTING_WORDS: usize = 69;
 
-// The stack of words of the deepest walk over the most inputs.
-const WORDS: usize = NESTING_WORDS * (Formula::NESTING + 1) + INPUT_WORDS * Formula::INPUTS;
+// The stacks of words that a run may lend itself: the largest is that of the deepest walk over the most inputs.
+const SMALL: usize = 512;
+
+const MIDDLE: usize = 2048;
+
+const LARGEST: usize = NESTING_WORDS * (Formula::NESTING + 1) + INPUT_WORDS * Formula::INPUTS;
 
 // With a value the buffer holds the streams; with a refusal it holds whatever was left there. The walk only runs, so nothing is written to the text.
 fn perform(
@@ -39,9 +43,9 @@ fn perform(
     text: &mut [u8],
     answer: &mut [u8],
 ) -> Ran
-    requires { ⌜ Admitted (now job) formula × Counted (now job) (now counts) ⌝ }
-    requires { ⌜ (mostWords ≤ length (now env)) × (length (now buf) ≤ mostElements) × (now state ≡ 0 ∷ 0 ∷ 0 ∷ 0 ∷ idle) ⌝ }
-    ensures { λ r. ⌜ ((g : Admitted (now (job .entry)) formula) → Performs (execution g (length (now (buf .entry))) (length (now (answer .entry)))) (now (buf .entry)) (now (buf .exit)) (now (answer .entry)) (now (answer .exit)) r) ⌝ }
+    requires { ⌜ Admitted (now job) formula (length (now env)) × Counted (now job) (now counts) ⌝ }
+    requires { ⌜ (bindingWords * mostInputs ≤ length (now env)) × (length (now buf) ≤ mostElements) × (now state ≡ 0 ∷ 0 ∷ 0 ∷ 0 ∷ idle) ⌝ }
+    ensures { λ r. ⌜ ((g : Admitted (now (job .entry)) formula (length (now (env .entry)))) → Performs (execution g (length (now (buf .entry))) (length (now (answer .entry)))) (now (buf .entry)) (now (buf .exit)) (now (answer .entry)) (now (answer .exit)) r) ⌝ }
 {
     match load(job, formula, counts, env, buf, state) {
         Loaded::Full(id) => Ran::Refused(Refusal::NoRoom(id)),
@@ -50,6 +54,127 @@ fn perform(
             Walked::Tree(depth, _) => show(depth, sp - (3 * depth + 3), env, buf, state, answer),
         },
     }
+}
+
+// Performed on a small stack of words. The call of itself behind it is never made, as so many words are enough; but a function that calls itself is not folded
+// into its callers, and so each array is on the machine's stack only while it is lent. The words and the formula are handed on, not their sum: of a sum that
+// `lend` has compared already the compiler knows that the call is never made.
+fn lend_small(
+    job: &[u8],
+    formula: Formula,
+    words: usize,
+    counts: &[usize],
+    buf: &mut [i32],
+    answer: &mut [u8],
+) -> Ran
+    requires { ⌜ Admitted (now job) formula (words + bindingWords * formula .inputs) × Counted (now job) (now counts) ⌝ }
+    requires { ⌜ (words + bindingWords * formula .inputs ≤ smallWords) × (length (now buf) ≤ mostElements) ⌝ }
+    ensures { λ r. ⌜ ((g : Admitted (now (job .entry)) formula (words + bindingWords * formula .inputs)) → Performs (execution g (length (now (buf .entry))) (length (now (answer .entry)))) (now (buf .entry)) (now (buf .exit)) (now (answer .entry)) (now (answer .exit)) r) ⌝ }
+{
+    let mut env = [0u32; SMALL];
+    let mut state = [0usize; FIXED];
+    let mut text = [0u8; 0];
+    let performed = perform(
+        job,
+        formula,
+        counts,
+        &mut env,
+        buf,
+        &mut state,
+        &mut text,
+        answer,
+    );
+    if SMALL < words + INPUT_WORDS * formula.inputs {
+        return lend_small(job, formula, words, counts, buf, answer);
+    }
+    performed
+}
+
+// On a middle one, in the same form.
+fn lend_middle(
+    job: &[u8],
+    formula: Formula,
+    words: usize,
+    counts: &[usize],
+    buf: &mut [i32],
+    answer: &mut [u8],
+) -> Ran
+    requires { ⌜ Admitted (now job) formula (words + bindingWords * formula .inputs) × Counted (now job) (now counts) ⌝ }
+    requires { ⌜ (words + bindingWords * formula .inputs ≤ middleWords) × (length (now buf) ≤ mostElements) ⌝ }
+    ensures { λ r. ⌜ ((g : Admitted (now (job .entry)) formula (words + bindingWords * formula .inputs)) → Performs (execution g (length (now (buf .entry))) (length (now (answer .entry)))) (now (buf .entry)) (now (buf .exit)) (now (answer .entry)) (now (answer .exit)) r) ⌝ }
+{
+    let mut env = [0u32; MIDDLE];
+    let mut state = [0usize; FIXED];
+    let mut text = [0u8; 0];
+    let performed = perform(
+        job,
+        formula,
+        counts,
+        &mut env,
+        buf,
+        &mut state,
+        &mut text,
+        answer,
+    );
+    if MIDDLE < words + INPUT_WORDS * formula.inputs {
+        return lend_middle(job, formula, words, counts, buf, answer);
+    }
+    performed
+}
+
+// On the largest, in the same form.
+fn lend_largest(
+    job: &[u8],
+    formula: Formula,
+    words: usize,
+    counts: &[usize],
+    buf: &mut [i32],
+    answer: &mut [u8],
+) -> Ran
+    requires { ⌜ Admitted (now job) formula (words + bindingWords * formula .inputs) × Counted (now job) (now counts) ⌝ }
+    requires { ⌜ (words + bindingWords * formula .inputs ≤ mostWords) × (length (now buf) ≤ mostElements) ⌝ }
+    ensures { λ r. ⌜ ((g : Admitted (now (job .entry)) formula (words + bindingWords * formula .inputs)) → Performs (execution g (length (now (buf .entry))) (length (now (answer .entry)))) (now (buf .entry)) (now (buf .exit)) (now (answer .entry)) (now (answer .exit)) r) ⌝ }
+{
+    let mut env = [0u32; LARGEST];
+    let mut state = [0usize; FIXED];
+    let mut text = [0u8; 0];
+    let performed = perform(
+        job,
+        formula,
+        counts,
+        &mut env,
+        buf,
+        &mut state,
+        &mut text,
+        answer,
+    );
+    if LARGEST < words + INPUT_WORDS * formula.inputs {
+        return lend_largest(job, formula, words, counts, buf, answer);
+    }
+    performed
+}
+
+// On the smallest of the three that has the words of the expression and a binding for each input.
+fn lend(
+    job: &[u8],
+    formula: Formula,
+    words: usize,
+    counts: &[usize],
+    buf: &mut [i32],
+    answer: &mut [u8],
+) -> Ran
+    requires { ⌜ Admitted (now job) formula (words + bindingWords * formula .inputs) × Counted (now job) (now counts) ⌝ }
+    requires { ⌜ (words + bindingWords * formula .inputs ≤ mostWords) × (length (now buf) ≤ mostElements) ⌝ }
+    ensures { λ r. ⌜ ((g : Admitted (now (job .entry)) formula (words + bindingWords * formula .inputs)) → Performs (execution g (length (now (buf .entry))) (length (now (answer .entry)))) (now (buf .entry)) (now (buf .exit)) (now (answer .entry)) (now (answer .exit)) r) ⌝ }
+{
+    let need = words + INPUT_WORDS * formula.inputs;
+    if need <= SMALL {
+        return lend_small(job, formula, words, counts, buf, answer);
+    }
+    if need <= MIDDLE {
+        return lend_middle(job, formula, words, counts, buf, answer);
+    }
+    lend_largest(job, formula, words, counts, buf, answer)
 }
 
 // From where on the buffer is spoiled: a value's streams stay, and after a refusal nothing does.
@@ -66,27 +191,16 @@ fn spoiled_from(ran: Ran, lent: usize) -> usize
 pub fn execute(
     job: &[u8],
     formula: Formula,
+    words: usize,
     counts: &[usize],
     buf: &mut [i32],
     answer: &mut [u8],
 ) -> Ran
-    requires { ⌜ Admitted (now job) formula × Counted (now job) (now counts) ⌝ }
-    requires { ⌜ length (now buf) ≤ mostElements ⌝ }
+    requires { ⌜ Admitted (now job) formula (words + bindingWords * formula .inputs) × Counted (now job) (now counts) ⌝ }
+    requires { ⌜ (words + bindingWords * formula .inputs ≤ mostWords) × (length (now buf) ≤ mostElements) ⌝ }
     ensures demands { λ r. ⌜ Demands (now (job .entry)) (now (buf .entry)) (now (buf .exit)) (now (answer .entry)) (now (answer .exit)) (told r) ⌝ }
 {
-    let mut env = [0u32; WORDS];
-    let mut state = [0usize; FIXED];
-    let mut text = [0u8; 0];
-    let ran = perform(
-        job,
-        formula,
-        counts,
-        &mut env,
-        buf,
-        &mut state,
-        &mut text,
-        answer,
-    );
+    let ran = lend(job, formula, words, counts, buf, answer);
     let from = spoiled_from(ran, buf.len());
     clear(buf, from);
     ran

@@ -4,17 +4,10 @@ use Rattle.sheet.proofs.Whole.{kept-used}
 use Rattle.sheet.proofs.execution.execute.Statement.{statement}
 use Rattle.sheet.proofs.execution.execute.Tie as tie
 
-slice-aggregate-perform : tie.Need-slice-aggregate-perform
-slice-aggregate-perform c = search needs
-
-slice-aggregate-perform-2 : tie.Need-slice-aggregate-perform-2
-slice-aggregate-perform-2 c = search needs
-
-slice-aggregate-perform-3 : tie.Need-slice-aggregate-perform-3
-slice-aggregate-perform-3 c = search needs
-
-perform-requires : tie.Need-perform-requires
-perform-requires c κs = search needs
+lend-requires : tie.Need-lend-requires
+lend-requires c κs =
+    let at-start = c .before .before .before .before .before in
+    at-start .pre
 
 spoiled-from-requires : tie.Need-spoiled-from-requires
 spoiled-from-requires c κs = search needs
@@ -30,18 +23,17 @@ same-length-2 c = search needs
 
 returns : tie.Need-returns
 returns c =
-    let pre = c .before .before .before .before .before .before .before .before .before .before .before .before .before .before .before .before .before .before .before .pre in
-    let performed = c .before .before .before .before .before .before .before .before .before .before .perform in
-    kept-used (pre .0 .0) (pre .1) (performed .ensures (pre .0 .0)) (performed .kept .1 .1 .1 .1 .0) (c .before .before .before .spoiled-from .ensures) (c .before .clear .ensures)
+    let at-clear = c .before in
+    let at-spoiled-from = c .before .before .before in
+    let at-lend = c .before .before .before .before .before .before .before in
+    let at-start = c .before .before .before .before .before .before .before .before .before .before .before .before .before in
+    kept-used (at-start .pre .0 .0) (at-start .pre .1 .1) (at-lend .lend .ensures (at-start .pre .0 .0)) (at-lend .lend .kept .1 .1 .1 .1 .0) (at-spoiled-from .spoiled-from .ensures) (at-clear .clear .ensures)
 
 pub execute-spec : {M : Type 1} → statement M
 execute-spec =
     tie.close
     (tie.spec
-    slice-aggregate-perform
-    slice-aggregate-perform-2
-    slice-aggregate-perform-3
-    perform-requires
+    lend-requires
     spoiled-from-requires
     clear-requires
     same-length

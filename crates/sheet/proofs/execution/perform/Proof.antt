@@ -1,12 +1,14 @@
 -- Loaded, walked and shown, or refused on the way.
 use native.Mathlib.Omega.{arith}
-use Rattle.sheet.proofs.Performing.{valued-of, crowded, ready, low, halted, finished-at, shallow, answers-it}
 use borrow.Author.Needs.{needs}
+use Rattle.sheet.proofs.Performing.{valued-of, crowded, ready, low, halted, finished-at, shallow, answers-it}
 use Rattle.sheet.proofs.execution.perform.Statement.{statement}
 use Rattle.sheet.proofs.execution.perform.Tie as tie
 
 load-requires : tie.Need-load-requires
-load-requires c κs = ((valued-of (c .before .before .before .before .before .before .before .before .before .pre .0 .0), c .before .before .before .before .before .before .before .before .before .pre .0 .1), (omega (arith, c .before .before .before .before .before .before .before .before .before .pre .1 .0), c .before .before .before .before .before .before .before .before .before .pre .1 .1, c .before .before .before .before .before .before .before .before .before .pre .1 .2))
+load-requires c κs =
+    let at-start = c .before .before .before .before .before .before .before .before .before in
+    ((valued-of (at-start .pre .0 .0), at-start .pre .0 .1), (at-start .pre .1 .0, at-start .pre .1 .1, at-start .pre .1 .2))
 
 enum-known-id : tie.Need-enum-known-id
 enum-known-id c = search needs
@@ -15,7 +17,12 @@ enum-known-sp : tie.Need-enum-known-sp
 enum-known-sp c = search needs
 
 walk-requires : tie.Need-walk-requires
-walk-requires c κs = ready (c .before .before .before .before .before .before .before .before .before .before .before .before .before .before .before .before .before .before .before .before .before .before .pre .0 .0) (c .before .before .before .before .before .before .before .before .before .before .before .before .load .result) (c .before .before .before .before .before .sp .given .0 .0) (c .before .before .before .before .before .sp .given .1) (c .before .before .before .before .before .before .before .before .before .before .before .before .load .ensures (valued-of (c .before .before .before .before .before .before .before .before .before .before .before .before .before .before .before .before .before .before .before .before .before .before .pre .0 .0))) (c .before .before .before .before .before .before .before .before .before .before .before .before .before .before .before .before .before .before .before .before .before .before .pre .1 .0) (c .before .before .before .before .before .before .before .before .before .before .before .before .before .before .before .before .before .before .before .before .before .before .args .text .now)
+walk-requires c κs =
+    let at-sp = c .before .before .before .before .before in
+    let at-load = at-sp .before .before .before .before .before .before .before in
+    let at-start = at-load .before .before .before .before .before .before .before .before .before .before in
+    let here = at-start .pre .0 .0 in
+    ready here (at-load .load .result) (at-sp .sp .given .0 .0) (at-sp .sp .given .1) (at-load .load .ensures (valued-of here)) (at-load .load .kept .1 .1 .1 .0) (at-start .args .text .now)
 
 enum-known-refusal : tie.Need-enum-known-refusal
 enum-known-refusal c = search needs
@@ -24,16 +31,51 @@ enum-known-depth : tie.Need-enum-known-depth
 enum-known-depth c = search needs
 
 mul-show : tie.Need-mul-show
-mul-show c = omega (arith, shallow (c .before .before .before .before .before .before .before .before .before .before .before .before .before .before .before .before .before .before .before .before .before .before .before .before .before .before .before .before .before .before .before .before .before .pre .0 .0) (c .before .before .before .before .before .before .before .before .before .before .before .before .before .before .before .before .before .before .before .before .before .before .before .load .result) (c .before .before .before .before .before .before .before .before .before .before .before .before .before .before .before .before .sp .given .0 .0) (c .before .before .before .before .before .before .before .before .before .before .before .before .before .before .before .before .sp .given .1) (c .before .before .before .before .before .before .before .before .before .before .before .before .before .before .before .before .before .before .before .before .before .before .before .load .ensures (valued-of (c .before .before .before .before .before .before .before .before .before .before .before .before .before .before .before .before .before .before .before .before .before .before .before .before .before .before .before .before .before .before .before .before .before .pre .0 .0))) (c .before .before .before .before .before .before .before .before .before .before .before .before .before .before .before .before .before .before .before .before .before .before .before .before .before .before .before .before .before .before .before .before .before .pre .1 .0) (c .before .before .before .before .before .before .before .before .before .before .before .before .before .before .before .before .before .before .before .before .before .before .before .before .before .before .before .before .before .before .before .before .before .args .text .now) (c .before .before .before .before .before .before .before .before .before .before .before .before .before .before .before .before .before .before .before .before .before .before .before .load .kept .1 .1 .1 .1 .0) (c .before .before .before .before .before .before .before .before .before .before .walk .ensures (ready (c .before .before .before .before .before .before .before .before .before .before .before .before .before .before .before .before .before .before .before .before .before .before .before .before .before .before .before .before .before .before .before .before .before .pre .0 .0) (c .before .before .before .before .before .before .before .before .before .before .before .before .before .before .before .before .before .before .before .before .before .before .before .load .result) (c .before .before .before .before .before .before .before .before .before .before .before .before .before .before .before .before .sp .given .0 .0) (c .before .before .before .before .before .before .before .before .before .before .before .before .before .before .before .before .sp .given .1) (c .before .before .before .before .before .before .before .before .before .before .before .before .before .before .before .before .before .before .before .before .before .before .before .load .ensures (valued-of (c .before .before .before .before .before .before .before .before .before .before .before .before .before .before .before .before .before .before .before .before .before .before .before .before .before .before .before .before .before .before .before .before .before .pre .0 .0))) (c .before .before .before .before .before .before .before .before .before .before .before .before .before .before .before .before .before .before .before .before .before .before .before .before .before .before .before .before .before .before .before .before .before .pre .1 .0) (c .before .before .before .before .before .before .before .before .before .before .before .before .before .before .before .before .before .before .before .before .before .before .before .before .before .before .before .before .before .before .before .before .before .args .text .now))) (c .before .depth .given .0 .0) (c .before .depth .given .0 .1 .0) (c .before .depth .given .1))
+mul-show c =
+    let at-depth = c .before in
+    let at-walk = at-depth .before .before .before .before .before .before .before .before .before in
+    let at-sp = at-walk .before .before .before .before .before .before in
+    let at-load = at-sp .before .before .before .before .before .before .before in
+    let at-start = at-load .before .before .before .before .before .before .before .before .before .before in
+    let here = at-start .pre .0 .0 in
+    let first = ready here (at-load .load .result) (at-sp .sp .given .0 .0) (at-sp .sp .given .1) (at-load .load .ensures (valued-of here)) (at-load .load .kept .1 .1 .1 .0) (at-start .args .text .now) in
+    omega (arith, shallow here (at-load .load .result) (at-sp .sp .given .0 .0) (at-sp .sp .given .1) (at-load .load .ensures (valued-of here)) (at-load .load .kept .1 .1 .1 .0) (at-start .args .text .now) (at-load .load .kept .1 .1 .1 .1 .0) (at-walk .walk .ensures first) (at-depth .depth .given .0 .0) (at-depth .depth .given .0 .1 .0) (at-depth .depth .given .1))
 
 add-show : tie.Need-add-show
-add-show c = omega (arith, shallow (c .before .before .before .before .before .before .before .before .before .before .before .before .before .before .before .before .before .before .before .before .before .before .before .before .before .before .before .before .before .before .before .before .before .pre .0 .0) (c .before .before .before .before .before .before .before .before .before .before .before .before .before .before .before .before .before .before .before .before .before .before .before .load .result) (c .before .before .before .before .before .before .before .before .before .before .before .before .before .before .before .before .sp .given .0 .0) (c .before .before .before .before .before .before .before .before .before .before .before .before .before .before .before .before .sp .given .1) (c .before .before .before .before .before .before .before .before .before .before .before .before .before .before .before .before .before .before .before .before .before .before .before .load .ensures (valued-of (c .before .before .before .before .before .before .before .before .before .before .before .before .before .before .before .before .before .before .before .before .before .before .before .before .before .before .before .before .before .before .before .before .before .pre .0 .0))) (c .before .before .before .before .before .before .before .before .before .before .before .before .before .before .before .before .before .before .before .before .before .before .before .before .before .before .before .before .before .before .before .before .before .pre .1 .0) (c .before .before .before .before .before .before .before .before .before .before .before .before .before .before .before .before .before .before .before .before .before .before .before .before .before .before .before .before .before .before .before .before .before .args .text .now) (c .before .before .before .before .before .before .before .before .before .before .before .before .before .before .before .before .before .before .before .before .before .before .before .load .kept .1 .1 .1 .1 .0) (c .before .before .before .before .before .before .before .before .before .before .walk .ensures (ready (c .before .before .before .before .before .before .before .before .before .before .before .before .before .before .before .before .before .before .before .before .before .before .before .before .before .before .before .before .before .before .before .before .before .pre .0 .0) (c .before .before .before .before .before .before .before .before .before .before .before .before .before .before .before .before .before .before .before .before .before .before .before .load .result) (c .before .before .before .before .before .before .before .before .before .before .before .before .before .before .before .before .sp .given .0 .0) (c .before .before .before .before .before .before .before .before .before .before .before .before .before .before .before .before .sp .given .1) (c .before .before .before .before .before .before .before .before .before .before .before .before .before .before .before .before .before .before .before .before .before .before .before .load .ensures (valued-of (c .before .before .before .before .before .before .before .before .before .before .before .before .before .before .before .before .before .before .before .before .before .before .before .before .before .before .before .before .before .before .before .before .before .pre .0 .0))) (c .before .before .before .before .before .before .before .before .before .before .before .before .before .before .before .before .before .before .before .before .before .before .before .before .before .before .before .before .before .before .before .before .before .pre .1 .0) (c .before .before .before .before .before .before .before .before .before .before .before .before .before .before .before .before .before .before .before .before .before .before .before .before .before .before .before .before .before .before .before .before .before .args .text .now))) (c .before .depth .given .0 .0) (c .before .depth .given .0 .1 .0) (c .before .depth .given .1))
+add-show c =
+    let at-depth = c .before in
+    let at-walk = at-depth .before .before .before .before .before .before .before .before .before in
+    let at-sp = at-walk .before .before .before .before .before .before in
+    let at-load = at-sp .before .before .before .before .before .before .before in
+    let at-start = at-load .before .before .before .before .before .before .before .before .before .before in
+    let here = at-start .pre .0 .0 in
+    let first = ready here (at-load .load .result) (at-sp .sp .given .0 .0) (at-sp .sp .given .1) (at-load .load .ensures (valued-of here)) (at-load .load .kept .1 .1 .1 .0) (at-start .args .text .now) in
+    omega (arith, shallow here (at-load .load .result) (at-sp .sp .given .0 .0) (at-sp .sp .given .1) (at-load .load .ensures (valued-of here)) (at-load .load .kept .1 .1 .1 .0) (at-start .args .text .now) (at-load .load .kept .1 .1 .1 .1 .0) (at-walk .walk .ensures first) (at-depth .depth .given .0 .0) (at-depth .depth .given .0 .1 .0) (at-depth .depth .given .1))
 
 sub-show : tie.Need-sub-show
-sub-show c = omega (arith, shallow (c .before .before .before .before .before .before .before .before .before .before .before .before .before .before .before .before .before .before .before .before .before .before .before .before .before .before .before .before .before .before .before .before .before .pre .0 .0) (c .before .before .before .before .before .before .before .before .before .before .before .before .before .before .before .before .before .before .before .before .before .before .before .load .result) (c .before .before .before .before .before .before .before .before .before .before .before .before .before .before .before .before .sp .given .0 .0) (c .before .before .before .before .before .before .before .before .before .before .before .before .before .before .before .before .sp .given .1) (c .before .before .before .before .before .before .before .before .before .before .before .before .before .before .before .before .before .before .before .before .before .before .before .load .ensures (valued-of (c .before .before .before .before .before .before .before .before .before .before .before .before .before .before .before .before .before .before .before .before .before .before .before .before .before .before .before .before .before .before .before .before .before .pre .0 .0))) (c .before .before .before .before .before .before .before .before .before .before .before .before .before .before .before .before .before .before .before .before .before .before .before .before .before .before .before .before .before .before .before .before .before .pre .1 .0) (c .before .before .before .before .before .before .before .before .before .before .before .before .before .before .before .before .before .before .before .before .before .before .before .before .before .before .before .before .before .before .before .before .before .args .text .now) (c .before .before .before .before .before .before .before .before .before .before .before .before .before .before .before .before .before .before .before .before .before .before .before .load .kept .1 .1 .1 .1 .0) (c .before .before .before .before .before .before .before .before .before .before .walk .ensures (ready (c .before .before .before .before .before .before .before .before .before .before .before .before .before .before .before .before .before .before .before .before .before .before .before .before .before .before .before .before .before .before .before .before .before .pre .0 .0) (c .before .before .before .before .before .before .before .before .before .before .before .before .before .before .before .before .before .before .before .before .before .before .before .load .result) (c .before .before .before .before .before .before .before .before .before .before .before .before .before .before .before .before .sp .given .0 .0) (c .before .before .before .before .before .before .before .before .before .before .before .before .before .before .before .before .sp .given .1) (c .before .before .before .before .before .before .before .before .before .before .before .before .before .before .before .before .before .before .before .before .before .before .before .load .ensures (valued-of (c .before .before .before .before .before .before .before .before .before .before .before .before .before .before .before .before .before .before .before .before .before .before .before .before .before .before .before .before .before .before .before .before .before .pre .0 .0))) (c .before .before .before .before .before .before .before .before .before .before .before .before .before .before .before .before .before .before .before .before .before .before .before .before .before .before .before .before .before .before .before .before .before .pre .1 .0) (c .before .before .before .before .before .before .before .before .before .before .before .before .before .before .before .before .before .before .before .before .before .before .before .before .before .before .before .before .before .before .before .before .before .args .text .now))) (c .before .depth .given .0 .0) (c .before .depth .given .0 .1 .0) (c .before .depth .given .1), low (c .before .before .before .before .before .before .before .before .before .before .before .before .before .before .before .before .before .before .before .before .before .before .before .before .before .before .before .before .before .before .before .before .before .pre .0 .0) (c .before .before .before .before .before .before .before .before .before .before .before .before .before .before .before .before .before .before .before .before .before .before .before .load .result) (c .before .before .before .before .before .before .before .before .before .before .before .before .before .before .before .before .sp .given .0 .0) (c .before .before .before .before .before .before .before .before .before .before .before .before .before .before .before .before .sp .given .1) (c .before .before .before .before .before .before .before .before .before .before .before .before .before .before .before .before .before .before .before .before .before .before .before .load .ensures (valued-of (c .before .before .before .before .before .before .before .before .before .before .before .before .before .before .before .before .before .before .before .before .before .before .before .before .before .before .before .before .before .before .before .before .before .pre .0 .0))) (c .before .before .before .before .before .before .before .before .before .before .before .before .before .before .before .before .before .before .before .before .before .before .before .before .before .before .before .before .before .before .before .before .before .pre .1 .0) (c .before .before .before .before .before .before .before .before .before .before .before .before .before .before .before .before .before .before .before .before .before .before .before .before .before .before .before .before .before .before .before .before .before .args .text .now))
+sub-show c =
+    let at-depth = c .before in
+    let at-walk = at-depth .before .before .before .before .before .before .before .before .before in
+    let at-sp = at-walk .before .before .before .before .before .before in
+    let at-load = at-sp .before .before .before .before .before .before .before in
+    let at-start = at-load .before .before .before .before .before .before .before .before .before .before in
+    let here = at-start .pre .0 .0 in
+    let first = ready here (at-load .load .result) (at-sp .sp .given .0 .0) (at-sp .sp .given .1) (at-load .load .ensures (valued-of here)) (at-load .load .kept .1 .1 .1 .0) (at-start .args .text .now) in
+    omega (
+      arith,
+      low here (at-load .load .result) (at-sp .sp .given .0 .0) (at-sp .sp .given .1) (at-load .load .ensures (valued-of here)) (at-load .load .kept .1 .1 .1 .0) (at-start .args .text .now) (at-load .load .kept .1 .1 .1 .1 .0) (at-walk .walk .ensures first) (at-depth .depth .given .0 .0) (at-depth .depth .given .0 .1 .0) (at-depth .depth .given .1),
+    )
 
 show-requires : tie.Need-show-requires
-show-requires c κs = finished-at (c .before .before .before .before .before .before .before .before .before .before .before .before .before .before .before .before .before .before .before .before .before .before .before .before .before .before .before .before .before .before .before .before .before .before .before .before .before .pre .0 .0) (c .before .before .before .before .before .before .before .before .before .before .before .before .before .before .before .before .before .before .before .before .before .before .before .before .before .before .before .load .result) (c .before .before .before .before .before .before .before .before .before .before .before .before .before .before .before .before .before .before .before .before .sp .given .0 .0) (c .before .before .before .before .before .before .before .before .before .before .before .before .before .before .before .before .before .before .before .before .sp .given .1) (c .before .before .before .before .before .before .before .before .before .before .before .before .before .before .before .before .before .before .before .before .before .before .before .before .before .before .before .load .ensures (valued-of (c .before .before .before .before .before .before .before .before .before .before .before .before .before .before .before .before .before .before .before .before .before .before .before .before .before .before .before .before .before .before .before .before .before .before .before .before .before .pre .0 .0))) (c .before .before .before .before .before .before .before .before .before .before .before .before .before .before .before .before .before .before .before .before .before .before .before .before .before .before .before .before .before .before .before .before .before .before .before .before .before .pre .1 .0) (c .before .before .before .before .before .before .before .before .before .before .before .before .before .before .before .before .before .before .before .before .before .before .before .before .before .before .before .before .before .before .before .before .before .before .before .before .before .args .text .now) (c .before .before .before .before .before .before .before .before .before .before .before .before .before .before .before .before .before .before .before .before .before .before .before .before .before .before .before .load .kept .1 .1 .1 .1 .0) (c .before .before .before .before .before .before .before .before .before .before .before .before .before .before .walk .ensures (ready (c .before .before .before .before .before .before .before .before .before .before .before .before .before .before .before .before .before .before .before .before .before .before .before .before .before .before .before .before .before .before .before .before .before .before .before .before .before .pre .0 .0) (c .before .before .before .before .before .before .before .before .before .before .before .before .before .before .before .before .before .before .before .before .before .before .before .before .before .before .before .load .result) (c .before .before .before .before .before .before .before .before .before .before .before .before .before .before .before .before .before .before .before .before .sp .given .0 .0) (c .before .before .before .before .before .before .before .before .before .before .before .before .before .before .before .before .before .before .before .before .sp .given .1) (c .before .before .before .before .before .before .before .before .before .before .before .before .before .before .before .before .before .before .before .before .before .before .before .before .before .before .before .load .ensures (valued-of (c .before .before .before .before .before .before .before .before .before .before .before .before .before .before .before .before .before .before .before .before .before .before .before .before .before .before .before .before .before .before .before .before .before .before .before .before .before .pre .0 .0))) (c .before .before .before .before .before .before .before .before .before .before .before .before .before .before .before .before .before .before .before .before .before .before .before .before .before .before .before .before .before .before .before .before .before .before .before .before .before .pre .1 .0) (c .before .before .before .before .before .before .before .before .before .before .before .before .before .before .before .before .before .before .before .before .before .before .before .before .before .before .before .before .before .before .before .before .before .before .before .before .before .args .text .now))) (c .before .before .before .before .before .depth .given .0 .0) (c .before .before .before .before .before .depth .given .0 .1 .0) (c .before .before .before .before .before .depth .given .1)
+show-requires c κs =
+    let at-depth = c .before .before .before .before .before in
+    let at-walk = at-depth .before .before .before .before .before .before .before .before .before in
+    let at-sp = at-walk .before .before .before .before .before .before in
+    let at-load = at-sp .before .before .before .before .before .before .before in
+    let at-start = at-load .before .before .before .before .before .before .before .before .before .before in
+    let here = at-start .pre .0 .0 in
+    let first = ready here (at-load .load .result) (at-sp .sp .given .0 .0) (at-sp .sp .given .1) (at-load .load .ensures (valued-of here)) (at-load .load .kept .1 .1 .1 .0) (at-start .args .text .now) in
+    finished-at here (at-load .load .result) (at-sp .sp .given .0 .0) (at-sp .sp .given .1) (at-load .load .ensures (valued-of here)) (at-load .load .kept .1 .1 .1 .0) (at-start .args .text .now) (at-load .load .kept .1 .1 .1 .1 .0) (at-walk .walk .ensures first) (at-depth .depth .given .0 .0) (at-depth .depth .given .0 .1 .0) (at-depth .depth .given .1)
 
 same-length : tie.Need-same-length
 same-length c = search needs
@@ -45,7 +87,11 @@ same-length-3 : tie.Need-same-length-3
 same-length-3 c = search needs
 
 returns : tie.Need-returns
-returns c = λ g. crowded g (c .before .before .before .before .before .before .before .before .load .result) (c .before .id .given .0 .0) (c .before .before .before .before .before .before .before .before .before .before .before .before .before .before .before .before .before .before .args .answer .now) (c .before .id .given .1) (c .before .before .before .before .before .before .before .before .load .ensures (valued-of g))
+returns c =
+    let at-id = c .before in
+    let at-load = at-id .before .before .before .before .before .before .before in
+    let at-start = at-load .before .before .before .before .before .before .before .before .before .before in
+    λ here. crowded here (at-load .load .result) (at-id .id .given .0 .0) (at-start .args .answer .now) (at-id .id .given .1) (at-load .load .ensures (valued-of here))
 
 same-length-4 : tie.Need-same-length-4
 same-length-4 c = search needs
@@ -56,11 +102,19 @@ same-length-5 c = search needs
 same-length-6 : tie.Need-same-length-6
 same-length-6 c = search needs
 
+returns-2 : tie.Need-returns-2
+returns-2 c =
+    let at-refusal = c .before in
+    let at-walk = at-refusal .before .before .before .before .before .before .before .before .before in
+    let at-sp = at-walk .before .before .before .before .before .before in
+    let at-load = at-sp .before .before .before .before .before .before .before in
+    let at-start = at-load .before .before .before .before .before .before .before .before .before .before in
+    λ here.
+    let first = ready here (at-load .load .result) (at-sp .sp .given .0 .0) (at-sp .sp .given .1) (at-load .load .ensures (valued-of here)) (at-load .load .kept .1 .1 .1 .0) (at-start .args .text .now) in
+    halted here (at-load .load .result) (at-sp .sp .given .0 .0) (at-sp .sp .given .1) (at-load .load .ensures (valued-of here)) (at-load .load .kept .1 .1 .1 .0) (at-start .args .text .now) (at-load .load .kept .1 .1 .1 .1 .0) (at-walk .walk .ensures first) (at-refusal .refusal .given .0 .0) (at-start .args .answer .now) (at-refusal .refusal .given .1)
+
 same-length-7 : tie.Need-same-length-7
 same-length-7 c = search needs
-
-returns-2 : tie.Need-returns-2
-returns-2 c = λ g. halted g (c .before .before .before .before .before .before .before .before .before .before .before .before .before .before .before .before .before .before .before .before .before .before .before .load .result) (c .before .before .before .before .before .before .before .before .before .before .before .before .before .before .before .before .sp .given .0 .0) (c .before .before .before .before .before .before .before .before .before .before .before .before .before .before .before .before .sp .given .1) (c .before .before .before .before .before .before .before .before .before .before .before .before .before .before .before .before .before .before .before .before .before .before .before .load .ensures (valued-of g)) (c .before .before .before .before .before .before .before .before .before .before .before .before .before .before .before .before .before .before .before .before .before .before .before .before .before .before .before .before .before .before .before .before .before .pre .1 .0) (c .before .before .before .before .before .before .before .before .before .before .before .before .before .before .before .before .before .before .before .before .before .before .before .before .before .before .before .before .before .before .before .before .before .args .text .now) (c .before .before .before .before .before .before .before .before .before .before .before .before .before .before .before .before .before .before .before .before .before .before .before .load .kept .1 .1 .1 .1 .0) (c .before .before .before .before .before .before .before .before .before .before .walk .ensures (ready g (c .before .before .before .before .before .before .before .before .before .before .before .before .before .before .before .before .before .before .before .before .before .before .before .load .result) (c .before .before .before .before .before .before .before .before .before .before .before .before .before .before .before .before .sp .given .0 .0) (c .before .before .before .before .before .before .before .before .before .before .before .before .before .before .before .before .sp .given .1) (c .before .before .before .before .before .before .before .before .before .before .before .before .before .before .before .before .before .before .before .before .before .before .before .load .ensures (valued-of g)) (c .before .before .before .before .before .before .before .before .before .before .before .before .before .before .before .before .before .before .before .before .before .before .before .before .before .before .before .before .before .before .before .before .before .pre .1 .0) (c .before .before .before .before .before .before .before .before .before .before .before .before .before .before .before .before .before .before .before .before .before .before .before .before .before .before .before .before .before .before .before .before .before .args .text .now))) (c .before .refusal .given .0 .0) (c .before .before .before .before .before .before .before .before .before .before .before .before .before .before .before .before .before .before .before .before .before .before .before .before .before .before .before .before .before .before .before .before .before .args .answer .now) (c .before .refusal .given .1)
 
 same-length-8 : tie.Need-same-length-8
 same-length-8 c = search needs
@@ -71,14 +125,23 @@ same-length-9 c = search needs
 same-length-10 : tie.Need-same-length-10
 same-length-10 c = search needs
 
+returns-3 : tie.Need-returns-3
+returns-3 c =
+    let at-show = c .before .before in
+    let at-depth = at-show .before .before .before .before .before .before in
+    let at-walk = at-depth .before .before .before .before .before .before .before .before .before in
+    let at-sp = at-walk .before .before .before .before .before .before in
+    let at-load = at-sp .before .before .before .before .before .before .before in
+    let at-start = at-load .before .before .before .before .before .before .before .before .before .before in
+    λ here.
+    let first = ready here (at-load .load .result) (at-sp .sp .given .0 .0) (at-sp .sp .given .1) (at-load .load .ensures (valued-of here)) (at-load .load .kept .1 .1 .1 .0) (at-start .args .text .now) in
+    answers-it here (at-load .load .result) (at-sp .sp .given .0 .0) (at-sp .sp .given .1) (at-load .load .ensures (valued-of here)) (at-load .load .kept .1 .1 .1 .0) (at-start .args .text .now) (at-load .load .kept .1 .1 .1 .1 .0) (at-walk .walk .ensures first) (at-depth .depth .given .0 .0) (at-depth .depth .given .0 .1 .0) (at-depth .depth .given .1) (at-show .show .ensures)
+
 same-length-11 : tie.Need-same-length-11
 same-length-11 c = search needs
 
 same-length-12 : tie.Need-same-length-12
 same-length-12 c = search needs
-
-returns-3 : tie.Need-returns-3
-returns-3 c = λ g. answers-it g (c .before .before .before .before .before .before .before .before .before .before .before .before .before .before .before .before .before .before .before .before .before .before .before .before .before .before .before .before .before .before .load .result) (c .before .before .before .before .before .before .before .before .before .before .before .before .before .before .before .before .before .before .before .before .before .before .before .sp .given .0 .0) (c .before .before .before .before .before .before .before .before .before .before .before .before .before .before .before .before .before .before .before .before .before .before .before .sp .given .1) (c .before .before .before .before .before .before .before .before .before .before .before .before .before .before .before .before .before .before .before .before .before .before .before .before .before .before .before .before .before .before .load .ensures (valued-of g)) (c .before .before .before .before .before .before .before .before .before .before .before .before .before .before .before .before .before .before .before .before .before .before .before .before .before .before .before .before .before .before .before .before .before .before .before .before .before .before .before .before .pre .1 .0) (c .before .before .before .before .before .before .before .before .before .before .before .before .before .before .before .before .before .before .before .before .before .before .before .before .before .before .before .before .before .before .before .before .before .before .before .before .before .before .before .before .args .text .now) (c .before .before .before .before .before .before .before .before .before .before .before .before .before .before .before .before .before .before .before .before .before .before .before .before .before .before .before .before .before .before .load .kept .1 .1 .1 .1 .0) (c .before .before .before .before .before .before .before .before .before .before .before .before .before .before .before .before .before .walk .ensures (ready g (c .before .before .before .before .before .before .before .before .before .before .before .before .before .before .before .before .before .before .before .before .before .before .before .before .before .before .before .before .before .before .load .result) (c .before .before .before .before .before .before .before .before .before .before .before .before .before .before .before .before .before .before .before .before .before .before .before .sp .given .0 .0) (c .before .before .before .before .before .before .before .before .before .before .before .before .before .before .before .before .before .before .before .before .before .before .before .sp .given .1) (c .before .before .before .before .before .before .before .before .before .before .before .before .before .before .before .before .before .before .before .before .before .before .before .before .before .before .before .before .before .before .load .ensures (valued-of g)) (c .before .before .before .before .before .before .before .before .before .before .before .before .before .before .before .before .before .before .before .before .before .before .before .before .before .before .before .before .before .before .before .before .before .before .before .before .before .before .before .before .pre .1 .0) (c .before .before .before .before .before .before .before .before .before .before .before .before .before .before .before .before .before .before .before .before .before .before .before .before .before .before .before .before .before .before .before .before .before .before .before .before .before .before .before .before .args .text .now))) (c .before .before .before .before .before .before .before .before .depth .given .0 .0) (c .before .before .before .before .before .before .before .before .depth .given .0 .1 .0) (c .before .before .before .before .before .before .before .before .depth .given .1) (c .before .before .show .ensures)
 
 pub perform-spec : {M : Type 1} → statement M
 perform-spec =
