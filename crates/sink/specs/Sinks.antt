@@ -29,7 +29,7 @@ pub record Sink : Type 0 where
   pub taken : List ℕ
   pub most : ℕ
 
--- No line is written past this position: so no walk has to know how long its listing is. A listing that is shorter is whole (proofs/Listed.antt).
+-- No line is written past this position: so no walk has to know how long its listing is. A listing that is shorter is whole (proofs/Feeding.antt, `feed-listing`).
 abbrev pub far : ℕ
 far = 2 ^ 30
 
