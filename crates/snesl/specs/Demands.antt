@@ -11,14 +11,14 @@ use Rattle.snesl.specs.declared.refusal.Refusal.{Refusal}
 use Rattle.snesl.specs.declared.refusal.Refusal.the-variants.{NoValueText, NoValue, NoRoom, NoAnswerRoom}
 use Rattle.snesl.specs.Limits.{usedOf}
 use Rattle.snesl.specs.Refusals.{number}
-use Rattle.snesl.specs.Values.{Val}
+use Rattle.snesl.specs.Values.{ValueType, Val}
 use Rattle.snesl.specs.Terms.{Term, All, ∅}
 use Rattle.snesl.specs.Evaluation.{eval}
 use Rattle.snesl.specs.Charges.{charge, plainCharge, reached, countTrue}
 use Rattle.snesl.specs.Streams.{Store, _!_, contents, room}
 use Rattle.snesl.specs.Programs.{Program}
 use Rattle.snesl.specs.Machine.{State, Stop, full, Result, went, stopped, run, holding}
-use Rattle.snesl.specs.Trees.{Tree, mapTree}
+use Rattle.snesl.specs.Trees.{IdTree, mapTree}
 use Rattle.snesl.specs.Translation.{code, tree}
 use Rattle.snesl.specs.Representation.{represent, laid}
 use Rattle.snesl.specs.Agreement.{ByRule}
@@ -26,7 +26,7 @@ use Rattle.snesl.specs.Text.{show}
 use Rattle.snesl.specs.Records
 use Rattle.snesl.specs.Records.{Input, Span, Raw, job, readJob}
 use Rattle.snesl.specs.Checking
-use Rattle.snesl.specs.Checking.{typed, context, depths, turned, checkFormula}
+use Rattle.snesl.specs.Checking.{typed, context, inputTypes, turned, checkFormula}
 use Rattle.snesl.specs.Inputs.{wrong, right, inputTrees, inputStart, inputValues, inputOver}
 use Rattle.snesl.specs.Outcome.{Outcome, refusal, value, elementsOf, loaded, zeroed}
 
@@ -49,11 +49,11 @@ pub record Accepted (t : List ℕ) : Type 0 where
   pub raw : Raw
   pub next : ℕ
   pub spans : List Span
-  pub depth : ℕ
-  pub term : Term (context inputs) depth
-  pub given : All Val (depths inputs)
+  pub type : ValueType
+  pub term : Term (context inputs) type
+  pub given : All Val (inputTypes inputs)
   pub read : readJob t ≡ job inputs expression raw next spans
-  pub checked : checkFormula inputs raw ≡ typed depth term
+  pub checked : checkFormula inputs raw ≡ typed type term
   pub valued : inputValues t inputs spans ≡ right given
 
 -- ρ: the inputs' values, the newest input first
@@ -62,11 +62,11 @@ environment a = turned ∅ (a .given)
 
 -- its code, behind its inputs
 abbrev pub program : {t : List ℕ} → Accepted t → Program
-program a = code (a .term) (turned ∅ (inputTrees 0 (depths (a .inputs)))) (inputStart (depths (a .inputs)))
+program a = code (a .term) (turned ∅ (inputTrees 0 (inputTypes (a .inputs)))) (inputStart (inputTypes (a .inputs)))
 
 -- the ids of the result
-abbrev pub resultTree : {t : List ℕ} → (a : Accepted t) → Tree ℕ (a .depth)
-resultTree a = tree (a .term) (turned ∅ (inputTrees 0 (depths (a .inputs)))) (inputStart (depths (a .inputs)))
+abbrev pub resultTree : {t : List ℕ} → (a : Accepted t) → IdTree (a .type)
+resultTree a = tree (a .term) (turned ∅ (inputTrees 0 (inputTypes (a .inputs)))) (inputStart (inputTypes (a .inputs)))
 
 -- Its inputs fit so many elements, and its code, run behind them under one unit in a buffer of so many, comes to this.
 pub record Comes {t : List ℕ} (a : Accepted t) (cap : ℕ) (r : Result) : Type 0 where
@@ -82,9 +82,9 @@ pub data TurnedAway (t : List ℕ) : Refusal → Type 0 where
       → readJob t ≡ job is k e next ss
       → checkFormula is e ≡ Checking.Typed.refused r
       → TurnedAway t r
-  unvalued : {is : List Input} {k : ℕ} {e : Raw} {next : ℕ} {ss : List Span} {d : ℕ} {f : Term (context is) d} {p : ℕ}
+  unvalued : {is : List Input} {k : ℕ} {e : Raw} {next : ℕ} {ss : List Span} {τ : ValueType} {f : Term (context is) τ} {p : ℕ}
       → readJob t ≡ job is k e next ss
-      → checkFormula is e ≡ typed d f
+      → checkFormula is e ≡ typed τ f
       → inputValues t is ss ≡ wrong p
       → TurnedAway t (NoValueText p)
 
@@ -94,9 +94,9 @@ pub data Stops {t : List ℕ} (a : Accepted t) (cap answerLent : ℕ) : Refusal 
       → Stops a cap answerLent (NoValue s)
   crowded : {s : ℕ} → inputOver cap 0 0 (a .given) ≡ some s → Stops a cap answerLent (NoRoom s)
   filled : {s : ℕ} → Comes a cap (stopped full s) → Stops a cap answerLent (NoRoom s)
-  unshown : {v : Val (a .depth)} {m : State} → eval (a .term) (environment a) ≡ some v → Comes a cap (went m)
-      → answerLent < length (show (a .depth) v)
-      → Stops a cap answerLent (NoAnswerRoom (length (show (a .depth) v)))
+  unshown : {v : Val (a .type)} {m : State} → eval (a .term) (environment a) ≡ some v → Comes a cap (went m)
+      → answerLent < length (show (a .type) v)
+      → Stops a cap answerLent (NoAnswerRoom (length (show (a .type) v)))
 
 -- ---- demand 2: right
 
@@ -107,12 +107,12 @@ standing σ buf s = take (length (elementsOf (σ ! s))) (drop (room (take s σ))
 -- The rules give this value; its text is what the answer buffer starts with, and behind it that is as it was; and the result's streams, each read from
 -- the buffer at its place, are those that represent the value.
 pub record Right {t : List ℕ} (a : Accepted t) (σ : Store) (streams′ : List ℤ) (answer answer′ : List ℕ) (bytes : ℕ) : Type 0 where
-  pub result : Val (a .depth)
+  pub result : Val (a .type)
   pub evaluated : eval (a .term) (environment a) ≡ some result
-  pub long : bytes ≡ length (show (a .depth) result)
+  pub long : bytes ≡ length (show (a .type) result)
   pub fits : bytes ≤ length answer
-  pub shown : answer′ ≡ show (a .depth) result ++ drop bytes answer
-  pub represented : mapTree (standing σ streams′) (resultTree a) ≡ laid (represent (a .depth) (result ∷ []))
+  pub shown : answer′ ≡ show (a .type) result ++ drop bytes answer
+  pub represented : mapTree (standing σ streams′) (resultTree a) ≡ laid (represent (a .type) (result ∷ []))
 
 -- ---- demand 3: charged
 

@@ -4,8 +4,8 @@ use mathlib.Core.Bool.{true, false}
 use mathlib.Core.List.{List, [], _∷_}
 use mathlib.Core.Option.{Option, some, none}
 use lib.IntN.{ℤ, pos, negsuc, _+ℤ_}
-use Rattle.snesl.specs.Values.{Val, inRange, total}
-use Rattle.snesl.specs.Terms.{Term, var, bind, const, iota, plus, sum, each, All, _▹_, lookup, listed}
+use Rattle.snesl.specs.Values.{ValueType, Val, inRange, total}
+use Rattle.snesl.specs.Terms.{Term, var, bind, const, iota, plus, sum, each, All, _▹_, lookup, anyType, listed}
 
 -- what holds of a value if there is one
 abbrev pub andThen : {A B : Type 0} → Option A → (A → Option B) → Option B
@@ -32,11 +32,11 @@ upTo (pos n) = allOf within (counting 0 n)
 upTo (negsuc n) = none
 
 -- ρ ⊢ e ↓ v
-unfoldable pub eval : {Γ : List ℕ} {d : ℕ} → Term Γ d → All Val Γ → Option (Val d)
+unfoldable pub eval : {Γ : List ValueType} {τ : ValueType} → Term Γ τ → All Val Γ → Option (Val τ)
 eval (var x) ρ = some (lookup x ρ)
 eval (bind e₁ e₂) ρ = andThen (eval e₁ ρ) (λ v. eval e₂ (v ▹ ρ))
 eval (const n) ρ = some n
 eval (iota x) ρ = upTo (lookup x ρ)
 eval (plus x y) ρ = within (lookup x ρ +ℤ lookup y ρ)
 eval (sum x) ρ = within (total (lookup x ρ))
-eval (each y us e) ρ = allOf (λ v. eval e (v ▹ listed us ρ)) (lookup y ρ)
+eval (each y us e) ρ = allOf (λ v. eval e (v ▹ listed (anyType us) ρ)) (lookup y ρ)

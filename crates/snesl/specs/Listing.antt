@@ -7,8 +7,10 @@ use lib.Dec.{leb}
 use lib.IntN.{ℤ}
 use lib.ListN.{length}
 use Rattle.snesl.specs.declared.code.Transducer.{Transducer}
+use Rattle.snesl.specs.declared.code.Base.the-variants.{Int}
 use Rattle.snesl.specs.declared.refusal.Refusal.{Refusal}
 use Rattle.snesl.specs.declared.refusal.Refusal.the-variants.{NoAnswerRoom}
+use Rattle.snesl.specs.Values.{ValueType}
 use Rattle.snesl.specs.Terms.{Term, All, ∅}
 use Rattle.snesl.specs.Ascii.{ascii, pieces}
 use Rattle.snesl.specs.Text.{showNumber, showInt, joined}
@@ -17,7 +19,7 @@ use Rattle.snesl.specs.Transducers.{operands, signature}
 use Rattle.snesl.specs.Programs.{Program, done, define, withCtrl, count}
 use Rattle.snesl.specs.Translation.{code, tree}
 use Rattle.snesl.specs.Records.{Input, Front, refused, front, readFormula}
-use Rattle.snesl.specs.Checking.{Typed, typed, context, depths, turned, checkFormula}
+use Rattle.snesl.specs.Checking.{Typed, typed, context, inputTypes, turned, checkFormula}
 use Rattle.snesl.specs.Inputs.{inputTrees, inputStart}
 
 -- s3
@@ -28,13 +30,13 @@ idText s = ascii "s" ++ showNumber s
 abbrev pub idsText : List ℕ → List ℕ
 idsText ss = joined (map idText ss)
 
--- a transducer's name, as under "Translation", with its constant
+-- a transducer's name, as under "Translation", with its constant: the same at either base
 abbrev pub constantText : Option ℤ → List ℕ
 constantText none = []
 constantText (some z) = showInt z
 
 abbrev pub nameText : Transducer → List ℕ
-nameText t = signature t .name ++ constantText (signature t .constant)
+nameText t = signature Int t .name ++ constantText (signature Int t .constant)
 
 -- s3 := Usum(s1)
 abbrev pub defineLine : ℕ → Transducer → List ℕ
@@ -67,10 +69,10 @@ abbrev pub resultLine : {d : ℕ} → Tree ℕ d → List ℕ
 resultLine t = pieces (ascii "result " ∷ treeText t ∷ ascii "\n" ∷ [])
 
 -- the whole listing of an expression over these inputs
-abbrev pub listingText : {d : ℕ} → (is : List Input) → Term (context is) d → List ℕ
+abbrev pub listingText : {τ : ValueType} → (is : List Input) → Term (context is) τ → List ℕ
 listingText is e =
-    let δ = turned ∅ (inputTrees 0 (depths is)) in
-    linesOf (inputStart (depths is)) (code e δ (inputStart (depths is))) ++ resultLine (tree e δ (inputStart (depths is)))
+    let δ = turned ∅ (inputTrees 0 (inputTypes is)) in
+    linesOf (inputStart (inputTypes is)) (code e δ (inputStart (inputTypes is))) ++ resultLine (tree e δ (inputStart (inputTypes is)))
 
 -- what listing a formula's bytes gives where so many bytes are lent: its text, or one of 1 to 6, then 10
 pub data Listed : Type 0 where
@@ -82,7 +84,7 @@ roomFor lent text = elim (leb (length text) lent) [ true ↦ listed text | false
 
 abbrev pub listedTyped : (lent : ℕ) → (is : List Input) → Typed (context is) → Listed
 listedTyped lent is (Typed.refused r) = unlisted r
-listedTyped lent is (typed d e) = roomFor lent (listingText is e)
+listedTyped lent is (typed τ e) = roomFor lent (listingText is e)
 
 abbrev pub listedFront : (lent : ℕ) → Front → Listed
 listedFront lent (refused r) = unlisted r

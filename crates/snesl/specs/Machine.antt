@@ -6,7 +6,7 @@ use mathlib.Core.Option.{Option, some, none, Option·getD}
 use lib.Dec.{leb}
 use lib.ListN.{length}
 use Rattle.snesl.specs.declared.code.Transducer.{Transducer}
-use Rattle.snesl.specs.Streams.{Stream, ints, flags, units, len, Store, _!_, room}
+use Rattle.snesl.specs.Streams.{Stream, ints, bools, flags, units, len, Store, _!_, room}
 use Rattle.snesl.specs.Transducers.{Answer, made, unfit, negative, outside, apply, operands, empty}
 use Rattle.snesl.specs.Programs.{Program, done, define, withCtrl}
 
@@ -64,19 +64,20 @@ step fits t n m =
       | outside k ↦ stopped (outOfRange k) (length (m .store))
     ]
 
--- the streams of a body that is not run: each ⟨⟩
-unfoldable pub skipped : Program → List Stream
-skipped done = []
-skipped (define t p) = empty t ∷ skipped p
-skipped (withCtrl outs c ins b p) = skipped b ++ skipped p
+-- the streams of a body that is not run: each ⟨⟩, of the kind that the store before it says
+unfoldable pub skipped : Store → Program → List Stream
+skipped σ done = []
+skipped σ (define t p) = empty σ t ∷ skipped (σ ++ empty σ t ∷ []) p
+skipped σ (withCtrl outs c ins b p) = skipped σ b ++ skipped (σ ++ skipped σ b) p
 
 abbrev pub skip : Program → State → State
-skip p m = record { store = m .store ++ skipped p; work = m .work; steps = m .steps }
+skip p m = record { store = m .store ++ skipped (m .store) p; work = m .work; steps = m .steps }
 
 -- how many units a control stream has
 abbrev pub unitsOf : Option Stream → Option ℕ
 unitsOf none = none
 unitsOf (some (ints zs)) = none
+unitsOf (some (bools cs)) = none
 unitsOf (some (flags bs)) = none
 unitsOf (some (units n)) = some n
 

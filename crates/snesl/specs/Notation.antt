@@ -8,6 +8,9 @@ use Rattle.snesl.specs.Ascii.{ascii}
 abbrev pub IN : (x depth : ℕ) → List ℕ
 IN x d = ascii "IN" ++ x ∷ d ∷ []
 
+abbrev pub IB : (x depth : ℕ) → List ℕ
+IB x d = ascii "IB" ++ x ∷ d ∷ []
+
 abbrev pub VR : ℕ → List ℕ
 VR x = ascii "VR" ++ x ∷ []
 

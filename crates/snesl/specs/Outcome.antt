@@ -9,16 +9,16 @@ use lib.ListN.{length, drop, replicate}
 use Rattle.snesl.specs.declared.refusal.Refusal.{Refusal}
 use Rattle.snesl.specs.declared.refusal.Refusal.the-variants.{TooLong, NoRecord, OverLimit, TooMany, Unbound, WrongType, NoValueText, NoValue, NoRoom, NoAnswerRoom, NoRepresentation}
 use Rattle.snesl.specs.Limits.{usedOf}
-use Rattle.snesl.specs.Values.{Val}
+use Rattle.snesl.specs.Values.{ValueType, Val}
 use Rattle.snesl.specs.Terms.{Term, All, ∅}
 use Rattle.snesl.specs.Streams.{Stream, elements, Store, _!_, contents, room}
-use Rattle.snesl.specs.Trees.{Tree, mapTree}
+use Rattle.snesl.specs.Trees.{IdTree, mapTree}
 use Rattle.snesl.specs.Representation.{values}
 use Rattle.snesl.specs.Text.{show}
 use Rattle.snesl.specs.Machine.{State, Stop, unfitting, belowZero, outOfRange, full, Result, went, stopped, run, holding}
 use Rattle.snesl.specs.Translation.{code, tree}
 use Rattle.snesl.specs.Records.{Input, Span, JobRead, refused, job, readJob}
-use Rattle.snesl.specs.Checking.{Typed, typed, context, depths, turned, checkFormula}
+use Rattle.snesl.specs.Checking.{Typed, typed, context, inputTypes, turned, checkFormula}
 use Rattle.snesl.specs.Inputs.{Values, wrong, right, inputTrees, inputStart, inputValues, inputStreams, inputOver}
 
 -- a value with its text, what it cost and what the stream buffer holds then; or the one refusal
@@ -39,12 +39,12 @@ elementsOf none = []
 elementsOf (some a) = elements a
 
 -- the text of the value that the streams of a tree represent
-abbrev pub textOfFirst : (d : ℕ) → List (Val d) → List ℕ
-textOfFirst d [] = []
-textOfFirst d (v ∷ vs) = show d v
+abbrev pub textOfFirst : (τ : ValueType) → List (Val τ) → List ℕ
+textOfFirst τ [] = []
+textOfFirst τ (v ∷ vs) = show τ v
 
-abbrev pub answerText : {d : ℕ} → Tree ℕ d → Store → List ℕ
-answerText {d} t σ = textOfFirst d (values (mapTree (λ s. elementsOf (σ ! s)) t))
+abbrev pub answerText : (τ : ValueType) → IdTree τ → Store → List ℕ
+answerText τ t σ = textOfFirst τ (values τ (mapTree (λ s. elementsOf (σ ! s)) t))
 
 -- 10, or the value
 abbrev pub answered : (answerLent : ℕ) → List ℕ → State → Outcome
@@ -54,30 +54,30 @@ answered answerLent text m =
       | false ↦ refusal (NoAnswerRoom (length text))
     ]
 
-abbrev pub finished : {d : ℕ} → (answerLent : ℕ) → Tree ℕ d → Result → Outcome
-finished answerLent t (stopped why s) = refusal (refusalOf why s)
-finished answerLent t (went m) = answered answerLent (answerText t (m .store)) m
+abbrev pub finished : (τ : ValueType) → (answerLent : ℕ) → IdTree τ → Result → Outcome
+finished τ answerLent t (stopped why s) = refusal (refusalOf why s)
+finished τ answerLent t (went m) = answered answerLent (answerText τ t (m .store)) m
 
 -- the machine at the start: the inputs' streams, nothing spent
-abbrev pub loaded : {ds : List ℕ} → All Val ds → State
+abbrev pub loaded : {τs : List ValueType} → All Val τs → State
 loaded vs = record { store = inputStreams vs; work = 0; steps = 0 }
 
 -- 9 for inputs, then the instructions in order, under a control stream of one unit
-abbrev pub executed : {d : ℕ} → (cap answerLent : ℕ) → (is : List Input) → Term (context is) d → All Val (depths is) → Option ℕ → Outcome
+abbrev pub executed : {τ : ValueType} → (cap answerLent : ℕ) → (is : List Input) → Term (context is) τ → All Val (inputTypes is) → Option ℕ → Outcome
 executed cap answerLent is e vs (some s) = refusal (NoRoom s)
-executed cap answerLent is e vs none =
-    let δ = turned ∅ (inputTrees 0 (depths is)) in
-    finished answerLent (tree e δ (inputStart (depths is))) (run (holding cap) (code e δ (inputStart (depths is))) 1 (loaded vs))
+executed {τ} cap answerLent is e vs none =
+    let δ = turned ∅ (inputTrees 0 (inputTypes is)) in
+    finished τ answerLent (tree e δ (inputStart (inputTypes is))) (run (holding cap) (code e δ (inputStart (inputTypes is))) 1 (loaded vs))
 
 -- 7 over all inputs
-abbrev pub valued : {d : ℕ} → (cap answerLent : ℕ) → (is : List Input) → Term (context is) d → Values (depths is) → Outcome
+abbrev pub valued : {τ : ValueType} → (cap answerLent : ℕ) → (is : List Input) → Term (context is) τ → Values (inputTypes is) → Outcome
 valued cap answerLent is e (wrong p) = refusal (NoValueText p)
 valued cap answerLent is e (right vs) = executed cap answerLent is e vs (inputOver cap 0 0 vs)
 
 -- 5 and 6
 abbrev pub outcomeTyped : (t : List ℕ) (cap answerLent : ℕ) → (is : List Input) → List Span → Typed (context is) → Outcome
 outcomeTyped t cap answerLent is ss (Typed.refused r) = refusal r
-outcomeTyped t cap answerLent is ss (typed d e) = valued cap answerLent is e (inputValues t is ss)
+outcomeTyped t cap answerLent is ss (typed τ e) = valued cap answerLent is e (inputValues t is ss)
 
 -- 1 to 4
 abbrev pub outcomeRead : (t : List ℕ) (cap answerLent : ℕ) → JobRead → Outcome

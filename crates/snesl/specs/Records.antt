@@ -3,9 +3,12 @@
 use Prim.Native.Nat.{ℕ, zero, suc, _+_, _*_, _-_}
 use mathlib.Core.Bool.{Bool, true, false, _&&_}
 use mathlib.Core.List.{List, [], _∷_}
+use mathlib.Core.Option.{Option, some, none}
 use lib.Dec.{eqb, ltb, leb}
 use lib.IntN.{ℤ, pos, negsuc}
 use lib.ListN.{length, getD}
+use Rattle.snesl.specs.declared.code.Base.{Base}
+use Rattle.snesl.specs.declared.code.Base.the-variants as base
 use Rattle.snesl.specs.declared.code.Variable.{Variable}
 use Rattle.snesl.specs.declared.refusal.Refusal.{Refusal}
 use Rattle.snesl.specs.declared.refusal.Refusal.the-variants.{TooLong, NoRecord, OverLimit, TooMany}
@@ -18,9 +21,12 @@ byteAt t k = getD t k 0
 abbrev pub markAt : List ℕ → ℕ → ℕ
 markAt t k = elim (leb (k + 2) (length t)) [ true ↦ byteAt t k * 256 + byteAt t (k + 1) | false ↦ 0 ]
 
--- IN, VA, VR, LT, KN, IO, PL, SM, EA
+-- IN, IB, VA, VR, LT, KN, IO, PL, SM, EA
 abbrev pub markIN : ℕ
 markIN = 18766
+
+abbrev pub markIB : ℕ
+markIB = 18754
 
 abbrev pub markVA : ℕ
 markVA = 22081
@@ -167,13 +173,18 @@ scan (suc levels) t k n =
           counted k n (thenScan (scan levels t (k + b) (n + 1)) (λ e k₁ n₁. scanned (each k x y us e) k₁ n₁))
     ]
 
--- IN x depth
+-- IN x depth: braces round int; IB x depth: braces round bool
 pub record Input : Type 0 where
   pub place : ℕ
   pub name : Variable
+  pub base : Base
   pub depth : ℕ
 
--- the IN records from a position on, and the position behind them
+-- the base that a mark declares, if it is an input's
+abbrev pub inputBase : (mark : ℕ) → Option Base
+inputBase m = elim (eqb m markIN) [ true ↦ some base.Int | false ↦ elim (eqb m markIB) [ true ↦ some base.Bool | false ↦ none ] ]
+
+-- the input records from a position on, and the position behind them
 pub data Declared : Type 0 where
   refused : Refusal → Declared
   declared : List Input → (next : ℕ) → Declared
@@ -182,10 +193,10 @@ abbrev pub inputFirst : Input → Declared → Declared
 inputFirst i (refused r) = refused r
 inputFirst i (declared is k) = declared (i ∷ is) k
 
-abbrev pub inputAt : List ℕ → ℕ → Input
-inputAt t k = record { place = k; name = variableAt t (k + 2); depth = byteAt t (k + 3) }
+abbrev pub inputAt : List ℕ → ℕ → Base → Input
+inputAt t k b = record { place = k; name = variableAt t (k + 2); base = b; depth = byteAt t (k + 3) }
 
--- an IN record that is cut or over a limit is refused, and else what follows
+-- an input record that is cut or over a limit is refused, and else what follows
 abbrev pub inputOk : List ℕ → ℕ → Declared → Declared
 inputOk t k next =
     elim (leb (k + 4) (length t)) [
@@ -195,10 +206,10 @@ inputOk t k next =
     ]
 
 unfoldable pub inputsAt : (left : ℕ) → List ℕ → (k : ℕ) → Declared
-inputsAt zero t k = elim (eqb (markAt t k) markIN) [ true ↦ inputOk t k (refused (TooMany k)) | false ↦ declared [] k ]
+inputsAt zero t k = elim (inputBase (markAt t k)) [ some b ↦ inputOk t k (refused (TooMany k)) | none ↦ declared [] k ]
 inputsAt (suc left) t k =
-    elim (eqb (markAt t k) markIN)
-    [ true ↦ inputOk t k (inputFirst (inputAt t k) (inputsAt left t (k + 4))) | false ↦ declared [] k ]
+    elim (inputBase (markAt t k))
+    [ some b ↦ inputOk t k (inputFirst (inputAt t k b) (inputsAt left t (k + 4))) | none ↦ declared [] k ]
 
 -- where a value text stands in the job
 pub record Span : Type 0 where

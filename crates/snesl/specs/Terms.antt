@@ -1,43 +1,55 @@
 -- Typed expressions: 002's expressions (Figure 1.1) with 01's sum, one constructor for each typing rule (1.1.2).
 -- A context Γ is the list of the types of the variables in scope, newest first; a variable is where it stands in it, so names
 -- are gone: Checking.antt finds the place of a name.
-use Prim.Native.Nat.{ℕ, suc}
 use mathlib.Core.List.{List, [], _∷_}
 use lib.IntN.{ℤ}
+use Rattle.snesl.specs.declared.code.Base.{Base}
+use Rattle.snesl.specs.Values.{ValueType, scalar, braces, int}
 
 -- Γ(x) = τ
 infix 40 _∋_
-pub data _∋_ : List ℕ → ℕ → Type 0 where
-  here : {d : ℕ} {Γ : List ℕ} → (d ∷ Γ) ∋ d
-  there : {d e : ℕ} {Γ : List ℕ} → Γ ∋ d → (e ∷ Γ) ∋ d
+pub data _∋_ : List ValueType → ValueType → Type 0 where
+  here : {τ : ValueType} {Γ : List ValueType} → (τ ∷ Γ) ∋ τ
+  there : {τ υ : ValueType} {Γ : List ValueType} → Γ ∋ τ → (υ ∷ Γ) ∋ τ
 
--- the types of a using list: each listed variable is an int
-abbrev pub listedTypes : {Γ : List ℕ} → List (Γ ∋ 0) → List ℕ
+-- a using list: variables, each with its type; an EA's holds ints and bools only
+abbrev pub Listing : List ValueType → Type 0
+Listing Γ = List ((τ : ValueType) × (Γ ∋ τ))
+
+abbrev pub Scalars : List ValueType → Type 0
+Scalars Γ = List ((b : Base) × (Γ ∋ scalar b))
+
+abbrev pub anyType : {Γ : List ValueType} → Scalars Γ → Listing Γ
+anyType [] = []
+anyType (u ∷ us) = (scalar (u .0), u .1) ∷ anyType us
+
+-- the types of a using list
+abbrev pub listedTypes : {Γ : List ValueType} → Listing Γ → List ValueType
 listedTypes [] = []
-listedTypes (u ∷ us) = 0 ∷ listedTypes us
+listedTypes (u ∷ us) = u .0 ∷ listedTypes us
 
 -- Γ ⊢ e : τ. Inside a comprehension's body only its x and the listed variables are in scope.
-pub data Term : List ℕ → ℕ → Type 0 where
-  var : {Γ : List ℕ} {d : ℕ} → Γ ∋ d → Term Γ d
-  bind : {Γ : List ℕ} {c d : ℕ} → Term Γ c → Term (c ∷ Γ) d → Term Γ d
-  const : {Γ : List ℕ} → ℤ → Term Γ 0
-  iota : {Γ : List ℕ} → Γ ∋ 0 → Term Γ 1
-  plus : {Γ : List ℕ} → Γ ∋ 0 → Γ ∋ 0 → Term Γ 0
-  sum : {Γ : List ℕ} → Γ ∋ 1 → Term Γ 0
-  each : {Γ : List ℕ} {c d : ℕ} → Γ ∋ suc c → (us : List (Γ ∋ 0)) → Term (c ∷ listedTypes us) d → Term Γ (suc d)
+pub data Term : List ValueType → ValueType → Type 0 where
+  var : {Γ : List ValueType} {τ : ValueType} → Γ ∋ τ → Term Γ τ
+  bind : {Γ : List ValueType} {υ τ : ValueType} → Term Γ υ → Term (υ ∷ Γ) τ → Term Γ τ
+  const : {Γ : List ValueType} → ℤ → Term Γ int
+  iota : {Γ : List ValueType} → Γ ∋ int → Term Γ (braces int)
+  plus : {Γ : List ValueType} → Γ ∋ int → Γ ∋ int → Term Γ int
+  sum : {Γ : List ValueType} → Γ ∋ braces int → Term Γ int
+  each : {Γ : List ValueType} {υ τ : ValueType} → Γ ∋ braces υ → (us : Scalars Γ) → Term (υ ∷ listedTypes (anyType us)) τ → Term Γ (braces τ)
 
 -- something of type P τ for each variable of a context: the environments of evaluation (ρ) and of translation (δ)
 infixr 45 _▹_
-pub data All (P : ℕ → Type 0) : List ℕ → Type 0 where
+pub data All (P : ValueType → Type 0) : List ValueType → Type 0 where
   ∅ : All P []
-  _▹_ : {d : ℕ} {Γ : List ℕ} → P d → All P Γ → All P (d ∷ Γ)
+  _▹_ : {τ : ValueType} {Γ : List ValueType} → P τ → All P Γ → All P (τ ∷ Γ)
 
 -- ρ(x)
-unfoldable pub lookup : {P : ℕ → Type 0} {Γ : List ℕ} {d : ℕ} → Γ ∋ d → All P Γ → P d
+unfoldable pub lookup : {P : ValueType → Type 0} {Γ : List ValueType} {τ : ValueType} → Γ ∋ τ → All P Γ → P τ
 lookup here (p ▹ ρ) = p
 lookup (there x) (p ▹ ρ) = lookup x ρ
 
 -- the listed variables' part of an environment
-unfoldable pub listed : {P : ℕ → Type 0} {Γ : List ℕ} → (us : List (Γ ∋ 0)) → All P Γ → All P (listedTypes us)
+unfoldable pub listed : {P : ValueType → Type 0} {Γ : List ValueType} → (us : Listing Γ) → All P Γ → All P (listedTypes us)
 listed [] ρ = ∅
-listed (u ∷ us) ρ = lookup u ρ ▹ listed us ρ
+listed (u ∷ us) ρ = lookup (u .1) ρ ▹ listed us ρ

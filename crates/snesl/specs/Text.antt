@@ -7,7 +7,9 @@ use mathlib.Core.Option.{Option, some, none}
 use lib.Dec.{eqb, ltb, leb}
 use lib.IntN.{ℤ, pos, negsuc}
 use lib.ListN.{length, getD, drop}
-use Rattle.snesl.specs.Values.{Val, inRange}
+use Rattle.snesl.specs.declared.code.Base.{Base}
+use Rattle.snesl.specs.declared.code.Base.the-variants as base
+use Rattle.snesl.specs.Values.{ValueType, scalar, braces, Element, Val, inRange}
 use Rattle.snesl.specs.Evaluation.{andThen}
 
 -- '{', '}', ',', '-', '0'
@@ -25,6 +27,13 @@ minus = 45
 
 abbrev pub digit0 : ℕ
 digit0 = 48
+
+-- 'F', 'T'
+abbrev pub letterF : ℕ
+letterF = 70
+
+abbrev pub letterT : ℕ
+letterT = 84
 
 -- the decimal digits of n, in front of what follows; the first argument bounds their number
 unfoldable pub digitsThen : ℕ → ℕ → List ℕ → List ℕ
@@ -47,9 +56,17 @@ joined (t ∷ []) = t
 joined (t ∷ u ∷ ts) = t ++ comma ∷ joined (u ∷ ts)
 
 -- a value's text
-unfoldable pub show : (d : ℕ) → Val d → List ℕ
-show zero z = showInt z
-show (suc d) vs = openBrace ∷ (joined (map (show d) vs) ++ closeBrace ∷ [])
+abbrev pub showBool : Bool → List ℕ
+showBool false = letterF ∷ []
+showBool true = letterT ∷ []
+
+abbrev pub showElement : (b : Base) → Element b → List ℕ
+showElement base.Int z = showInt z
+showElement base.Bool c = showBool c
+
+unfoldable pub show : (τ : ValueType) → Val τ → List ℕ
+show (scalar b) e = showElement b e
+show (braces τ) vs = openBrace ∷ (joined (map (show τ) vs) ++ closeBrace ∷ [])
 
 abbrev pub isDigit : ℕ → Bool
 isDigit b = leb digit0 b && ltb b 58
@@ -115,11 +132,21 @@ readList item t =
       | false ↦ none
     ]
 
--- a value of depth d
-unfoldable pub readValue : (d : ℕ) → List ℕ → Option (Val d × ℕ)
-readValue zero t = readInt t
-readValue (suc d) t = readList (readValue d) t
+-- a bool: T or F
+abbrev pub readBool : List ℕ → Option (Bool × ℕ)
+readBool t =
+    elim (eqb (getD t 0 0) letterT)
+    [ true ↦ some (true, 1) | false ↦ elim (eqb (getD t 0 0) letterF) [ true ↦ some (false, 1) | false ↦ none ] ]
 
--- the value of depth d whose text this is, and nothing else
-abbrev pub valueOf : (d : ℕ) → List ℕ → Option (Val d)
-valueOf d t = andThen (readValue d t) (λ r. elim (eqb (r .1) (length t)) [ true ↦ some (r .0) | false ↦ none ])
+abbrev pub readElement : (b : Base) → List ℕ → Option (Element b × ℕ)
+readElement base.Int t = readInt t
+readElement base.Bool t = readBool t
+
+-- a value of type τ
+unfoldable pub readValue : (τ : ValueType) → List ℕ → Option (Val τ × ℕ)
+readValue (scalar b) t = readElement b t
+readValue (braces τ) t = readList (readValue τ) t
+
+-- the value of type τ whose text this is, and nothing else
+abbrev pub valueOf : (τ : ValueType) → List ℕ → Option (Val τ)
+valueOf τ t = andThen (readValue τ t) (λ r. elim (eqb (r .1) (length t)) [ true ↦ some (r .0) | false ↦ none ])

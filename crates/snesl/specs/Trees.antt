@@ -2,10 +2,15 @@
 -- flags of one brace, outermost last.
 use Prim.Native.Nat.{ℕ, zero, suc}
 use mathlib.Core.List.{List, [], _∷_, _++_}
+use Rattle.snesl.specs.Values.{ValueType, depthOf}
 
 pub data Tree (A : Type 0) : ℕ → Type 0 where
   leaf : A → Tree A 0
   node : {d : ℕ} → Tree A d → A → Tree A (suc d)
+
+-- the ids of a value's streams: how many there are is its type's depth, whatever its base
+abbrev pub IdTree : ValueType → Type 0
+IdTree τ = Tree ℕ (depthOf τ)
 
 -- (st, s) taken apart
 unfoldable pub inner : {A : Type 0} {d : ℕ} → Tree A (suc d) → Tree A d

@@ -1,20 +1,51 @@
--- Values and their types (002, 1.1.1 (1) and (2)), and 01's range of whole numbers.
--- A type is its depth: 0 is int, and d + 1 is braces round depth d.
+-- Values and their types (002, 1.1.1 (1) and (2); 001 adds bool), and 01's range of whole numbers.
 use Prim.Native.Nat.{ℕ, zero, suc}
-use mathlib.Core.Bool.{Bool, true}
+use mathlib.Core.Bool
+use mathlib.Core.Bool.{true}
 use mathlib.Core.List.{List, [], _∷_}
 use mathlib.Core.Path.{_≡_}
 use lib.Dec.{ltb}
 use lib.IntN.{ℤ, pos, _+ℤ_}
 use lib.Signed.{mag}
+use Rattle.snesl.specs.declared.code.Base.{Base}
+use Rattle.snesl.specs.declared.code.Base.the-variants.{Int, Bool}
 
--- v ::= n | {v1, .., vk}
-abbrev pub Val : ℕ → Type 0
-Val zero = ℤ
-Val (suc d) = List (Val d)
+-- τ ::= int | bool | {τ}
+pub data ValueType : Type 0 where
+  scalar : Base → ValueType
+  braces : ValueType → ValueType
+
+abbrev pub int : ValueType
+int = scalar Int
+
+abbrev pub bool : ValueType
+bool = scalar Bool
+
+-- how many braces stand round a type's base, and that base; and the type of which they are said
+abbrev pub depthOf : ValueType → ℕ
+depthOf (scalar b) = 0
+depthOf (braces τ) = suc (depthOf τ)
+
+abbrev pub baseOf : ValueType → Base
+baseOf (scalar b) = b
+baseOf (braces τ) = baseOf τ
+
+abbrev pub typeOf : Base → (depth : ℕ) → ValueType
+typeOf b zero = scalar b
+typeOf b (suc d) = braces (typeOf b d)
+
+-- n | T | F
+abbrev pub Element : Base → Type 0
+Element Int = ℤ
+Element Bool = mathlib.Core.Bool.Bool
+
+-- v ::= n | T | F | {v1, .., vk}
+abbrev pub Val : ValueType → Type 0
+Val (scalar b) = Element b
+Val (braces τ) = List (Val τ)
 
 -- 01, "Language and papers": -2,147,483,648 to 2,147,483,647. `mag` is n both for n and for -(n + 1).
-abbrev pub inRange : ℤ → Bool
+abbrev pub inRange : ℤ → mathlib.Core.Bool.Bool
 inRange z = ltb (mag z) 2147483648
 
 -- each item of a list is so
@@ -23,13 +54,17 @@ pub data Each {A : Type 0} (P : A → Type 0) : List A → Type 0 where
   each-more : {x : A} {xs : List A} → P x → Each P xs → Each P (x ∷ xs)
 
 -- each int of a value is so
-abbrev pub EachInt : (ℤ → Type 0) → (d : ℕ) → Val d → Type 0
-EachInt P zero z = P z
-EachInt P (suc d) vs = Each (EachInt P d) vs
+abbrev pub EachIntOf : (ℤ → Type 0) → (b : Base) → Element b → Type 0
+EachIntOf P Int z = P z
+EachIntOf P Bool c = Unit
+
+abbrev pub EachInt : (ℤ → Type 0) → (τ : ValueType) → Val τ → Type 0
+EachInt P (scalar b) e = EachIntOf P b e
+EachInt P (braces τ) vs = Each (EachInt P τ) vs
 
 -- a value whose ints are all in range
-abbrev pub InRange : (d : ℕ) → Val d → Type 0
-InRange d v = EachInt (λ z. inRange z ≡ true) d v
+abbrev pub InRange : (τ : ValueType) → Val τ → Type 0
+InRange τ v = EachInt (λ z. inRange z ≡ true) τ v
 
 -- the exact total of a sequence, 0 for an empty one
 unfoldable pub total : List ℤ → ℤ
