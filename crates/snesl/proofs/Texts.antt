@@ -2,6 +2,7 @@
 pub mod Decimals
 pub mod Reading
 pub mod IntText
+pub mod BoolText
 pub mod ListText
 pub mod TextRoundTrip
 pub mod Range

@@ -1,5 +1,5 @@
--- Value text loses nothing (01, "The formula and the job"): what is shown is read back, and what is read was the text of exactly one value. Over the depth.
-use Prim.Native.Nat.{ℕ, zero, suc, _≤_}
+-- Value text loses nothing (01, "The formula and the job"): what is shown is read back, and what is read was the text of exactly one value. Over the type.
+use Prim.Native.Nat.{ℕ, _≤_}
 use native.Mathlib.Omega.{arith}
 use mathlib.Core.Bool.{Bool, true, false}
 use mathlib.Core.Logic.{_↔_}
@@ -12,16 +12,23 @@ use lib.IntN.{ℤ}
 use lib.ListN.{length, getD, take, length-append}
 use lib.Seq.{take-at, take-all}
 use Rattle.laws.proofs.Options.{none-some, some-pair}
-use Rattle.snesl.specs.Values.{Val, inRange, EachInt, InRange, Each, each-none, each-more}
-use Rattle.snesl.specs.Text.{closeBrace, showInt, show, isDigit, ranged, readList, readValue, valueOf}
+use Rattle.snesl.specs.declared.code.Base.{Base}
+use Rattle.snesl.specs.declared.code.Base.the-variants as base
+use Rattle.snesl.specs.Values.{ValueType, scalar, braces, int, Element, Val, inRange, EachInt, InRange, Each, each-none, each-more}
+use Rattle.snesl.specs.Text.{closeBrace, showInt, show, isDigit, ranged, readList, readBool, readValue, valueOf}
 use Rattle.snesl.proofs.Texts.Reading.{Begun, Complete, Sound}
 use Rattle.snesl.proofs.Texts.IntText.{intBy, read-int, int-opens, int-complete, int-sound}
+use Rattle.snesl.proofs.Texts.BoolText.{bool-opens, bool-complete, bool-sound}
 use Rattle.snesl.proofs.Texts.ListText.{list-complete, list-sound}
 
 -- `readValue`, with the reader of ints left open
-abbrev readBy : (List ℕ → Option (ℤ × ℕ)) → (d : ℕ) → List ℕ → Option (Val d × ℕ)
-readBy int zero = int
-readBy int (suc d) = readList (readBy int d)
+abbrev elementBy : (List ℕ → Option (ℤ × ℕ)) → (b : Base) → List ℕ → Option (Element b × ℕ)
+elementBy number base.Int = number
+elementBy number base.Bool = readBool
+
+abbrev readBy : (List ℕ → Option (ℤ × ℕ)) → (τ : ValueType) → List ℕ → Option (Val τ × ℕ)
+readBy number (scalar b) = elementBy number b
+readBy number (braces τ) = readList (readBy number τ)
 
 -- what is read of a text of which nothing is left
 abbrev whole : {A : Type 0} → Bool → A → Option A
@@ -29,25 +36,28 @@ whole true a = some a
 whole false a = none
 
 -- a value's text begins with no closing brace
-opens : (d : ℕ) (v : Val d) (rest : List ℕ) → getD (show d v ++ rest) 0 0 ≡ closeBrace → ⊥
+opens : (τ : ValueType) (v : Val τ) (rest : List ℕ) → getD (show τ v ++ rest) 0 0 ≡ closeBrace → ⊥
 unfolding show
-opens zero z rest h = int-opens z rest h
-opens (suc d) vs rest h = omega arith
+opens (scalar base.Int) z rest h = int-opens z rest h
+opens (scalar base.Bool) c rest h = bool-opens c rest h
+opens (braces τ) vs rest h = omega arith
 
-module _ (int : List ℕ → Option (ℤ × ℕ)) (Fine : ℤ → Type 0) where
+module _ (number : List ℕ → Option (ℤ × ℕ)) (Fine : ℤ → Type 0) where
   -- only an int's text can run on into what follows it
-  complete : Complete int showInt Fine
-      → (d : ℕ) (v : Val d) → EachInt Fine d v → (rest : List ℕ) → (d ≡ 0 → isDigit (getD rest 0 0) ≡ false)
-      → readBy int d (show d v ++ rest) ≡ some (v, length (show d v))
+  complete : Complete number showInt Fine
+      → (τ : ValueType) (v : Val τ) → EachInt Fine τ v → (rest : List ℕ) → (τ ≡ int → isDigit (getD rest 0 0) ≡ false)
+      → readBy number τ (show τ v ++ rest) ≡ some (v, length (show τ v))
   unfolding show
-  complete c zero z ok rest h = c z ok rest (h refl)
-  complete c (suc d) vs oks rest h =
-      list-complete (readBy int d) (show d) (EachInt Fine d) (λ v ok after e. complete c d v ok after (λ z. e)) (opens d) vs oks rest
+  complete c (scalar base.Int) z ok rest h = c z ok rest (h refl)
+  complete c (scalar base.Bool) b ok rest h = bool-complete b rest
+  complete c (braces τ) vs oks rest h =
+      list-complete (readBy number τ) (show τ) (EachInt Fine τ) (λ v ok after e. complete c τ v ok after (λ z. e)) (opens τ) vs oks rest
 
-  sound : Sound int showInt Fine → (d : ℕ) → Sound (readBy int d) (show d) (EachInt Fine d)
+  sound : Sound number showInt Fine → (τ : ValueType) → Sound (readBy number τ) (show τ) (EachInt Fine τ)
   unfolding show
-  sound s zero = s
-  sound s (suc d) = list-sound (readBy int d) (show d) (EachInt Fine d) (sound s d)
+  sound s (scalar base.Int) = s
+  sound s (scalar base.Bool) = bool-sound
+  sound s (braces τ) = list-sound (readBy number τ) (show τ) (EachInt Fine τ) (sound s τ)
 
 -- `readInt` takes the ints in range
 ranged-taken : (k : ℕ) (z : ℤ) → inRange z ≡ true → ranged k (some z) ≡ some (z, k)
@@ -60,67 +70,68 @@ ranged-tested k z v n h = go (inRange z) refl
     go true e = let r = some-pair z v k n (sym (ranged-taken k z e) ∙ h) in (r .0, r .1, e)
     go false e = none-some (rw (e, ranged) at h)
 
-value-reader : (d : ℕ) (t : List ℕ) → readValue d t ≡ readBy (intBy ranged) d t
+value-reader : (τ : ValueType) (t : List ℕ) → readValue τ t ≡ readBy (intBy ranged) τ t
 unfolding readValue
-value-reader zero t = read-int t
-value-reader (suc d) t = ap (λ item. readList item t) (fun-ext (value-reader d))
+value-reader (scalar base.Int) t = read-int t
+value-reader (scalar base.Bool) t = refl
+value-reader (braces τ) t = ap (λ item. readList item t) (fun-ext (value-reader τ))
 
 -- What is shown of a value in range is read, and behind it, so many bytes on, whatever follows. Only an int's text could run on into it.
-pub read-shown : (d : ℕ) (v : Val d) → InRange d v → (rest : List ℕ) → (d ≡ 0 → isDigit (getD rest 0 0) ≡ false)
-    → readValue d (show d v ++ rest) ≡ some (v, length (show d v))
-read-shown d v ok rest h =
-    value-reader d (show d v ++ rest)
-    ∙ complete (intBy ranged) (λ z. inRange z ≡ true) (int-complete (λ z. inRange z ≡ true) ranged (λ k. refl) ranged-taken ranged-tested) d v ok rest h
+pub read-shown : (τ : ValueType) (v : Val τ) → InRange τ v → (rest : List ℕ) → (τ ≡ int → isDigit (getD rest 0 0) ≡ false)
+    → readValue τ (show τ v ++ rest) ≡ some (v, length (show τ v))
+read-shown τ v ok rest h =
+    value-reader τ (show τ v ++ rest)
+    ∙ complete (intBy ranged) (λ z. inRange z ≡ true) (int-complete (λ z. inRange z ≡ true) ranged (λ k. refl) ranged-taken ranged-tested) τ v ok rest h
 
-begun : (d : ℕ) (t : List ℕ) (v : Val d) (n : ℕ) → readValue d t ≡ some (v, n) → Begun (show d) (InRange d) t v n
-begun d t v n h =
-    sound (intBy ranged) (λ z. inRange z ≡ true) (int-sound (λ z. inRange z ≡ true) ranged (λ k. refl) ranged-taken ranged-tested) d t v n
-    (sym (value-reader d t) ∙ h)
+begun : (τ : ValueType) (t : List ℕ) (v : Val τ) (n : ℕ) → readValue τ t ≡ some (v, n) → Begun (show τ) (InRange τ) t v n
+begun τ t v n h =
+    sound (intBy ranged) (λ z. inRange z ≡ true) (int-sound (λ z. inRange z ≡ true) ranged (λ k. refl) ranged-taken ranged-tested) τ t v n
+    (sym (value-reader τ t) ∙ h)
 
 -- What is read was the text of that value, in range, and as long as was said.
-pub shown-read : (d : ℕ) (t : List ℕ) (v : Val d) (n : ℕ) → readValue d t ≡ some (v, n)
-    → (n ≤ length t) × (take n t ≡ show d v) × InRange d v
-shown-read d t v n h =
-    let b = begun d t v n h in (
-      omega (arith, b .bytes, ap length (b .text), length-append (show d v) (b .rest)),
-      ap (take n) (b .text) ∙ take-at (show d v) (b .rest) n (sym (b .bytes)),
+pub shown-read : (τ : ValueType) (t : List ℕ) (v : Val τ) (n : ℕ) → readValue τ t ≡ some (v, n)
+    → (n ≤ length t) × (take n t ≡ show τ v) × InRange τ v
+shown-read τ t v n h =
+    let b = begun τ t v n h in (
+      omega (arith, b .bytes, ap length (b .text), length-append (show τ v) (b .rest)),
+      ap (take n) (b .text) ∙ take-at (show τ v) (b .rest) n (sym (b .bytes)),
       b .fine,
     )
 
 -- a whole text, and nothing behind it
-value-text : (d : ℕ) (t : List ℕ) (v : Val d) (n : ℕ) → readValue d t ≡ some (v, n) → valueOf d t ≡ whole (eqb n (length t)) v
-value-text d t v n h = rw h (go (eqb n (length t)))
+value-text : (τ : ValueType) (t : List ℕ) (v : Val τ) (n : ℕ) → readValue τ t ≡ some (v, n) → valueOf τ t ≡ whole (eqb n (length t)) v
+value-text τ t v n h = rw h (go (eqb n (length t)))
   where
-    go : (b : Bool) → _≡_ {A = Option (Val d)} (elim b [ true ↦ some v | false ↦ none ]) (whole b v)
+    go : (b : Bool) → _≡_ {A = Option (Val τ)} (elim b [ true ↦ some v | false ↦ none ]) (whole b v)
     go true = refl
     go false = refl
 
 -- a value's text, read as a whole, is that value
-pub value-of-shown : (d : ℕ) (v : Val d) → InRange d v → valueOf d (show d v) ≡ some v
-value-of-shown d v ok =
-    let read : readValue d (show d v) ≡ some (v, length (show d v)) =
-    ap (readValue d) (sym (append-nil (show d v))) ∙ read-shown d v ok [] (λ z. refl) in
-    value-text d (show d v) v (length (show d v)) read
-    ∙ ap (λ b. whole b v) (eq-eqb (length (show d v)) (length (show d v)) refl)
+pub value-of-shown : (τ : ValueType) (v : Val τ) → InRange τ v → valueOf τ (show τ v) ≡ some v
+value-of-shown τ v ok =
+    let read : readValue τ (show τ v) ≡ some (v, length (show τ v)) =
+    ap (readValue τ) (sym (append-nil (show τ v))) ∙ read-shown τ v ok [] (λ z. refl) in
+    value-text τ (show τ v) v (length (show τ v)) read
+    ∙ ap (λ b. whole b v) (eq-eqb (length (show τ v)) (length (show τ v)) refl)
 
-pub shown-of-value : (d : ℕ) (t : List ℕ) (v : Val d) → valueOf d t ≡ some v → (t ≡ show d v) × InRange d v
-shown-of-value d t v h = read (readValue d t) refl
+pub shown-of-value : (τ : ValueType) (t : List ℕ) (v : Val τ) → valueOf τ t ≡ some v → (t ≡ show τ v) × InRange τ v
+shown-of-value τ t v h = read (readValue τ t) refl
   where
-    all : (w : Val d) (n : ℕ) → readValue d t ≡ some (w, n) → (b : Bool) → eqb n (length t) ≡ b → whole b w ≡ some v → (t ≡ show d v) × InRange d v
+    all : (w : Val τ) (n : ℕ) → readValue τ t ≡ some (w, n) → (b : Bool) → eqb n (length t) ≡ b → whole b w ≡ some v → (t ≡ show τ v) × InRange τ v
     all w n e true full r =
-        let s = shown-read d t w n e in
+        let s = shown-read τ t w n e in
         let same : w ≡ v = cc in
-        let text : t ≡ show d w = sym (take-all n t (omega (arith, eqb-true n (length t) full))) ∙ s .1 in
-        subst (λ u. (t ≡ show d u) × InRange d u) same (text, s .2)
+        let text : t ≡ show τ w = sym (take-all n t (omega (arith, eqb-true n (length t) full))) ∙ s .1 in
+        subst (λ u. (t ≡ show τ u) × InRange τ u) same (text, s .2)
     all w n e false full r = none-some r
 
-    read : (o : Option (Val d × ℕ)) → readValue d t ≡ o → (t ≡ show d v) × InRange d v
+    read : (o : Option (Val τ × ℕ)) → readValue τ t ≡ o → (t ≡ show τ v) × InRange τ v
     read none e = none-some (rw e at h)
-    read (some q) e = all (q .0) (q .1) e (eqb (q .1) (length t)) refl (sym (value-text d t (q .0) (q .1) e) ∙ h)
+    read (some q) e = all (q .0) (q .1) e (eqb (q .1) (length t)) refl (sym (value-text τ t (q .0) (q .1) e) ∙ h)
 
 -- Accepted text is the text of exactly one value, and every value in range has one.
-pub value-of-exactly : (d : ℕ) (t : List ℕ) (v : Val d) → (valueOf d t ≡ some v) ↔ ((t ≡ show d v) × InRange d v)
-value-of-exactly d t v = (shown-of-value d t v, λ h. ap (valueOf d) (h .0) ∙ value-of-shown d v (h .1))
+pub value-of-exactly : (τ : ValueType) (t : List ℕ) (v : Val τ) → (valueOf τ t ≡ some v) ↔ ((t ≡ show τ v) × InRange τ v)
+value-of-exactly τ t v = (shown-of-value τ t v, λ h. ap (valueOf τ) (h .0) ∙ value-of-shown τ v (h .1))
 
 -- a reader of ints of any size
 abbrev plainly : ℕ → Option ℤ → Option (ℤ × ℕ)
@@ -134,16 +145,17 @@ each-any : {A : Type 0} {P : A → Type 0} → ((a : A) → P a) → (l : List A
 each-any p [] = each-none
 each-any p (a ∷ l) = each-more (p a) (each-any p l)
 
-any-int : (d : ℕ) (v : Val d) → EachInt (λ z. Unit {0}) d v
-any-int zero z = tt
-any-int (suc d) vs = each-any (any-int d) vs
+any-int : (τ : ValueType) (v : Val τ) → EachInt (λ z. Unit {0}) τ v
+any-int (scalar base.Int) z = tt
+any-int (scalar base.Bool) c = tt
+any-int (braces τ) vs = each-any (any-int τ) vs
 
 -- Two values, in range or not, have one text only if they are one.
-pub show-injective : (d : ℕ) (v w : Val d) → show d v ≡ show d w → v ≡ w
-show-injective d v w h = some-pair v w (length (show d v)) (length (show d w)) (sym (plain v) ∙ ap (readBy (intBy plainly) d) h ∙ plain w) .0
+pub show-injective : (τ : ValueType) (v w : Val τ) → show τ v ≡ show τ w → v ≡ w
+show-injective τ v w h = some-pair v w (length (show τ v)) (length (show τ w)) (sym (plain v) ∙ ap (readBy (intBy plainly) τ) h ∙ plain w) .0
   where
-    plain : (u : Val d) → readBy (intBy plainly) d (show d u) ≡ some (u, length (show d u))
+    plain : (u : Val τ) → readBy (intBy plainly) τ (show τ u) ≡ some (u, length (show τ u))
     plain u =
-        ap (readBy (intBy plainly) d) (sym (append-nil (show d u)))
+        ap (readBy (intBy plainly) τ) (sym (append-nil (show τ u)))
         ∙ complete (intBy plainly) (λ z. Unit {0})
-        (int-complete (λ z. Unit {0}) plainly (λ k. refl) (λ k z ok. refl) plainly-tested) d u (any-int d u) [] (λ z. refl)
+        (int-complete (λ z. Unit {0}) plainly (λ k. refl) (λ k z ok. refl) plainly-tested) τ u (any-int τ u) [] (λ z. refl)
