@@ -1,4 +1,5 @@
 -- Values as streams and back.
+pub mod Elements
 pub mod Segments
 pub mod Trees
 pub mod Representation

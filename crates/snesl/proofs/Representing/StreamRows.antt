@@ -8,7 +8,7 @@ use mathlib.Core.Path.{_≡_, refl, ap, _∙_}
 use lib.IntN.{ℤ}
 use lib.ListN.{length, take, drop, length-append, length-drop, length-map, take-append-drop}
 use lib.Seq.{take-append-seam, drop-append-seam, length-take-le}
-use Rattle.snesl.specs.Values.{Val}
+use Rattle.snesl.specs.Values.{ValueType, depthOf, baseOf, Val}
 use Rattle.snesl.specs.Streams.{elements}
 use Rattle.snesl.specs.Machine.{sumOf}
 use Rattle.snesl.specs.Trees.{Tree, order}
@@ -67,27 +67,28 @@ module _ (d : ℕ) (ls : List ℕ) (zs : List ℤ) (count : length ls ≡ suc d)
   pub lengths-of-tree : map length (order (treeOf d ls zs)) ≡ ls
   lengths-of-tree = ap (map length) order-treeOf ∙ lengths-parts ls zs total
 
-  -- streams to a value to streams
-  pub streams-again : misfitTree 1 (treeOf d ls zs) ≡ none
-      → (v : Val d) × (values (treeOf d ls zs) ≡ v ∷ []) × (concat (streamsOf d v) ≡ zs) × (map length (streamsOf d v) ≡ ls)
+-- streams to a value to streams
+module _ (τ : ValueType) (ls : List ℕ) (zs : List ℤ) (count : length ls ≡ suc (depthOf τ)) (total : sumOf ls ≡ length zs) where
+  pub streams-again : misfitTree (baseOf τ) 1 (treeOf (depthOf τ) ls zs) ≡ none
+      → (v : Val τ) × (values τ (treeOf (depthOf τ) ls zs) ≡ v ∷ []) × (concat (streamsOf τ v) ≡ zs) × (map length (streamsOf τ v) ≡ ls)
   streams-again h =
-      let one = one-represented (treeOf d ls zs) h in (
+      let one = one-represented τ (treeOf (depthOf τ) ls zs) h in (
         one .value,
         one .given,
-        ap (λ t. concat (order t)) (one .streams) ∙ row-of-tree,
-        ap (λ t. map length (order t)) (one .streams) ∙ lengths-of-tree,
+        ap (λ t. concat (order t)) (one .streams) ∙ row-of-tree (depthOf τ) ls zs count total,
+        ap (λ t. map length (order t)) (one .streams) ∙ lengths-of-tree (depthOf τ) ls zs count total,
       )
 
 -- a value to streams to a value
-module _ (d : ℕ) (v : Val d) where
-  pub value-streams : streamsOf d v ≡ map elements (order (represent d (v ∷ [])))
-  value-streams = order-mapTree elements (represent d (v ∷ []))
+module _ (τ : ValueType) (v : Val τ) where
+  pub value-streams : streamsOf τ v ≡ map elements (order (represent τ (v ∷ [])))
+  value-streams = order-mapTree elements (represent τ (v ∷ []))
 
-  pub value-tree : treeOf d (map length (streamsOf d v)) (concat (streamsOf d v)) ≡ laid (represent d (v ∷ []))
-  value-tree = tree-of-row (laid (represent d (v ∷ [])))
+  pub value-tree : treeOf (depthOf τ) (map length (streamsOf τ v)) (concat (streamsOf τ v)) ≡ laid (represent τ (v ∷ []))
+  value-tree = tree-of-row (laid (represent τ (v ∷ [])))
 
-  pub value-accepted : misfitTree 1 (treeOf d (map length (streamsOf d v)) (concat (streamsOf d v))) ≡ none
-  value-accepted = ap (misfitTree 1) value-tree ∙ accepted d (v ∷ [])
+  pub value-accepted : misfitTree (baseOf τ) 1 (treeOf (depthOf τ) (map length (streamsOf τ v)) (concat (streamsOf τ v))) ≡ none
+  value-accepted = ap (misfitTree (baseOf τ) 1) value-tree ∙ accepted τ (v ∷ [])
 
-  pub value-again : values (treeOf d (map length (streamsOf d v)) (concat (streamsOf d v))) ≡ v ∷ []
-  value-again = ap values value-tree ∙ values-represent d (v ∷ [])
+  pub value-again : values τ (treeOf (depthOf τ) (map length (streamsOf τ v)) (concat (streamsOf τ v))) ≡ v ∷ []
+  value-again = ap (values τ) value-tree ∙ values-represent τ (v ∷ [])
