@@ -2,6 +2,7 @@
 pub mod Compiled
 pub mod Bounded
 pub mod Correctness
+pub mod Types
 pub mod Representing
 pub mod Texts
 pub mod Formed
