@@ -13,12 +13,13 @@ use Rattle.snesl.specs.declared.code.Variable.{Variable}
 use Rattle.snesl.specs.declared.refusal.Refusal.{Refusal}
 use Rattle.snesl.specs.declared.refusal.Refusal.the-variants.{TooLong, NoRecord, OverLimit, TooMany, Unbound, WrongType}
 use Rattle.snesl.specs.Limits.{mostBytes, mostInputs, mostRecords, mostNesting, mostListed, mostDepth}
+use Rattle.snesl.specs.Values.{ValueType, braces, int, depthOf}
 use Rattle.snesl.specs.Terms as terms
-use Rattle.snesl.specs.Terms.{_∋_, Term, listedTypes, All, ∅, _▹_}
+use Rattle.snesl.specs.Terms.{_∋_, Term, anyType, listedTypes, All, ∅, _▹_}
 use Rattle.snesl.specs.Records
 use Rattle.snesl.specs.Records.{Raw, var, bind, const, iota, plus, sum, each, Head, absent, over, single, letting, eaching, whole, eachHead, headAt, byteAt, markAt, variableAt, variablesAt, variablesOk, intAt, markVR, markLT, markKN, markIO, markPL, markSM, markEA, Scanned, scanned, thenScan, tooDeep, counted, scan, Input, Declared, declared, inputsAt, Front, front, expressionAfter, inputsThen, frontOf, formulaEnd, readFormula, Texts, texts, textsAt, textsThen, JobRead, job, jobEnd, readJob, Span}
 use Rattle.snesl.specs.Checking
-use Rattle.snesl.specs.Checking.{Name, Found, missing, found, find, isBound, asInt, asInts, Sequence, noSequence, sequence, asSequence, usable, listedInts, listedNames, pointers, Typed, typed, demand, typedIf, typedSequence, typedThen, check, turned, context, inputNames, repeated, checkInputs, checkFormula}
+use Rattle.snesl.specs.Checking.{Name, Found, missing, found, find, isBound, asScalar, asInt, asInts, Sequence, noSequence, sequence, asSequence, usable, NamedScalars, listedScalars, listedNames, pointers, Typed, typed, demand, typedIf, typedSequence, typedThen, check, turned, context, inputNames, repeated, checkInputs, checkFormula}
 use Rattle.snesl.specs.Formed.{Formed, formed-var, formed-bind, formed-const, formed-iota, formed-plus, formed-sum, formed-each}
 
 -- What headAt can answer at k: a record with no expression behind it has its offset as its place, and its bytes, like those of LT and EA, are there.
@@ -69,15 +70,15 @@ module _ (t : List ℕ) (k : ℕ) where
       proper-absent))))))
 
 -- Bytes that spell e and end at `next`, if checking e finds a typed expression.
-abbrev Told : (t : List ℕ) (levels k : ℕ) {Γ : List ℕ} → All Name Γ → (next : ℕ) → Typed Γ → Type 0
+abbrev Told : (t : List ℕ) (levels k : ℕ) {Γ : List ValueType} → All Name Γ → (next : ℕ) → Typed Γ → Type 0
 Told t levels k scope next (Typed.refused r) = Unit
-Told t levels k {Γ} scope next (typed d e) = Formed t levels k Γ scope d e next
+Told t levels k {Γ} scope next (typed τ e) = Formed t levels k Γ scope τ e next
 
-record Spelt (t : List ℕ) (levels k : ℕ) {Γ : List ℕ} (scope : All Name Γ) (next : ℕ) (r : Typed Γ) : Type 0 where
+record Spelt (t : List ℕ) (levels k : ℕ) {Γ : List ValueType} (scope : All Name Γ) (next : ℕ) (r : Typed Γ) : Type 0 where
   told : Told t levels k scope next r
 
-module _ {t : List ℕ} {levels k : ℕ} {Γ : List ℕ} {scope : All Name Γ} {next : ℕ} where
-  given : {r : Typed Γ} {d : ℕ} {e : Term Γ d} → Spelt t levels k scope next r → r ≡ typed d e → Formed t levels k Γ scope d e next
+module _ {t : List ℕ} {levels k : ℕ} {Γ : List ValueType} {scope : All Name Γ} {next : ℕ} where
+  given : {r : Typed Γ} {τ : ValueType} {e : Term Γ τ} → Spelt t levels k scope next r → r ≡ typed τ e → Formed t levels k Γ scope τ e next
   given s q = transport (λ i. Spelt t levels k scope next (q i)) s .told
 
   moved : {m : ℕ} {e f : Raw} → e ≡ f → m ≡ next → Spelt t levels k scope m (check scope e) → Spelt t levels k scope next (check scope f)
@@ -94,28 +95,28 @@ module _ {t : List ℕ} {levels k : ℕ} {Γ : List ℕ} {scope : All Name Γ} {
   optional p none f s = record { told = tt }
   optional p (some a) f s = s a refl
 
-  sequential : (p : ℕ) (o : Sequence Γ) (f : (c : ℕ) → Γ ∋ suc c → Typed Γ)
-      → ((c : ℕ) (x : Γ ∋ suc c) → o ≡ sequence c x → Spelt t levels k scope next (f c x))
+  sequential : (p : ℕ) (o : Sequence Γ) (f : (υ : ValueType) → Γ ∋ braces υ → Typed Γ)
+      → ((υ : ValueType) (x : Γ ∋ braces υ) → o ≡ sequence υ x → Spelt t levels k scope next (f υ x))
       → Spelt t levels k scope next (typedSequence p o f)
   sequential p noSequence f s = record { told = tt }
-  sequential p (sequence c x) f s = s c x refl
+  sequential p (sequence υ x) f s = s υ x refl
 
-  after : {Δ : List ℕ} (o : Typed Δ) (f : (d : ℕ) → Term Δ d → Typed Γ)
-      → ((d : ℕ) (e : Term Δ d) → o ≡ typed d e → Spelt t levels k scope next (f d e))
+  after : {Δ : List ValueType} (o : Typed Δ) (f : (τ : ValueType) → Term Δ τ → Typed Γ)
+      → ((τ : ValueType) (e : Term Δ τ) → o ≡ typed τ e → Spelt t levels k scope next (f τ e))
       → Spelt t levels k scope next (typedThen o f)
   after (Typed.refused r) f s = record { told = tt }
-  after (typed d e) f s = s d e refl
+  after (typed τ e) f s = s τ e refl
 
-module _ (t : List ℕ) {l k : ℕ} {Γ : List ℕ} (scope : All Name Γ) where
+module _ (t : List ℕ) {l k : ℕ} {Γ : List ValueType} (scope : All Name Γ) where
   spelt-var : {x : Variable} → headAt t k ≡ single (var k x) 3 → Spelt t (suc l) k scope (k + 3) (check scope (var k x))
   unfolding check
   spelt-var {x} h = go (find x scope) refl
     where
       go : (f : Found Γ) → find x scope ≡ f
           → Spelt t (suc l) k scope (k + 3)
-          (elim f [ missing ↦ Typed.refused (Unbound k) | found d v ↦ typed d (terms.var v) ])
+          (elim f [ missing ↦ Typed.refused (Unbound k) | found τ v ↦ typed τ (terms.var v) ])
       go missing e = record { told = tt }
-      go (found d v) e = record { told = formed-var h e }
+      go (found τ v) e = record { told = formed-var h e }
 
   spelt-const : {z : ℤ} → headAt t k ≡ single (const k z) 6 → Spelt t (suc l) k scope (k + 6) (check scope (const k z))
   unfolding check
@@ -124,63 +125,62 @@ module _ (t : List ℕ) {l k : ℕ} {Γ : List ℕ} (scope : All Name Γ) where
   spelt-iota : {x : Variable} → headAt t k ≡ single (iota k x) 3 → Spelt t (suc l) k scope (k + 3) (check scope (iota k x))
   unfolding check
   spelt-iota {x} h =
-      let made : (Γ ∋ 0) → Typed Γ = λ v. typed 1 (terms.iota v) in
-      demanded (isBound (find x scope)) (Unbound k) (typedIf k (asInt (find x scope)) made)
-      (λ b. optional k (asInt (find x scope)) made (λ v q. record { told = formed-iota h q }))
+      let made : (Γ ∋ int) → Typed Γ = λ v. typed (braces int) (terms.iota v) in
+      demanded (isBound (find x scope)) (Unbound k) (typedIf k (asInt (asScalar (find x scope))) made)
+      (λ b. optional k (asInt (asScalar (find x scope))) made (λ v q. record { told = formed-iota h q }))
 
   spelt-plus : {x y : Variable} → headAt t k ≡ single (plus k x y) 4 → Spelt t (suc l) k scope (k + 4) (check scope (plus k x y))
   unfolding check
   spelt-plus {x} {y} h =
-      let made : (Γ ∋ 0) → (Γ ∋ 0) → Typed Γ = λ v w. typed 0 (terms.plus v w) in
-      let second : (Γ ∋ 0) → Typed Γ = λ v. typedIf k (asInt (find y scope)) (made v) in
-      demanded (isBound (find x scope) && isBound (find y scope)) (Unbound k) (typedIf k (asInt (find x scope)) second)
+      let made : (Γ ∋ int) → (Γ ∋ int) → Typed Γ = λ v w. typed int (terms.plus v w) in
+      let second : (Γ ∋ int) → Typed Γ = λ v. typedIf k (asInt (asScalar (find y scope))) (made v) in
+      demanded (isBound (find x scope) && isBound (find y scope)) (Unbound k) (typedIf k (asInt (asScalar (find x scope))) second)
       (λ b.
-      optional k (asInt (find x scope)) second
-      (λ v q. optional k (asInt (find y scope)) (made v) (λ w r. record { told = formed-plus h q r })))
+      optional k (asInt (asScalar (find x scope))) second
+      (λ v q. optional k (asInt (asScalar (find y scope))) (made v) (λ w r. record { told = formed-plus h q r })))
 
   spelt-sum : {x : Variable} → headAt t k ≡ single (sum k x) 3 → Spelt t (suc l) k scope (k + 3) (check scope (sum k x))
   unfolding check
   spelt-sum {x} h =
-      let made : (Γ ∋ 1) → Typed Γ = λ v. typed 0 (terms.sum v) in
+      let made : (Γ ∋ braces int) → Typed Γ = λ v. typed int (terms.sum v) in
       let ints = asInts (asSequence (find x scope)) in
       demanded (isBound (find x scope)) (Unbound k) (typedIf k ints made)
       (λ b. optional k ints made (λ v q. record { told = formed-sum h q }))
 
   spelt-bind : {k₁ k₂ : ℕ} {x : Variable} (e₁ e₂ : Raw) → headAt t k ≡ letting x
       → Spelt t l (k + 3) scope k₁ (check scope e₁)
-      → ((c : ℕ) → Spelt t l k₁ {Γ = c ∷ Γ} (x ▹ scope) k₂ (check (x ▹ scope) e₂))
+      → ((υ : ValueType) → Spelt t l k₁ {Γ = υ ∷ Γ} (x ▹ scope) k₂ (check (x ▹ scope) e₂))
       → Spelt t (suc l) k scope k₂ (check scope (bind k x e₁ e₂))
   unfolding check
   spelt-bind {x = x} e₁ e₂ h s₁ s₂ =
-      let whole : (c : ℕ) → Term Γ c → (d : ℕ) → Term (c ∷ Γ) d → Typed Γ = λ c f₁ d f₂. typed d (terms.bind f₁ f₂) in
-      let second : (c : ℕ) → Term Γ c → Typed Γ = λ c f₁. typedThen (check (x ▹ scope) e₂) (whole c f₁) in
+      let whole : (υ : ValueType) → Term Γ υ → (τ : ValueType) → Term (υ ∷ Γ) τ → Typed Γ = λ υ f₁ τ f₂. typed τ (terms.bind f₁ f₂) in
+      let second : (υ : ValueType) → Term Γ υ → Typed Γ = λ υ f₁. typedThen (check (x ▹ scope) e₂) (whole υ f₁) in
       after (check scope e₁) second
-      (λ c f₁ q₁.
-      after (check (x ▹ scope) e₂) (whole c f₁)
-      (λ d f₂ q₂. record { told = formed-bind h (given s₁ q₁) (given (s₂ c) q₂) }))
+      (λ υ f₁ q₁.
+      after (check (x ▹ scope) e₂) (whole υ f₁)
+      (λ τ f₂ q₂. record { told = formed-bind h (given s₁ q₁) (given (s₂ υ) q₂) }))
 
   spelt-each : {b next : ℕ} {x y : Variable} {us : List Variable} (e : Raw) → headAt t k ≡ eaching x y us b
-      → ((c : ℕ) (ls : List (Variable × (Γ ∋ 0))) → Spelt t l (k + b) {Γ = c ∷ listedTypes (pointers ls)} (x ▹ listedNames ls) next (check (x ▹ listedNames ls) e))
+      → ((υ : ValueType) (ls : NamedScalars Γ) → Spelt t l (k + b) {Γ = υ ∷ listedTypes (anyType (pointers ls))} (x ▹ listedNames ls) next (check (x ▹ listedNames ls) e))
       → Spelt t (suc l) k scope next (check scope (each k x y us e))
   unfolding check
   spelt-each {x = x} {y = y} {us = us} e h s =
-      let Listing = List (Variable × (Γ ∋ 0)) in
-      let shut : (c : ℕ) → (Γ ∋ suc c) → (ls : Listing) → (d : ℕ) → Term (c ∷ listedTypes (pointers ls)) d → Typed Γ =
-      λ c v ls d f. typed (suc d) (terms.each v (pointers ls) f) in
-      let whole : (c : ℕ) → (Γ ∋ suc c) → (ls : Listing) → (d : ℕ) → Term (c ∷ listedTypes (pointers ls)) d → Typed Γ =
-      λ c v ls d f. demand (ltb d mostDepth) (WrongType k) (shut c v ls d f) in
-      let body : (c : ℕ) → (Γ ∋ suc c) → Listing → Typed Γ = λ c v ls. typedThen (check (x ▹ listedNames ls) e) (whole c v ls) in
-      let over : (c : ℕ) → (Γ ∋ suc c) → Typed Γ = λ c v. typedIf k (listedInts scope us) (body c v) in
+      let shut : (υ : ValueType) → (Γ ∋ braces υ) → (ls : NamedScalars Γ) → (τ : ValueType) → Term (υ ∷ listedTypes (anyType (pointers ls))) τ → Typed Γ =
+      λ υ v ls τ f. typed (braces τ) (terms.each v (pointers ls) f) in
+      let whole : (υ : ValueType) → (Γ ∋ braces υ) → (ls : NamedScalars Γ) → (τ : ValueType) → Term (υ ∷ listedTypes (anyType (pointers ls))) τ → Typed Γ =
+      λ υ v ls τ f. demand (ltb (depthOf τ) mostDepth) (WrongType k) (shut υ v ls τ f) in
+      let body : (υ : ValueType) → (Γ ∋ braces υ) → NamedScalars Γ → Typed Γ = λ υ v ls. typedThen (check (x ▹ listedNames ls) e) (whole υ v ls) in
+      let over : (υ : ValueType) → (Γ ∋ braces υ) → Typed Γ = λ υ v. typedIf k (listedScalars scope us) (body υ v) in
       demanded (isBound (find y scope) && usable scope x us) (Unbound k) (typedSequence k (asSequence (find y scope)) over)
       (λ b.
       sequential k (asSequence (find y scope)) over
-      (λ c v qv.
-      optional k (listedInts scope us) (body c v)
+      (λ υ v qv.
+      optional k (listedScalars scope us) (body υ v)
       (λ ls ql.
-      after (check (x ▹ listedNames ls) e) (whole c v ls)
-      (λ d f qf.
-      demanded (ltb d mostDepth) (WrongType k) (shut c v ls d f)
-      (λ lt. record { told = formed-each h qv ql (given (s c ls) qf) lt })))))
+      after (check (x ▹ listedNames ls) e) (whole υ v ls)
+      (λ τ f qf.
+      demanded (ltb (depthOf τ) mostDepth) (WrongType k) (shut υ v ls τ f)
+      (λ lt. record { told = formed-each h qv ql (given (s υ ls) qf) lt })))))
 
 -- one more record was allowed
 uncounted : (k n : ℕ) (s : Scanned) {e : Raw} {next m : ℕ} → counted k n s ≡ scanned e next m → s ≡ scanned e next m
@@ -232,11 +232,11 @@ scan-suc levels t k n = refl
 
 -- What is read at every place, under every scope, with so many nestings left, is spelt.
 record Reads (t : List ℕ) (levels : ℕ) : Type 0 where
-  reads : (k n : ℕ) {Γ : List ℕ} (scope : All Name Γ) {e : Raw} {next m : ℕ}
+  reads : (k n : ℕ) {Γ : List ValueType} (scope : All Name Γ) {e : Raw} {next m : ℕ}
       → scan levels t k n ≡ scanned e next m
       → Spelt t levels k scope next (check scope e)
 
-module _ (t : List ℕ) (l : ℕ) (ih : Reads t l) (k n : ℕ) {Γ : List ℕ} (scope : All Name Γ) {e : Raw} {next m : ℕ} where
+module _ (t : List ℕ) (l : ℕ) (ih : Reads t l) (k n : ℕ) {Γ : List ValueType} (scope : All Name Γ) {e : Raw} {next m : ℕ} where
   -- a record with no expression behind it
   alone : (f : Raw) (b : ℕ)
       → scanHead l t k n (single f b) ≡ scanned e next m
@@ -255,7 +255,7 @@ module _ (t : List ℕ) (l : ℕ) (ih : Reads t l) (k n : ℕ) {Γ : List ℕ} (
           → Onward (scan l t k₁ n₁) (λ e₂ k₂ n₂. scanned (bind k x e₁ e₂) k₂ n₂) (scanned e next m)
           → Spelt t (suc l) k scope next (check scope e)
       go₂ e₁ k₁ n₁ q₁ (onward e₂ k₂ n₂ q₂ z) =
-          moved (cc) (cc) (spelt-bind t scope e₁ e₂ h (ih .reads (k + 3) (n + 1) scope q₁) (λ c. ih .reads k₁ n₁ (x ▹ scope) q₂))
+          moved (cc) (cc) (spelt-bind t scope e₁ e₂ h (ih .reads (k + 3) (n + 1) scope q₁) (λ υ. ih .reads k₁ n₁ (x ▹ scope) q₂))
 
       go₁ : Onward (scan l t (k + 3) (n + 1)) (λ e₁ k₁ n₁. thenScan (scan l t k₁ n₁) (λ e₂ k₂ n₂. scanned (bind k x e₁ e₂) k₂ n₂)) (scanned e next m)
           → Spelt t (suc l) k scope next (check scope e)
@@ -269,7 +269,7 @@ module _ (t : List ℕ) (l : ℕ) (ih : Reads t l) (k n : ℕ) {Γ : List ℕ} (
       go : Onward (scan l t (k + b) (n + 1)) (λ e₁ k₁ n₁. scanned (each k x y us e₁) k₁ n₁) (scanned e next m)
           → Spelt t (suc l) k scope next (check scope e)
       go (onward e₁ k₁ n₁ q₁ z) =
-          moved (cc) (cc) (spelt-each t scope e₁ h (λ c ls. ih .reads (k + b) (n + 1) (x ▹ listedNames ls) q₁))
+          moved (cc) (cc) (spelt-each t scope e₁ h (λ υ ls. ih .reads (k + b) (n + 1) (x ▹ listedNames ls) q₁))
 
   headed : (h : Head) → headAt t k ≡ h → Proper t k h → scanHead l t k n h ≡ scanned e next m → Spelt t (suc l) k scope next (check scope e)
   headed _ h proper-absent q = let z : _≡_ {A = ℕ} 0 1 = cc in absurd (omega arith)
@@ -289,10 +289,10 @@ reading t (suc l) =
     let ih = reading t l in
     record { reads = λ k n scope q. headed t l ih k n scope (headAt t k) refl (proper t k) (sym (scan-suc l t k n) ∙ q) }
 
-pub formed : (t : List ℕ) (levels k n : ℕ) {Γ : List ℕ} (scope : All Name Γ) {e : Raw} {next m d : ℕ} {f : Term Γ d}
+pub formed : (t : List ℕ) (levels k n : ℕ) {Γ : List ValueType} (scope : All Name Γ) {e : Raw} {next m : ℕ} {τ : ValueType} {f : Term Γ τ}
     → scan levels t k n ≡ scanned e next m
-    → check scope e ≡ typed d f
-    → Formed t levels k Γ scope d f next
+    → check scope e ≡ typed τ f
+    → Formed t levels k Γ scope τ f next
 formed t levels k n scope read checked = given (reading t levels .reads k n scope read) checked
 
 -- The bytes of a formed expression lie within the text, and there is at least one.
@@ -322,8 +322,8 @@ reach-within (proper-eaching w) = w
 headed-within : (t : List ℕ) (k : ℕ) {h : Head} → headAt t k ≡ h → reach k h ≤ length t
 headed-within t k q = transport (λ i. reach k (q i) ≤ length t) (reach-within (proper t k))
 
-pub spans : {t : List ℕ} {levels k : ℕ} {Γ : List ℕ} {scope : All Name Γ} {d : ℕ} {e : Term Γ d} {next : ℕ}
-    → Formed t levels k Γ scope d e next
+pub spans : {t : List ℕ} {levels k : ℕ} {Γ : List ValueType} {scope : All Name Γ} {τ : ValueType} {e : Term Γ τ} {next : ℕ}
+    → Formed t levels k Γ scope τ e next
     → Spans t k next
 spans {t} {k = k} (formed-var h f) = record { within = headed-within t k h; some = omega arith }
 spans {t} {k = k} (formed-const h) = record { within = headed-within t k h; some = omega arith }
@@ -416,31 +416,31 @@ module _ (t : List ℕ) {is : List Input} {k : ℕ} {e : Raw} {next : ℕ} where
       fronts (front is′ k′ e′ next′) qf q = spelled is′ k′ e′ next′ (textsAt (length is′) t next′) qf q
 
 -- the inputs' names are told apart before the expression is walked
-module _ (is : List Input) (e : Raw) {d : ℕ} {f : Term (context is) d} where
-  pub checked-inputs : checkFormula is e ≡ typed d f → (repeated [] is ≡ none) × (check (turned ∅ (inputNames is)) e ≡ typed d f)
+module _ (is : List Input) (e : Raw) {τ : ValueType} {f : Term (context is) τ} where
+  pub checked-inputs : checkFormula is e ≡ typed τ f → (repeated [] is ≡ none) × (check (turned ∅ (inputNames is)) e ≡ typed τ f)
   checked-inputs = go (repeated [] is) refl
     where
-      go : (o : Option ℕ) → repeated [] is ≡ o → checkInputs o (check (turned ∅ (inputNames is)) e) ≡ typed d f
-          → (repeated [] is ≡ none) × (check (turned ∅ (inputNames is)) e ≡ typed d f)
+      go : (o : Option ℕ) → repeated [] is ≡ o → checkInputs o (check (turned ∅ (inputNames is)) e) ≡ typed τ f
+          → (repeated [] is ≡ none) × (check (turned ∅ (inputNames is)) e ≡ typed τ f)
       go none r q = (r, q)
       go (some p) r q = let z : _≡_ {A = ℕ} 0 1 = cc in absurd (omega arith)
 
 -- A formula's expression that is read and checked, as its bytes have it.
-pub record FormulaFormed (t : List ℕ) (is : List Input) (k : ℕ) {d : ℕ} (f : Term (context is) d) (next : ℕ) : Type 0 where
-  pub formed : Formed t (suc mostNesting) k (context is) (turned ∅ (inputNames is)) d f next
+pub record FormulaFormed (t : List ℕ) (is : List Input) (k : ℕ) {τ : ValueType} (f : Term (context is) τ) (next : ℕ) : Type 0 where
+  pub formed : Formed t (suc mostNesting) k (context is) (turned ∅ (inputNames is)) τ f next
   pub within : next ≤ length t
   pub short : length t ≤ mostBytes
   pub apart : repeated [] is ≡ none
 
-module _ (t : List ℕ) {is : List Input} {k : ℕ} {e : Raw} {next d : ℕ} {f : Term (context is) d} where
-  front-formed : FrontRead t is k e next → checkFormula is e ≡ typed d f → FormulaFormed t is k f next
+module _ (t : List ℕ) {is : List Input} {k : ℕ} {e : Raw} {next : ℕ} {τ : ValueType} {f : Term (context is) τ} where
+  front-formed : FrontRead t is k e next → checkFormula is e ≡ typed τ f → FormulaFormed t is k f next
   front-formed r q =
       let both = checked-inputs is e q in
       let w = formed t (suc mostNesting) k 0 (turned ∅ (inputNames is)) (r .expression) (both .1) in
       record { formed = w; within = spans w .within; short = r .short; apart = both .0 }
 
-  pub formula-formed : readFormula t ≡ front is k e next → checkFormula is e ≡ typed d f → FormulaFormed t is k f next
+  pub formula-formed : readFormula t ≡ front is k e next → checkFormula is e ≡ typed τ f → FormulaFormed t is k f next
   formula-formed r q = front-formed (formula-read t r .read) q
 
-  pub job-formed : {ss : List Span} → readJob t ≡ job is k e next ss → checkFormula is e ≡ typed d f → FormulaFormed t is k f next
+  pub job-formed : {ss : List Span} → readJob t ≡ job is k e next ss → checkFormula is e ≡ typed τ f → FormulaFormed t is k f next
   job-formed r q = front-formed (job-read t r) q
