@@ -1,4 +1,5 @@
 -- The theorems about the definitions; Statements has what each says.
+pub mod Bools
 pub mod Compiled
 pub mod Bounded
 pub mod Correctness
