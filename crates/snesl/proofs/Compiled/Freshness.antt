@@ -8,11 +8,13 @@ use mathlib.Core.Logic.{_⊎_, inl, inr, ⊎-elim}
 use mathlib.Core.Path.{_≡_, refl, _∙_, ap, ap₂}
 use lib.IntN.{pos}
 use lib.ListN.{length}
+use Rattle.snesl.specs.declared.code.Base.{Base}
 use Rattle.snesl.specs.declared.code.Transducer.the-variants.{Const, ToFlags, Usum, ScanPlus, Distr}
 use Rattle.snesl.specs.declared.code.Transducer.{Transducer}
 use Rattle.snesl.specs.Transducers.{operands}
-use Rattle.snesl.specs.Terms.{_∋_, here, there, Term, var, bind, const, iota, plus, sum, each, listedTypes, All, _▹_, lookup}
-use Rattle.snesl.specs.Trees.{Tree, leaf, node, inner, outer, root, order}
+use Rattle.snesl.specs.Values.{ValueType, scalar, braces, int}
+use Rattle.snesl.specs.Terms.{_∋_, here, there, Term, var, bind, const, iota, plus, sum, each, Scalars, anyType, listedTypes, All, _▹_, lookup}
+use Rattle.snesl.specs.Trees.{Tree, IdTree, leaf, node, inner, outer, root, order}
 use Rattle.snesl.specs.Programs.{Program, done, define, withCtrl, _⨾_, count, without, dv, fv, ascending, among, Within}
 use Rattle.snesl.specs.Translation.{id, size, numbered, within, tree, distrs, controlled, code}
 use Rattle.snesl.specs.Ids.{idsOf, Below}
@@ -32,20 +34,20 @@ pub order-root : (t : Tree ℕ 0) → root t ∈ order t
 unfolding order root
 order-root (leaf a) = List·Memᴰ·head refl
 
-pub ids-lookup : {Γ : List ℕ} {d : ℕ} (x : Γ ∋ d) (δ : All (Tree ℕ) Γ) → Within (order (lookup x δ)) (idsOf δ)
+pub ids-lookup : {Γ : List ValueType} {τ : ValueType} (x : Γ ∋ τ) (δ : All IdTree Γ) → Within (order (lookup x δ)) (idsOf δ)
 unfolding idsOf lookup
 ids-lookup here (t ▹ δ) u h = Memᴰ·append-left (idsOf δ) h
 ids-lookup (there x) (t ▹ δ) u h = Memᴰ·append-right (order t) (ids-lookup x δ u h)
 
-pub ids-root : {Γ : List ℕ} (x : Γ ∋ 0) (δ : All (Tree ℕ) Γ) → root (lookup x δ) ∈ idsOf δ
+pub ids-root : {Γ : List ValueType} {b : Base} (x : Γ ∋ scalar b) (δ : All IdTree Γ) → root (lookup x δ) ∈ idsOf δ
 ids-root x δ = ids-lookup x δ _ (order-root (lookup x δ))
 
-pub ids-outer : {Γ : List ℕ} {c : ℕ} (y : Γ ∋ suc c) (δ : All (Tree ℕ) Γ) → outer (lookup y δ) ∈ idsOf δ
+pub ids-outer : {Γ : List ValueType} {υ : ValueType} (y : Γ ∋ braces υ) (δ : All IdTree Γ) → outer (lookup y δ) ∈ idsOf δ
 ids-outer y δ = ids-lookup y δ _ (order-outer (lookup y δ))
 
-pub of-ids : {Γ : List ℕ} {d u : ℕ} (t : Tree ℕ d) (δ : All (Tree ℕ) Γ) → u ∈ idsOf (t ▹ δ) → (u ∈ order t) ⊎ (u ∈ idsOf δ)
+pub of-ids : {Γ : List ValueType} {u : ℕ} (τ : ValueType) (t : IdTree τ) (δ : All IdTree Γ) → u ∈ idsOf (_▹_ {τ = τ} t δ) → (u ∈ order t) ⊎ (u ∈ idsOf δ)
 unfolding idsOf
-of-ids t δ h = List·Memᴰ·append-cases (order t) h
+of-ids τ t δ h = List·Memᴰ·append-cases (order t) h
 
 pub of-node : {d a u : ℕ} (t : Tree ℕ d) → u ∈ order (node t a) → (u ∈ order t) ⊎ (u ≡ a)
 unfolding order
@@ -96,43 +98,43 @@ module _ {d : ℕ} (c s : ℕ) (p : Program) (st : Tree ℕ d) where
       (List·Memᴰ·append-cases (c ∷ taken (controlled c s p st)) h)
 
 -- the definitions that a comprehension has before its WithCtrl: the new control stream, and a copy of each listed variable
-abbrev pub copies : {Γ : List ℕ} → ℕ → List (Γ ∋ 0) → All (Tree ℕ) Γ → Program
+abbrev pub copies : {Γ : List ValueType} → ℕ → Scalars Γ → All IdTree Γ → Program
 copies b us δ = distrs b us δ done
 
-abbrev pub front : {Γ : List ℕ} {c : ℕ} → Γ ∋ suc c → List (Γ ∋ 0) → All (Tree ℕ) Γ → Program
+abbrev pub front : {Γ : List ValueType} {υ : ValueType} → Γ ∋ braces υ → Scalars Γ → All IdTree Γ → Program
 front y us δ = define (Usum (id (outer (lookup y δ)))) (copies (outer (lookup y δ)) us δ)
 
-copies-seq : {Γ : List ℕ} (b : ℕ) (us : List (Γ ∋ 0)) (δ : All (Tree ℕ) Γ) (p : Program) → distrs b us δ p ≡ copies b us δ ⨾ p
+copies-seq : {Γ : List ValueType} (b : ℕ) (us : Scalars Γ) (δ : All IdTree Γ) (p : Program) → distrs b us δ p ≡ copies b us δ ⨾ p
 unfolding distrs _⨾_
 copies-seq b [] δ p = refl
-copies-seq b (u ∷ us) δ p = ap (define (Distr (id b) (id (root (lookup u δ))))) (copies-seq b us δ p)
+copies-seq b (u ∷ us) δ p = ap (define (Distr (id b) (id (root (lookup (u .1) δ))))) (copies-seq b us δ p)
 
-count-copies : {Γ : List ℕ} (b : ℕ) (us : List (Γ ∋ 0)) (δ : All (Tree ℕ) Γ) → count (copies b us δ) ≡ length us
+count-copies : {Γ : List ValueType} (b : ℕ) (us : Scalars Γ) (δ : All IdTree Γ) → count (copies b us δ) ≡ length us
 unfolding distrs count
 count-copies b [] δ = refl
 count-copies b (u ∷ us) δ = ap suc (count-copies b us δ)
 
-pub dv-copies : {Γ : List ℕ} (a b : ℕ) (us : List (Γ ∋ 0)) (δ : All (Tree ℕ) Γ) → dv a (copies b us δ) ≡ idsOf (numbered a us)
+pub dv-copies : {Γ : List ValueType} (a b : ℕ) (us : Scalars Γ) (δ : All IdTree Γ) → dv a (copies b us δ) ≡ idsOf (numbered a us)
 unfolding distrs dv idsOf numbered order
 dv-copies a b [] δ = refl
 dv-copies a b (u ∷ us) δ = ap (λ l. a ∷ l) (dv-copies (suc a) b us δ)
 
-fv-copies : {Γ : List ℕ} (a b : ℕ) (us : List (Γ ∋ 0)) (δ : All (Tree ℕ) Γ) → b ∈ idsOf δ → Within (fv a (copies b us δ)) (idsOf δ)
+fv-copies : {Γ : List ValueType} (a b : ℕ) (us : Scalars Γ) (δ : All IdTree Γ) → b ∈ idsOf δ → Within (fv a (copies b us δ)) (idsOf δ)
 unfolding distrs fv
 fv-copies a b [] δ m u h = absurd (List·Memᴰ·not-nil h)
 fv-copies a b (v ∷ us) δ m u h =
     ⊎-elim (λ k. Memᴰ·cast k m)
-    (λ k. ⊎-elim (λ r. Memᴰ·cast r (ids-root v δ)) (λ r. fv-copies (suc a) b us δ m u (of-without _ (a ∷ []) r .0)) (List·Memᴰ·cases-cons k))
+    (λ k. ⊎-elim (λ r. Memᴰ·cast r (ids-root (v .1) δ)) (λ r. fv-copies (suc a) b us δ m u (of-without _ (a ∷ []) r .0)) (List·Memᴰ·cases-cons k))
     (List·Memᴰ·cases-cons h)
 
 -- the copies' ids are the next ones
-pub ids-numbered : {Γ : List ℕ} {u : ℕ} (a : ℕ) (us : List (Γ ∋ 0)) → u ∈ idsOf (numbered a us) → (a ≤ u) × (u < a + length us)
+pub ids-numbered : {Γ : List ValueType} {u : ℕ} (a : ℕ) (us : Scalars Γ) → u ∈ idsOf (numbered a us) → (a ≤ u) × (u < a + length us)
 unfolding idsOf numbered order
 ids-numbered a [] h = absurd (List·Memᴰ·not-nil h)
 ids-numbered a (v ∷ us) h =
     ⊎-elim (λ e. (omega arith, omega arith)) (λ m. let r = ids-numbered (suc a) us m in (omega arith, omega arith)) (List·Memᴰ·cases-cons h)
 
-module _ {Γ : List ℕ} {c : ℕ} (y : Γ ∋ suc c) (us : List (Γ ∋ 0)) (δ : All (Tree ℕ) Γ) where
+module _ {Γ : List ValueType} {υ : ValueType} (y : Γ ∋ braces υ) (us : Scalars Γ) (δ : All IdTree Γ) where
   pub count-front : count (front y us δ) ≡ 1 + length us
   unfolding count
   count-front = omega (arith, count-copies (outer (lookup y δ)) us δ)
@@ -151,7 +153,7 @@ module _ {Γ : List ℕ} {c : ℕ} (y : Γ ∋ suc c) (us : List (Γ ∋ 0)) (δ
   fv-front s u h =
       ⊎-elim (λ e. Memᴰ·cast e (ids-outer y δ)) (λ m. fv-copies (suc s) _ us δ (ids-outer y δ) u (of-without _ (s ∷ []) m .0)) (List·Memᴰ·cases-cons h)
 
-  pub code-each : {d : ℕ} (e : Term (c ∷ listedTypes us) d) (s : ℕ)
+  pub code-each : {τ : ValueType} (e : Term (υ ∷ listedTypes (anyType us)) τ) (s : ℕ)
       → code (each y us e) δ s
       ≡ front y us δ
       ⨾ controlled s (s + (1 + length us)) (code e (within y us δ s) (s + (1 + length us))) (tree e (within y us δ s) (s + (1 + length us)))
@@ -168,7 +170,7 @@ ones s = controlled (s + 1) (s + 2) (define (Const (pos 1)) done) (leaf (s + 2))
 abbrev pub totals : ℕ → Program
 totals s = define (ScanPlus (pos 0) (id s) (id (s + 2))) done
 
-pub code-iota : {Γ : List ℕ} (x : Γ ∋ 0) (δ : All (Tree ℕ) Γ) (s : ℕ) → code (iota x) δ s ≡ lead (root (lookup x δ)) s ⨾ (ones s ⨾ totals s)
+pub code-iota : {Γ : List ValueType} (x : Γ ∋ int) (δ : All IdTree Γ) (s : ℕ) → code (iota x) δ s ≡ lead (root (lookup x δ)) s ⨾ (ones s ⨾ totals s)
 unfolding code _⨾_
 code-iota x δ s = refl
 
@@ -188,7 +190,7 @@ unfolding order dv
 ones-puts-out a s = to-dv-controlled (s + 1) (s + 2) (define (Const (pos 1)) done) (leaf (s + 2)) a (List·Memᴰ·head refl) (List·Memᴰ·head refl)
 
 -- a formula's code defines as many streams as its size says
-pub count-code : {Γ : List ℕ} {d : ℕ} (e : Term Γ d) (δ : All (Tree ℕ) Γ) (s : ℕ) → count (code e δ s) ≡ size e
+pub count-code : {Γ : List ValueType} {τ : ValueType} (e : Term Γ τ) (δ : All IdTree Γ) (s : ℕ) → count (code e δ s) ≡ size e
 unfolding code size
 count-code (var x) δ s = unfold count in refl
 count-code (bind e₁ e₂) δ s =
@@ -216,7 +218,7 @@ iota-data r s =
 
 -- a comprehension's code, for any body: it makes known its control stream, its copies and what the body makes known of the result, and uses what its
 -- environment names where the body uses what the body's environment names
-module _ {Γ : List ℕ} {c d : ℕ} (y : Γ ∋ suc c) (us : List (Γ ∋ 0)) (δ : All (Tree ℕ) Γ) (s : ℕ) (body : Program) (st : Tree ℕ d) where
+module _ {Γ : List ValueType} {υ : ValueType} {d : ℕ} (y : Γ ∋ braces υ) (us : Scalars Γ) (δ : All IdTree Γ) (s : ℕ) (body : Program) (st : Tree ℕ d) where
   abbrev pub inside : Program
   inside = controlled s (s + (1 + length us)) body st
 
@@ -240,18 +242,18 @@ module _ {Γ : List ℕ} {c d : ℕ} (y : Γ ∋ suc c) (us : List (Γ ∋ 0)) (
           ⊎-elim (λ k. absurd (n (rw dv-front (List·Memᴰ·head k))))
           (λ k.
           ⊎-elim (λ j. ids-lookup y δ u (order-inner (lookup y δ) u j)) (λ j. absurd (n (rw dv-front (List·Memᴰ·tail j))))
-          (of-ids (inner (lookup y δ)) (numbered (suc s) us) (below u k)))
+          (of-ids _ (inner (lookup y δ)) (numbered (suc s) us) (below u k)))
           (of-fv-controlled s (s + (1 + length us)) body st _ m)
 
 -- the tree of a result names ids that the environment names or that the code makes known
-pub result-ids : {Γ : List ℕ} {d u : ℕ} (e : Term Γ d) (δ : All (Tree ℕ) Γ) (s : ℕ)
+pub result-ids : {Γ : List ValueType} {τ : ValueType} {u : ℕ} (e : Term Γ τ) (δ : All IdTree Γ) (s : ℕ)
     → u ∈ order (tree e δ s)
     → (u ∈ idsOf δ) ⊎ (u ∈ dv s (code e δ s))
 unfolding tree
 result-ids (var x) δ s h = inl (ids-lookup x δ _ h)
 result-ids {u = u} (bind e₁ e₂) δ s h =
     ⊎-elim
-    (λ m. ⊎-elim (λ k. ⊎-elim inl (λ j. inr (early j)) (result-ids e₁ δ s k)) inl (of-ids (tree e₁ δ s) δ m))
+    (λ m. ⊎-elim (λ k. ⊎-elim inl (λ j. inr (early j)) (result-ids e₁ δ s k)) inl (of-ids _ (tree e₁ δ s) δ m))
     (λ m. inr (late m))
     (result-ids e₂ (tree e₁ δ s ▹ δ) (s + size e₁) h)
   where
@@ -267,7 +269,7 @@ result-ids (iota x) δ s h =
     (⊎-elim (λ m. Memᴰ·cast (of-leaf m) (iota-data _ s)) (λ e. Memᴰ·cast e (iota-flags _ s)) (of-node (leaf (s + 3)) h)))
 result-ids (plus x y) δ s h = inr (unfold code dv order in h)
 result-ids (sum x) δ s h = inr (unfold code dv order in h)
-result-ids {u = u} (each {d = d} y us e) δ s h =
+result-ids {u = u} (each {τ = τ} y us e) δ s h =
     rw (code-each y us δ e s)
     (⊎-elim
     (λ m. ⊎-elim outside-body (λ j. inr (each-result y us δ s body st m j)) (result-ids e (within y us δ s) (s + (1 + length us)) m))
@@ -277,13 +279,13 @@ result-ids {u = u} (each {d = d} y us e) δ s h =
     body : Program
     body = code e (within y us δ s) (s + (1 + length us))
 
-    st : Tree ℕ d
+    st : IdTree τ
     st = tree e (within y us δ s) (s + (1 + length us))
 
     outside-body : u ∈ idsOf (within y us δ s) → (u ∈ idsOf δ) ⊎ (u ∈ dv s (front y us δ ⨾ inside y us δ s body st))
     outside-body m =
         ⊎-elim (λ k. inl (ids-lookup y δ u (order-inner (lookup y δ) u k))) (λ k. inr (each-copies y us δ s body st k))
-        (of-ids (inner (lookup y δ)) (numbered (suc s) us) m)
+        (of-ids _ (inner (lookup y δ)) (numbered (suc s) us) m)
 
 -- iota's code uses the stream of its n and nothing else
 pub fv-lead : (r s : ℕ) → Within (fv s (lead r s)) (r ∷ [])
@@ -315,14 +317,14 @@ fv-iota r s u h = ⊎-elim (fv-lead r s u) (λ m. absurd (later (m .0) (m .1))) 
         (of-fv-seq (s + 2) 1 (ones s) (totals s) (count-ones s) m)
 
 -- a formula's code uses only ids that its environment names
-pub free-ids : {Γ : List ℕ} {d : ℕ} (e : Term Γ d) (δ : All (Tree ℕ) Γ) (s : ℕ) → Within (fv s (code e δ s)) (idsOf δ)
+pub free-ids : {Γ : List ValueType} {τ : ValueType} (e : Term Γ τ) (δ : All IdTree Γ) (s : ℕ) → Within (fv s (code e δ s)) (idsOf δ)
 unfolding code
 free-ids (var x) δ s u h = let none : u ∈ [] = unfold fv in h in absurd (List·Memᴰ·not-nil none)
 free-ids (bind e₁ e₂) δ s u h =
     ⊎-elim (free-ids e₁ δ s u)
     (λ m.
     ⊎-elim (λ k. ⊎-elim (λ j. j) (λ j. absurd (m .1 j)) (result-ids e₁ δ s k)) (λ k. k)
-    (of-ids (tree e₁ δ s) δ (free-ids e₂ (tree e₁ δ s ▹ δ) (s + size e₁) u (m .0))))
+    (of-ids _ (tree e₁ δ s) δ (free-ids e₂ (tree e₁ δ s ▹ δ) (s + size e₁) u (m .0))))
     (of-fv-seq s (size e₁) (code e₁ δ s) (code e₂ (tree e₁ δ s ▹ δ) (s + size e₁)) (count-code e₁ δ s) h)
 free-ids (const n) δ s u h = absurd (List·Memᴰ·not-nil (fv-alone s (Const n) u h))
 free-ids (iota x) δ s u h =
@@ -354,7 +356,7 @@ dv-iota r s h =
     (of-dv-seq s 2 (lead r s) (ones s ⨾ totals s) (count-lead r s) h)
 
 -- a formula's code defines ids from where it starts, as many as its size says
-pub defined-next : {Γ : List ℕ} {d u : ℕ} (e : Term Γ d) (δ : All (Tree ℕ) Γ) (s : ℕ) → u ∈ dv s (code e δ s) → (s ≤ u) × (u < s + size e)
+pub defined-next : {Γ : List ValueType} {τ : ValueType} {u : ℕ} (e : Term Γ τ) (δ : All IdTree Γ) (s : ℕ) → u ∈ dv s (code e δ s) → (s ≤ u) × (u < s + size e)
 unfolding code size
 defined-next {u = u} (var x) δ s h = let none : u ∈ [] = unfold dv in h in absurd (List·Memᴰ·not-nil none)
 defined-next (bind e₁ e₂) δ s h =
@@ -371,5 +373,5 @@ defined-next (each y us e) δ s h =
     (of-dv-each y us δ s _ _ (rw (code-each y us δ e s) at h))
 
 -- so where the environment's ids are given out before s, so are all ids that the code uses
-pub free-below : {Γ : List ℕ} {d s : ℕ} (e : Term Γ d) (δ : All (Tree ℕ) Γ) → Below s (idsOf δ) → Below s (fv s (code e δ s))
+pub free-below : {Γ : List ValueType} {τ : ValueType} {s : ℕ} (e : Term Γ τ) (δ : All IdTree Γ) → Below s (idsOf δ) → Below s (fv s (code e δ s))
 free-below {s = s} e δ below u m = below u (free-ids e δ s u m)

@@ -11,8 +11,9 @@ use lib.ListN.{length}
 use Rattle.snesl.specs.declared.code.Transducer.{Transducer}
 use Rattle.snesl.specs.declared.code.Transducer.the-variants.{Const}
 use Rattle.snesl.specs.Transducers.{operands}
-use Rattle.snesl.specs.Terms.{_∋_, Term, var, bind, const, iota, plus, sum, each, All, _▹_, lookup}
-use Rattle.snesl.specs.Trees.{Tree, leaf, inner}
+use Rattle.snesl.specs.Values.{ValueType, braces}
+use Rattle.snesl.specs.Terms.{_∋_, Term, var, bind, const, iota, plus, sum, each, Scalars, All, _▹_, lookup}
+use Rattle.snesl.specs.Trees.{Tree, IdTree, leaf, inner}
 use Rattle.snesl.specs.Programs.{Program, done, define, _⨾_, count, dv, fv, Within, Scoped, scoped-done, scoped-define, scoped-withCtrl}
 use Rattle.snesl.specs.Translation.{size, numbered, within, tree, distrs, controlled, code}
 use Rattle.snesl.specs.Ids.{idsOf}
@@ -114,19 +115,19 @@ scoped-iota {ks} {r} s h =
     none : Within (fv (s + 2) (define (Const (pos 1)) done)) (dv s (lead r s) ++ ks)
     none u m = absurd (List·Memᴰ·not-nil (fv-alone (s + 2) (Const (pos 1)) u m))
 
-scoped-copies : {Γ : List ℕ} {ks : List ℕ} {a b : ℕ} (us : List (Γ ∋ 0)) (δ : All (Tree ℕ) Γ) → b ∈ ks → Within (idsOf δ) ks → Scoped ks a (copies b us δ)
+scoped-copies : {Γ : List ValueType} {ks : List ℕ} {a b : ℕ} (us : Scalars Γ) (δ : All IdTree Γ) → b ∈ ks → Within (idsOf δ) ks → Scoped ks a (copies b us δ)
 unfolding distrs
 scoped-copies [] δ h all = scoped-done
 scoped-copies (v ∷ us) δ h all =
-    scoped-define (within-two h (all _ (ids-root v δ))) (scoped-copies us δ (List·Memᴰ·tail h) (λ u m. List·Memᴰ·tail (all u m)))
+    scoped-define (within-two h (all _ (ids-root (v .1) δ))) (scoped-copies us δ (List·Memᴰ·tail h) (λ u m. List·Memᴰ·tail (all u m)))
 
-scoped-front : {Γ : List ℕ} {ks : List ℕ} {c s : ℕ} (y : Γ ∋ suc c) (us : List (Γ ∋ 0)) (δ : All (Tree ℕ) Γ) → Within (idsOf δ) ks → Scoped ks s (front y us δ)
+scoped-front : {Γ : List ValueType} {ks : List ℕ} {υ : ValueType} {s : ℕ} (y : Γ ∋ braces υ) (us : Scalars Γ) (δ : All IdTree Γ) → Within (idsOf δ) ks → Scoped ks s (front y us δ)
 scoped-front y us δ all =
     let h = all _ (ids-outer y δ) in
     scoped-define (within-one h) (scoped-copies us δ (List·Memᴰ·tail h) (λ u m. List·Memᴰ·tail (all u m)))
 
 -- for δ ⊢ e ⇒ (p, st): p uses only what is known, where all of δ's ids are known
-pub scoped-code : {Γ : List ℕ} {ks : List ℕ} {d : ℕ} (e : Term Γ d) (δ : All (Tree ℕ) Γ) (s : ℕ) → Within (idsOf δ) ks → Scoped ks s (code e δ s)
+pub scoped-code : {Γ : List ValueType} {ks : List ℕ} {τ : ValueType} (e : Term Γ τ) (δ : All IdTree Γ) (s : ℕ) → Within (idsOf δ) ks → Scoped ks s (code e δ s)
 unfolding code
 scoped-code (var x) δ s all = scoped-done
 scoped-code {ks = ks} (bind e₁ e₂) δ s all =
@@ -134,7 +135,7 @@ scoped-code {ks = ks} (bind e₁ e₂) δ s all =
     (scoped-code e₂ (tree e₁ δ s ▹ δ) (s + size e₁)
     (λ u m.
     ⊎-elim (λ k. ⊎-elim (λ j. Memᴰ·append-right made (all u j)) (Memᴰ·append-left ks) (result-ids e₁ δ s k)) (λ k. Memᴰ·append-right made (all u k))
-    (of-ids (tree e₁ δ s) δ m)))
+    (of-ids _ (tree e₁ δ s) δ m)))
   where
     made : List ℕ
     made = dv s (code e₁ δ s)
@@ -144,7 +145,7 @@ scoped-code (plus x y) δ s all = scoped-alone (within-two (all _ (ids-root x δ
 scoped-code (sum x) δ s all =
     scoped-alone
     (within-two (all _ (ids-outer x δ)) (all _ (ids-lookup x δ _ (order-inner (lookup x δ) _ (order-root (inner (lookup x δ)))))))
-scoped-code {ks = ks} (each {d = d} y us e) δ s all =
+scoped-code {ks = ks} (each {τ = τ} y us e) δ s all =
     rw (code-each y us δ e s)
     (scoped-seq (scoped-front y us δ all) (ap (λ k. s + k) (count-front y us δ))
     (scoped-controlled st (scoped-code e (within y us δ s) a inside)
@@ -154,11 +155,11 @@ scoped-code {ks = ks} (each {d = d} y us e) δ s all =
     a : ℕ
     a = s + (1 + length us)
 
-    st : Tree ℕ d
+    st : IdTree τ
     st = tree e (within y us δ s) a
 
     inside : Within (idsOf (within y us δ s)) (dv s (front y us δ) ++ ks)
     inside u m =
         ⊎-elim (λ k. Memᴰ·append-right (dv s (front y us δ)) (all u (ids-lookup y δ u (order-inner (lookup y δ) u k))))
         (λ k. Memᴰ·append-left {s = dv s (front y us δ)} ks (rw dv-front (List·Memᴰ·tail k)))
-        (of-ids (inner (lookup y δ)) (numbered (suc s) us) m)
+        (of-ids _ (inner (lookup y δ)) (numbered (suc s) us) m)

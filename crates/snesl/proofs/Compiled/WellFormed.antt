@@ -9,8 +9,9 @@ use mathlib.Core.Path.{_≡_, refl, sym, _∙_, ap, subst}
 use lib.ListN.{length}
 use Rattle.snesl.specs.declared.code.Transducer.{Transducer}
 use Rattle.snesl.specs.Transducers.{operands}
-use Rattle.snesl.specs.Terms.{_∋_, Term, var, bind, const, iota, plus, sum, each, All, _▹_, lookup}
-use Rattle.snesl.specs.Trees.{Tree, leaf, inner, order}
+use Rattle.snesl.specs.Values.{ValueType, braces}
+use Rattle.snesl.specs.Terms.{_∋_, Term, var, bind, const, iota, plus, sum, each, Scalars, All, _▹_, lookup}
+use Rattle.snesl.specs.Trees.{Tree, IdTree, leaf, inner, order}
 use Rattle.snesl.specs.Programs.{Program, done, define, withCtrl, _⨾_, count, without, dv, fv, Within, Apart, WellFormed, well-done, well-define, well-withCtrl}
 use Rattle.snesl.specs.Translation.{size, numbered, within, tree, distrs, controlled, code}
 use Rattle.snesl.specs.Ids.{idsOf, Below}
@@ -218,37 +219,37 @@ well-iota {r} {s} low =
         high
 
 -- the front of a comprehension's code
-well-copies : {Γ : List ℕ} {a b : ℕ} (us : List (Γ ∋ 0)) (δ : All (Tree ℕ) Γ) → b < a → Below a (idsOf δ) → WellFormed a (copies b us δ)
+well-copies : {Γ : List ValueType} {a b : ℕ} (us : Scalars Γ) (δ : All IdTree Γ) → b < a → Below a (idsOf δ) → WellFormed a (copies b us δ)
 unfolding distrs
 well-copies [] δ low below = well-done
 well-copies {a = a} {b = b} (v ∷ us) δ low below =
-    well-first (below-two low (below _ (ids-root v δ))) (well-copies us δ (omega arith) (λ u m. let l = below u m in omega arith))
+    well-first (below-two low (below _ (ids-root (v .1) δ))) (well-copies us δ (omega arith) (λ u m. let l = below u m in omega arith))
     (λ u m. ids-numbered (suc a) us (rw dv-copies at m) .0)
 
-well-front : {Γ : List ℕ} {c s : ℕ} (y : Γ ∋ suc c) (us : List (Γ ∋ 0)) (δ : All (Tree ℕ) Γ) → Below s (idsOf δ) → WellFormed s (front y us δ)
+well-front : {Γ : List ValueType} {υ : ValueType} {s : ℕ} (y : Γ ∋ braces υ) (us : Scalars Γ) (δ : All IdTree Γ) → Below s (idsOf δ) → WellFormed s (front y us δ)
 well-front {s = s} y us δ below =
     let low = below _ (ids-outer y δ) in
     well-first (below-one low) (well-copies us δ (omega arith) (λ u m. let l = below u m in omega arith))
     (λ u m. ids-numbered (suc s) us (rw dv-copies at m) .0)
 
 -- the environments that code is translated in name ids given out before
-pub below-result : {Γ : List ℕ} {c s : ℕ} (e : Term Γ c) (δ : All (Tree ℕ) Γ) → Below s (idsOf δ) → Below (s + size e) (idsOf (tree e δ s ▹ δ))
+pub below-result : {Γ : List ValueType} {υ : ValueType} {s : ℕ} (e : Term Γ υ) (δ : All IdTree Γ) → Below s (idsOf δ) → Below (s + size e) (idsOf (_▹_ {τ = υ} (tree e δ s) δ))
 below-result {s = s} e δ below u m =
-    ⊎-elim (λ k. ⊎-elim early (λ j. defined-next e δ s j .1) (result-ids e δ s k)) early (of-ids (tree e δ s) δ m)
+    ⊎-elim (λ k. ⊎-elim early (λ j. defined-next e δ s j .1) (result-ids e δ s k)) early (of-ids _ (tree e δ s) δ m)
   where
     early : u ∈ idsOf δ → u < s + size e
     early k = let l = below u k in omega arith
 
-pub below-within : {Γ : List ℕ} {c s : ℕ} (y : Γ ∋ suc c) (us : List (Γ ∋ 0)) (δ : All (Tree ℕ) Γ)
+pub below-within : {Γ : List ValueType} {υ : ValueType} {s : ℕ} (y : Γ ∋ braces υ) (us : Scalars Γ) (δ : All IdTree Γ)
     → Below s (idsOf δ)
     → Below (s + (1 + length us)) (idsOf (within y us δ s))
 below-within {s = s} y us δ below u m =
     ⊎-elim (λ k. let l = below u (ids-lookup y δ u (order-inner (lookup y δ) u k)) in omega arith)
     (λ k. let l = ids-numbered (suc s) us k in omega arith)
-    (of-ids (inner (lookup y δ)) (numbered (suc s) us) m)
+    (of-ids _ (inner (lookup y δ)) (numbered (suc s) us) m)
 
 -- ⊩ p for δ ⊢ e ⇒ (p, st), with p's ids from s on, and δ's below s
-pub well-code : {Γ : List ℕ} {d s : ℕ} (e : Term Γ d) (δ : All (Tree ℕ) Γ) → Below s (idsOf δ) → WellFormed s (code e δ s)
+pub well-code : {Γ : List ValueType} {τ : ValueType} {s : ℕ} (e : Term Γ τ) (δ : All IdTree Γ) → Below s (idsOf δ) → WellFormed s (code e δ s)
 unfolding code
 well-code (var x) δ below = well-done
 well-code {s = s} (bind e₁ e₂) δ below =
@@ -262,7 +263,7 @@ well-code (plus x y) δ below = well-alone (below-two (below _ (ids-root x δ)) 
 well-code (sum x) δ below =
     well-alone
     (below-two (below _ (ids-outer x δ)) (below _ (ids-lookup x δ _ (order-inner (lookup x δ) _ (order-root (inner (lookup x δ)))))))
-well-code {s = s} (each {d = d} y us e) δ below =
+well-code {s = s} (each {τ = τ} y us e) δ below =
     rw (code-each y us δ e s)
     (well-seq (well-front y us δ below) (ap (λ k. s + k) (count-front y us δ))
     (well-controlled st (well-code e (within y us δ s) (below-within y us δ below)) (λ m. let l = defined-next e (within y us δ s) a m in omega arith))
@@ -273,5 +274,5 @@ well-code {s = s} (each {d = d} y us e) δ below =
     a : ℕ
     a = s + (1 + length us)
 
-    st : Tree ℕ d
+    st : IdTree τ
     st = tree e (within y us δ s) a
