@@ -18,7 +18,7 @@ use Rattle.snesl.specs.Translation.{size, numbered, tree, distrs, code}
 use Rattle.snesl.specs.Representation.{concat, segments, represent, regroup, values}
 use Rattle.snesl.specs.Text.{digitsThen, joined, show, digits, numberFrom, readItems, readValue}
 use Rattle.snesl.specs.Records.{variablesAt, variablesOk, headAt, scan, inputsAt, textsAt, frontOf}
-use Rattle.snesl.specs.Checking.{find, names, usable, listedInts, listedNames, check, turned, inputNames, repeated}
+use Rattle.snesl.specs.Checking.{find, names, usable, listedScalars, listedNames, check, turned, inputNames, repeated}
 use Rattle.snesl.specs.Inputs.{inputTree, inputTrees, inputStart, inputValues, inputStreams, inputOver}
 
 -- a job in 01's notation, with so many stream elements lent, prints this
@@ -38,5 +38,5 @@ pub table :
     × Prints (IN 0 1 ∷ SM 0 ∷ VA "{2147483647,1}" ∷ []) 16384 "refused 8 at 2\n"
     × Prints (IN 0 0 ∷ VR 0 ∷ VA "9" ∷ []) 16384 "value 9\nwork 0\nsteps 0\nroom 1\n"
     × Prints (VR 3 ∷ []) 16384 "refused 5 at 0\n"
-unfolding lookup listed contents misfit countF spread scans sums pluses firstOutside firstNegative unary apply _⨾_ count member without among dv fv insert ascending sumOf step skipped run inner outer root order mapTree size numbered tree distrs code concat segments represent regroup values digitsThen joined show digits numberFrom readItems readValue variablesAt variablesOk headAt scan inputsAt textsAt frontOf find names usable listedInts listedNames check turned inputNames repeated inputTree inputTrees inputStart inputValues inputStreams inputOver
+unfolding lookup listed contents misfit countF spread scans sums pluses firstOutside firstNegative unary apply _⨾_ count member without among dv fv insert ascending sumOf step skipped run inner outer root order mapTree size numbered tree distrs code concat segments represent regroup values digitsThen joined show digits numberFrom readItems readValue variablesAt variablesOk headAt scan inputsAt textsAt frontOf find names usable listedScalars listedNames check turned inputNames repeated inputTree inputTrees inputStart inputValues inputStreams inputOver
 table = (refl, refl, refl, refl, refl, refl, refl, refl, refl, refl, refl, refl)

@@ -16,6 +16,7 @@ use Rattle.snesl.specs.Values.{Element}
 use Rattle.snesl.specs.Streams.{dataOf, elements, bit, _then_}
 use Rattle.snesl.specs.Transducers.{flagOf, boolOf}
 use Rattle.snesl.specs.Representation.{isElement, areElements, scalars}
+use Rattle.snesl.proofs.Bools.{bools-bits}
 
 -- F as 0 and T as 1 is read as it was written, and nothing else is read
 pub flagOf-bit : (b : Bool) → flagOf (bit b) ≡ some b
@@ -54,9 +55,7 @@ elements-accepted base.Bool (true ∷ cs) = elements-accepted base.Bool cs
 
 pub scalars-elements : (b : Base) (vs : List (Element b)) → scalars b (elements (dataOf b vs)) ≡ vs
 scalars-elements base.Int zs = refl
-scalars-elements base.Bool [] = refl
-scalars-elements base.Bool (false ∷ cs) = ap (λ l. false ∷ l) (scalars-elements base.Bool cs)
-scalars-elements base.Bool (true ∷ cs) = ap (λ l. true ∷ l) (scalars-elements base.Bool cs)
+scalars-elements base.Bool cs = bools-bits cs
 
 -- and the other way round
 pub elements-scalars : (b : Base) (zs : List ℤ) → areElements b zs ≡ true → elements (dataOf b (scalars b zs)) ≡ zs
