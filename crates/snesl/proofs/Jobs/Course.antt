@@ -4,11 +4,12 @@ use mathlib.Core.List.{List}
 use mathlib.Core.Path.{_≡_, refl, _∙_, ap}
 use Rattle.snesl.specs.declared.refusal.Refusal.{Refusal}
 use Rattle.snesl.specs.Limits.{usedOf}
+use Rattle.snesl.specs.Values.{ValueType}
 use Rattle.snesl.specs.Terms.{Term}
 use Rattle.snesl.specs.Records
 use Rattle.snesl.specs.Records.{Raw, Input, Span, JobRead, job, readJob}
 use Rattle.snesl.specs.Checking
-use Rattle.snesl.specs.Checking.{Typed, typed, context, depths, checkFormula}
+use Rattle.snesl.specs.Checking.{Typed, typed, context, inputTypes, checkFormula}
 use Rattle.snesl.specs.Inputs.{Values, wrong, right, inputValues, inputOver}
 use Rattle.snesl.specs.Outcome.{refusal, outcomeRead, outcomeTyped, valued, executed, outcome}
 use Rattle.snesl.specs.Demands.{Accepted, TurnedAway, unread, untyped, unvalued}
@@ -30,22 +31,22 @@ pub course : (t : List ℕ) (lent answerLent : ℕ) → Course t lent answerLent
 course t lent answerLent = read (readJob t) refl
   where
     texts : (is : List Input) (k : ℕ) (e : Raw) (next : ℕ) (ss : List Span) → readJob t ≡ job is k e next ss
-        → (d : ℕ) (f : Term (context is) d) → checkFormula is e ≡ typed d f
-        → (vs : Values (depths is)) → inputValues t is ss ≡ vs
+        → (τ : ValueType) (f : Term (context is) τ) → checkFormula is e ≡ typed τ f
+        → (vs : Values (inputTypes is)) → inputValues t is ss ≡ vs
         → Course t lent answerLent
-    texts is k e next ss r d f c (wrong p) h =
+    texts is k e next ss r τ f c (wrong p) h =
         refused-early (unvalued r c h) (early-text {p = p})
         (ap (outcomeRead t (usedOf lent) answerLent) r
         ∙ ap (outcomeTyped t (usedOf lent) answerLent is ss) c
         ∙ ap (valued (usedOf lent) answerLent is f) h)
-    texts is k e next ss r d f c (right vs) h =
+    texts is k e next ss r τ f c (right vs) h =
         accepted record {
           inputs = is;
           expression = k;
           raw = e;
           next = next;
           spans = ss;
-          depth = d;
+          type = τ;
           term = f;
           given = vs;
           read = r;
@@ -59,7 +60,7 @@ course t lent answerLent = read (readJob t) refl
     types is k e next ss r (Checking.Typed.refused why) c =
         refused-early (untyped r c) (checking-refuses-early is e c)
         (ap (outcomeRead t (usedOf lent) answerLent) r ∙ ap (outcomeTyped t (usedOf lent) answerLent is ss) c)
-    types is k e next ss r (typed d f) c = texts is k e next ss r d f c (inputValues t is ss) refl
+    types is k e next ss r (typed τ f) c = texts is k e next ss r τ f c (inputValues t is ss) refl
 
     read : (j : JobRead) → readJob t ≡ j → Course t lent answerLent
     read (Records.JobRead.refused why) r = refused-early (unread r) (reading-refuses-early t r) (ap (outcomeRead t (usedOf lent) answerLent) r)

@@ -11,13 +11,15 @@ use lib.ListN.{length}
 use Rattle.snesl.specs.declared.refusal.Refusal.{Refusal}
 use Rattle.snesl.specs.declared.refusal.Refusal.the-variants.{TooLong, NoRecord, OverLimit, TooMany, Unbound, WrongType, NoValueText}
 use Rattle.snesl.specs.Limits.{mostBytes, mostInputs, mostRecords, mostNesting, lastVariable, mostDepth}
+use Rattle.snesl.specs.declared.code.Base.{Base}
+use Rattle.snesl.specs.Values.{ValueType, braces, int, depthOf}
 use Rattle.snesl.specs.Terms as terms
 use Rattle.snesl.specs.Terms.{_∋_, Term, All, ∅, _▹_}
 use Rattle.snesl.specs.Records
-use Rattle.snesl.specs.Records.{Raw, Head, absent, over, single, letting, eaching, headAt, byteAt, markAt, markIN, markVA, Scanned, scanned, thenScan, tooDeep, counted, scan, Input, Declared, declared, inputFirst, inputAt, inputOk, inputsAt, Span, Texts, texts, spanFirst, spanAt, textsAt, expressionAfter, inputsThen, frontOf, JobRead, job, textsThen, jobEnd, readJob}
+use Rattle.snesl.specs.Records.{Raw, Head, absent, over, single, letting, eaching, headAt, byteAt, markAt, markVA, Scanned, scanned, thenScan, tooDeep, counted, scan, Input, inputBase, Declared, declared, inputFirst, inputAt, inputOk, inputsAt, Span, Texts, texts, spanFirst, spanAt, textsAt, expressionAfter, inputsThen, frontOf, JobRead, job, textsThen, jobEnd, readJob}
 use Rattle.snesl.specs.Outcome.{streamsRefused}
 use Rattle.snesl.specs.Checking
-use Rattle.snesl.specs.Checking.{Name, Found, missing, found, find, isBound, asInt, asInts, Sequence, noSequence, sequence, asSequence, usable, listedInts, listedNames, pointers, Typed, typed, demand, typedIf, typedSequence, typedThen, check, turned, context, inputNames, repeated, checkInputs, checkFormula}
+use Rattle.snesl.specs.Checking.{Name, Found, missing, found, find, isBound, asScalar, asInt, asInts, Sequence, noSequence, sequence, asSequence, usable, listedScalars, listedNames, pointers, Typed, typed, demand, typedIf, typedSequence, typedThen, check, turned, context, inputNames, repeated, checkInputs, checkFormula}
 
 -- 1 to 7
 pub data Early : Refusal → Type 0 where
@@ -94,11 +96,19 @@ declares-ok t k h =
     (chosen Declares (leb (byteAt t (k + 2)) lastVariable && leb (byteAt t (k + 3)) mostDepth) h (declares-refused early-limit))
     (declares-refused early-record)
 
+-- either base's record is read on, and any other ends the inputs
+declares-marked : (k : ℕ) (m : Option Base) (next : Base → Declared) → ((b : Base) → Declares (next b))
+    → Declares (elim m [ some b ↦ next b | none ↦ declared [] k ])
+declares-marked k (some b) next h = h b
+declares-marked k none next h = declares-on
+
 declares : (left : ℕ) (t : List ℕ) (k : ℕ) → Declares (inputsAt left t k)
 unfolding inputsAt
-declares zero t k = chosen Declares (eqb (markAt t k) markIN) (declares-ok t k (declares-refused early-many)) declares-on
+declares zero t k =
+    declares-marked k (inputBase (markAt t k)) (λ b. inputOk t k (Records.Declared.refused (TooMany k))) (λ b. declares-ok t k (declares-refused early-many))
 declares (suc left) t k =
-    chosen Declares (eqb (markAt t k) markIN) (declares-ok t k (declares-first (inputAt t k) (declares left t (k + 4)))) declares-on
+    declares-marked k (inputBase (markAt t k)) (λ b. inputOk t k (inputFirst (inputAt t k b) (inputsAt left t (k + 4))))
+    (λ b. declares-ok t k (declares-first (inputAt t k b) (declares left t (k + 4))))
 
 -- the inputs' texts
 data Finds : Texts → Type 0 where
@@ -147,11 +157,11 @@ reading-refuses-early t {r} e = of (reads t) e
     of reads-on h = let z : _≡_ {A = ℕ} 0 1 = cc in absurd (omega arith)
 
 -- the types
-data Types {Γ : List ℕ} : Typed Γ → Type 0 where
+data Types {Γ : List ValueType} : Typed Γ → Type 0 where
   types-refused : {r : Refusal} → Early r → Types (Checking.Typed.refused r)
-  types-on : {d : ℕ} {e : Term Γ d} → Types (typed d e)
+  types-on : {τ : ValueType} {e : Term Γ τ} → Types (typed τ e)
 
-module _ {Γ : List ℕ} where
+module _ {Γ : List ValueType} where
   types-demand : {r : Refusal} (b : Bool) {y : Typed Γ} → Early r → Types y → Types (demand b r y)
   types-demand true early h = h
   types-demand false early h = types-refused early
@@ -160,44 +170,44 @@ module _ {Γ : List ℕ} where
   types-if p none h = types-refused early-type
   types-if p (some a) h = h a
 
-  types-sequence : (p : ℕ) (s : Sequence Γ) {f : (c : ℕ) → Γ ∋ suc c → Typed Γ} → ((c : ℕ) (x : Γ ∋ suc c) → Types (f c x)) → Types (typedSequence p s f)
+  types-sequence : (p : ℕ) (s : Sequence Γ) {f : (υ : ValueType) → Γ ∋ braces υ → Typed Γ} → ((υ : ValueType) (x : Γ ∋ braces υ) → Types (f υ x)) → Types (typedSequence p s f)
   types-sequence p noSequence h = types-refused early-type
-  types-sequence p (sequence c x) h = h c x
+  types-sequence p (sequence υ x) h = h υ x
 
-  types-then : {Δ : List ℕ} {y : Typed Δ} {f : (d : ℕ) → Term Δ d → Typed Γ} → Types y → ((d : ℕ) (e : Term Δ d) → Types (f d e)) → Types (typedThen y f)
+  types-then : {Δ : List ValueType} {y : Typed Δ} {f : (τ : ValueType) → Term Δ τ → Typed Γ} → Types y → ((τ : ValueType) (e : Term Δ τ) → Types (f τ e)) → Types (typedThen y f)
   types-then (types-refused early) h = types-refused early
-  types-then (types-on {d} {e}) h = h d e
+  types-then (types-on {τ} {e}) h = h τ e
 
-types : {Γ : List ℕ} (scope : All Name Γ) (e : Raw) → Types (check scope e)
+types : {Γ : List ValueType} (scope : All Name Γ) (e : Raw) → Types (check scope e)
 unfolding check
 types scope (Records.Raw.var p x) = go (find x scope) refl
   where
     go : (f : Found _) → find x scope ≡ f → Types (check scope (Records.Raw.var p x))
     go missing e = rw (e, check) (types-refused early-unbound)
-    go (found d v) e = rw (e, check) types-on
-types scope (Records.Raw.bind p x e₁ e₂) = types-then (types scope e₁) (λ c t₁. types-then (types (x ▹ scope) e₂) (λ d t₂. types-on))
+    go (found τ v) e = rw (e, check) types-on
+types scope (Records.Raw.bind p x e₁ e₂) = types-then (types scope e₁) (λ υ t₁. types-then (types (x ▹ scope) e₂) (λ τ t₂. types-on))
 types scope (Records.Raw.const p z) = types-on
 types scope (Records.Raw.iota p x) =
     types-demand (isBound (find x scope)) (early-unbound {p = p})
-    (types-if p (asInt (find x scope)) {f = λ v. typed 1 (terms.iota v)} (λ v. types-on))
+    (types-if p (asInt (asScalar (find x scope))) {f = λ v. typed (braces int) (terms.iota v)} (λ v. types-on))
 types scope (Records.Raw.plus p x y) =
     types-demand (isBound (find x scope) && isBound (find y scope)) (early-unbound {p = p})
-    (types-if p (asInt (find x scope))
-    {f = λ v. typedIf p (asInt (find y scope)) (λ w. typed 0 (terms.plus v w))}
-    (λ v. types-if p (asInt (find y scope)) (λ w. types-on)))
+    (types-if p (asInt (asScalar (find x scope)))
+    {f = λ v. typedIf p (asInt (asScalar (find y scope))) (λ w. typed int (terms.plus v w))}
+    (λ v. types-if p (asInt (asScalar (find y scope))) (λ w. types-on)))
 types scope (Records.Raw.sum p x) =
     types-demand (isBound (find x scope)) (early-unbound {p = p})
-    (types-if p (asInts (asSequence (find x scope))) {f = λ v. typed 0 (terms.sum v)} (λ v. types-on))
+    (types-if p (asInts (asSequence (find x scope))) {f = λ v. typed int (terms.sum v)} (λ v. types-on))
 types {Γ} scope (Records.Raw.each p x y us e) =
     types-demand (isBound (find y scope) && usable scope x us) (early-unbound {p = p})
     (types-sequence p (asSequence (find y scope))
-    (λ c v.
-    types-if p (listedInts scope us)
+    (λ υ v.
+    types-if p (listedScalars scope us)
     (λ l.
-    types-then (types (_▹_ {d = c} x (listedNames l)) e)
-    (λ d t. types-demand (ltb d mostDepth) (early-type {p = p}) (types-on {d = suc d} {e = terms.each v (pointers l) t})))))
+    types-then (types (_▹_ {τ = υ} x (listedNames l)) e)
+    (λ τ t. types-demand (ltb (depthOf τ) mostDepth) (early-type {p = p}) (types-on {τ = braces τ} {e = terms.each v (pointers l) t})))))
 
-types-inputs : {Γ : List ℕ} (o : Option ℕ) {y : Typed Γ} → Types y → Types (checkInputs o y)
+types-inputs : {Γ : List ValueType} (o : Option ℕ) {y : Typed Γ} → Types y → Types (checkInputs o y)
 types-inputs none h = h
 types-inputs (some p) h = types-refused early-unbound
 
