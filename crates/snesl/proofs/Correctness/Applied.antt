@@ -7,8 +7,12 @@ use mathlib.Core.Option.{some, none}
 use lib.IntN.{ℤ, pos}
 use lib.ListN.{length}
 use borrow.Author.Tests.{eq-eqb}
-use Rattle.snesl.specs.declared.code.Transducer.the-variants.{ToFlags, Usum, MapTwoPlus, ScanPlus, Distr, SumPlus}
-use Rattle.snesl.specs.Streams.{Stream, ints, flags, units, len, Store, _!_}
+use Rattle.snesl.specs.declared.code.Base.{Base}
+use Rattle.snesl.specs.declared.code.Base.the-variants as base
+use Rattle.snesl.specs.declared.code.Operation.the-variants.{Plus}
+use Rattle.snesl.specs.declared.code.Transducer.the-variants.{ToFlags, Usum, MapTwo, ScanPlus, Distr, SumPlus}
+use Rattle.snesl.specs.Values.{Element}
+use Rattle.snesl.specs.Streams.{Stream, ints, flags, units, dataOf, len, Store, _!_}
 use Rattle.snesl.specs.Transducers.{apply, made, negative, unless, exact, firstNegative, unary, lengthMisfit, pluses, scans, sums}
 use Rattle.snesl.specs.Translation.{id}
 use Rattle.snesl.specs.Machine.{sumOf, workOf, fetch}
@@ -26,19 +30,20 @@ module _ (σ : Store) where
   unfolding apply
   apply-usum ls n b p h = rw (h, ← p, segments-fit-alone ls 0, countF-segments ls)
 
-  pub apply-distr : {R A : Type 0} (f : R → List A) (g : R → ℤ) (rs : List R) (b u : ℕ)
+  pub apply-distr : {R A : Type 0} (f : R → List A) (c : Base) (g : R → Element c) (rs : List R) (b u : ℕ)
       → σ ! b ≡ some (flags (segments (map f rs)))
-      → σ ! u ≡ some (ints (map g rs))
-      → apply (Distr (id b) (id u)) (length rs) σ ≡ made (ints (concat (map (λ r. map (λ v. g r) (f r)) rs)))
+      → σ ! u ≡ some (dataOf c (map g rs))
+      → apply (Distr (id b) (id u)) (length rs) σ ≡ made (dataOf c (concat (map (λ r. map (λ v. g r) (f r)) rs)))
   unfolding apply
-  apply-distr f g rs b u h k = rw (h, k, segments-fit-one f g rs 0, spread-segments f g rs)
+  apply-distr f base.Int g rs b u h k = rw (h, k, segments-fit-one f g rs 0, spread-segments f g rs)
+  apply-distr f base.Bool g rs b u h k = rw (h, k, segments-fit-one f g rs 0, spread-segments f g rs)
 
   pub apply-plus : (xs ys : List ℤ) (n s t : ℕ)
       → length xs ≡ n
       → length ys ≡ n
       → σ ! s ≡ some (ints xs)
       → σ ! t ≡ some (ints ys)
-      → apply (MapTwoPlus (id s) (id t)) n σ ≡ exact (pluses 0 xs ys)
+      → apply (MapTwo Plus (id s) (id t)) n σ ≡ exact (pluses 0 xs ys)
   unfolding apply
   apply-plus xs ys n s t p q h k = rw (h, k, one-for-each n (length xs) (length ys) p q)
 
@@ -66,6 +71,12 @@ module _ (σ : Store) where
   unfolding apply
   apply-toFlags zs n s p h = rw (h, one-for-each n (length zs) (length zs) p p)
 
+-- data of either base has as many elements as there are scalars
+pub len-data : (b : Base) (vs : List (Element b)) → len (dataOf b vs) ≡ length vs
+len-data base.Int vs = refl
+len-data base.Bool vs = refl
+
+module _ (σ : Store) where
   -- the elements read and the elements written
   pub work-one : (s n : ℕ) {a : Stream} (o : Stream) → σ ! s ≡ some a → workOf n (fetch σ (s ∷ [])) o ≡ len a + len o
   unfolding sumOf

@@ -1,6 +1,6 @@
 -- A comprehension over a list of environments: its Usum and Distrs make the items' environments, and its body runs once for all of them, or
 -- is skipped where there is none.
-use Prim.Native.Nat.{ℕ, suc, _+_, _*_}
+use Prim.Native.Nat.{ℕ, _+_, _*_}
 use native.Mathlib.Omega.{arith}
 use mathlib.Core.Path.{_≡_, refl, ap, _∙_, sym, subst, fun-ext}
 use mathlib.Core.List.{List, [], _∷_, _++_, map, append-assoc, append-nil}
@@ -9,10 +9,10 @@ use lib.ListN.{length, length-append, length-map}
 use lib.Seq.{append-snoc}
 use Rattle.laws.proofs.Lists.{getElem?-append-seam}
 use Rattle.snesl.specs.declared.code.Transducer.the-variants.{Usum, Distr}
-use Rattle.snesl.specs.Values.{Val}
-use Rattle.snesl.specs.Terms.{_∋_, Term, each, listedTypes, All, _▹_, lookup, listed}
-use Rattle.snesl.specs.Streams.{ints, flags, units, _!_}
-use Rattle.snesl.specs.Trees.{Tree, outer, root}
+use Rattle.snesl.specs.Values.{ValueType, braces, Val}
+use Rattle.snesl.specs.Terms.{_∋_, Term, each, Scalars, anyType, listedTypes, All, _▹_, lookup, listed}
+use Rattle.snesl.specs.Streams.{flags, units, dataOf, _!_}
+use Rattle.snesl.specs.Trees.{IdTree, outer, root}
 use Rattle.snesl.specs.Programs.{Program, done, withCtrl}
 use Rattle.snesl.specs.Machine.{State, Result, went, stopped, onward, run, boundless, push, skipped, sumOf}
 use Rattle.snesl.specs.Evaluation.{eval, allOf}
@@ -26,8 +26,8 @@ use Rattle.snesl.proofs.Correctness.Charged.{charges-each}
 use Rattle.snesl.proofs.Correctness.Reached.{steps-none, steps-each}
 use Rattle.snesl.proofs.Correctness.RunParts.{run-made, run-skipped, run-body}
 use Rattle.snesl.proofs.Correctness.Grown.{held-data, held-flags, holds-grown, agrees-grown}
-use Rattle.snesl.proofs.Correctness.Applied.{apply-usum, apply-distr, work-one, work-two}
-use Rattle.snesl.proofs.Correctness.Inside.{copy, length-copy, copies, agrees-inside}
+use Rattle.snesl.proofs.Correctness.Applied.{apply-usum, apply-distr, len-data, work-one, work-two}
+use Rattle.snesl.proofs.Correctness.Inside.{copy, length-copy, copied, copies, agrees-inside}
 use Rattle.snesl.proofs.Correctness.Skipping.{skipping, skipped-size}
 use Rattle.snesl.proofs.Correctness.Leaves.{Correct}
 
@@ -36,7 +36,7 @@ onward-went : (r : Result) → onward r (λ m. went m) ≡ r
 onward-went (went m) = refl
 onward-went (stopped why i) = refl
 
-module _ {Γ : List ℕ} {d : ℕ} (e : Term Γ d) (correct : Correct e) (δ : All (Tree ℕ) Γ) (s : ℕ) (m : State)
+module _ {Γ : List ValueType} {τ : ValueType} (e : Term Γ τ) (correct : Correct e) (δ : All IdTree Γ) (s : ℕ) (m : State)
     (first : length (m .store) ≡ s) (outs ins : List ℕ) (c n : ℕ) where
   skipped-body : Agrees (m .store) δ []
       → m .store ! c ≡ some (units 0)
@@ -45,9 +45,9 @@ module _ {Γ : List ℕ} {d : ℕ} (e : Term Γ d) (correct : Correct e) (δ : A
   skipped-body a h =
       subst (λ r. ComesTo e δ s [] m (some []) r) (sym (run-skipped boundless outs ins c (code e δ s) done n m h))
       (ran record {
-        added = skipped (code e δ s);
+        added = skipped (m .store) (code e δ s);
         store = refl;
-        adds = skipped-size e δ s;
+        adds = skipped-size (m .store) e δ s;
         results = skipping e δ s (m .store) first a;
         work = omega arith;
         steps = omega (arith, steps-none e);
@@ -65,45 +65,47 @@ module _ {Γ : List ℕ} {d : ℕ} (e : Term Γ d) (correct : Correct e) (δ : A
       (correct δ ρ ρs s m first a)
 
 -- the Distrs of the listed variables
-module _ {Γ : List ℕ} {c : ℕ} (y : Γ ∋ suc c) (δ : All (Tree ℕ) Γ) (ρs : List (All Val Γ)) (p : Program) where
-  pub record Copied (us : List (Γ ∋ 0)) (m m′ : State) : Type 0 where
+module _ {Γ : List ValueType} {υ : ValueType} (y : Γ ∋ braces υ) (δ : All IdTree Γ) (ρs : List (All Val Γ)) (p : Program) where
+  pub record Copied (us : Scalars Γ) (m m′ : State) : Type 0 where
     pub runs : run boundless (distrs (outer (lookup y δ)) us δ p) (length ρs) m ≡ run boundless p (length ρs) m′
     pub store : m′ .store ≡ m .store ++ copies y ρs us
     pub work : m′ .work ≡ m .work + length us * (2 * items y ρs + 2 * length ρs)
     pub steps : m′ .steps ≡ m .steps + length us
 
-  unfoldable pub copying : (us : List (Γ ∋ 0)) (m : State) → Agrees (m .store) δ ρs → (m′ : State) × Copied us m m′
+  unfoldable pub copying : (us : Scalars Γ) (m : State) → Agrees (m .store) δ ρs → (m′ : State) × Copied us m m′
   unfolding distrs
   copying [] m a = (m, record { runs = refl; store = sym (append-nil (m .store)); work = omega arith; steps = omega arith })
   copying (u ∷ us) m a =
       let b = outer (lookup y δ) in
-      let i = root (lookup u δ) in
+      let i = root (lookup (u .1) δ) in
       let flagged : m .store ! b ≡ some (flags (segments (map (lookup y) ρs))) = held-flags (a .holds y) in
-      let numbers : m .store ! i ≡ some (ints (map (lookup u) ρs)) = held-data (a .holds u) in
-      let one = push (Distr (id b) (id i)) (length ρs) (ints (copy y ρs u)) m in
-      let (m′, rest) = copying us one (agrees-grown (ints (copy y ρs u) ∷ []) a) in (
+      let scalars : m .store ! i ≡ some (dataOf (u .0) (map (lookup (u .1)) ρs)) = held-data (a .holds (u .1)) in
+      let one = push (Distr (id b) (id i)) (length ρs) (copied y ρs u) m in
+      let (m′, rest) = copying us one (agrees-grown (copied y ρs u ∷ []) a) in (
         m′,
         record {
           runs =
-              run-made (Distr (id b) (id i)) (distrs b us δ p) (length ρs) m (apply-distr (m .store) (lookup y) (lookup u) ρs b i flagged numbers)
+              run-made (Distr (id b) (id i)) (distrs b us δ p) (length ρs) m (apply-distr (m .store) (lookup y) (u .0) (lookup (u .1)) ρs b i flagged scalars)
               ∙ rest .runs;
-          store = rest .store ∙ append-snoc (m .store) (ints (copy y ρs u)) (copies y ρs us);
+          store = rest .store ∙ append-snoc (m .store) (copied y ρs u) (copies y ρs us);
           work =
               omega (
                 arith,
                 rest .work,
-                work-two (m .store) b i (length ρs) (ints (copy y ρs u)) flagged numbers,
+                work-two (m .store) b i (length ρs) (copied y ρs u) flagged scalars,
                 length-segments (map (lookup y) ρs),
                 length-map ρs (lookup y),
-                length-map ρs (lookup u),
-                length-copy y ρs u,
+                len-data (u .0) (map (lookup (u .1)) ρs),
+                length-map ρs (lookup (u .1)),
+                len-data (u .0) (copy y ρs (u .1)),
+                length-copy y ρs (u .1),
               );
           steps = omega (arith, rest .steps);
         },
       )
 
 -- the whole, from its body's outcome
-module _ {Γ : List ℕ} {c d : ℕ} (y : Γ ∋ suc c) (us : List (Γ ∋ 0)) (e : Term (c ∷ listedTypes us) d) (δ : All (Tree ℕ) Γ) (s : ℕ)
+module _ {Γ : List ValueType} {υ τ : ValueType} (y : Γ ∋ braces υ) (us : Scalars Γ) (e : Term (υ ∷ listedTypes (anyType us)) τ) (δ : All IdTree Γ) (s : ℕ)
     (ρ : All Val Γ) (ρs : List (All Val Γ)) (m m′ : State) where
   -- where the body's ids start
   abbrev start : ℕ
@@ -122,7 +124,7 @@ module _ {Γ : List ℕ} {c d : ℕ} (y : Γ ∋ suc c) (us : List (Γ ∋ 0)) (
         ∙ omega (
           arith,
           length-append (m .store) (units (items y (ρ ∷ ρs)) ∷ copies y (ρ ∷ ρs) us),
-          length-map us (λ u. ints (copy y (ρ ∷ ρs) u)),
+          length-map us (copied y (ρ ∷ ρs)),
         )
 
     pub body-control : m′ .store ! s ≡ some (units (length (insideAll y us (ρ ∷ ρs))))
@@ -134,7 +136,7 @@ module _ {Γ : List ℕ} {c d : ℕ} (y : Γ ∋ suc c) (us : List (Γ ∋ 0)) (
     pub body-agrees : Agrees (m .store) δ (ρ ∷ ρs) → Agrees (m′ .store) (within y us δ s) (insideAll y us (ρ ∷ ρs))
     body-agrees a = rw (prepared .store) (agrees-inside y (ρ ∷ ρs) us first a)
 
-  around : {o : Option (List (List (Val d)))} {o′ : Option (List (Val d))} {r : Result}
+  around : {o : Option (List (List (Val τ)))} {o′ : Option (List (Val τ))} {r : Result}
       → Prepared
       → Agrees (m .store) δ (ρ ∷ ρs)
       → Flattened (map (inside y us) (ρ ∷ ρs)) o o′
@@ -142,22 +144,22 @@ module _ {Γ : List ℕ} {c d : ℕ} (y : Γ ∋ suc c) (us : List (Γ ∋ 0)) (
       → ComesTo (each y us e) δ s (ρ ∷ ρs) m o r
   unfolding size tree
   around prepared a (flat {rs = vs} h) (ran {m′ = end} w) =
-      let τ = units (items y (ρ ∷ ρs)) ∷ copies y (ρ ∷ ρs) us in
-      let stored : end .store ≡ m .store ++ (τ ++ w .added)
-      = w .store ∙ ap (λ σ. σ ++ w .added) (prepared .store) ∙ append-assoc (m .store) τ (w .added) in
+      let l = units (items y (ρ ∷ ρs)) ∷ copies y (ρ ∷ ρs) us in
+      let stored : end .store ≡ m .store ++ (l ++ w .added)
+      = w .store ∙ ap (λ σ. σ ++ w .added) (prepared .store) ∙ append-assoc (m .store) l (w .added) in
       let flagged : end .store ! outer (lookup y δ) ≡ some (flags (segments vs))
-      = rw (stored, h, segments-inside y us (ρ ∷ ρs)) (held-flags (holds-grown (τ ++ w .added) (a .holds y))) in
+      = rw (stored, h, segments-inside y us (ρ ∷ ρs)) (held-flags (holds-grown (l ++ w .added) (a .holds y))) in
       ran {m′ = end} record {
-        added = τ ++ w .added;
+        added = l ++ w .added;
         store = stored;
-        adds = omega (arith, length-append τ (w .added), length-map us (λ u. ints (copy y (ρ ∷ ρs) u)), w .adds);
-        results = holds-node {d = d} {vs = vs} flagged (w .results);
+        adds = omega (arith, length-append l (w .added), length-map us (copied y (ρ ∷ ρs)), w .adds);
+        results = holds-node {τ = τ} {vs = vs} flagged (w .results);
         work = omega (arith, w .work, prepared .work, charges-each y us e (ρ ∷ ρs));
         steps = omega (arith, w .steps, prepared .steps, steps-each y us e ρ ρs);
       }
   around prepared a neither (halted {i = i} why low high) = halted {i = i} why (omega arith) (omega arith)
 
-module _ {Γ : List ℕ} {c d : ℕ} (y : Γ ∋ suc c) (us : List (Γ ∋ 0)) (e : Term (c ∷ listedTypes us) d) where
+module _ {Γ : List ValueType} {υ τ : ValueType} (y : Γ ∋ braces υ) (us : Scalars Γ) (e : Term (υ ∷ listedTypes (anyType us)) τ) where
   -- the rules' results list by list, and those of all items flat
   results-flat : (ρs : List (All Val Γ))
       → Flattened (map (inside y us) ρs) (allOf (eval (each y us e)) ρs) (allOf (eval e) (insideAll y us ρs))
@@ -165,10 +167,10 @@ module _ {Γ : List ℕ} {c d : ℕ} (y : Γ ∋ suc c) (us : List (Γ ∋ 0)) (
   results-flat ρs =
       subst (λ o. Flattened (map (inside y us) ρs) o (allOf (eval e) (insideAll y us ρs)))
       (allOf-map (allOf (eval e)) (inside y us) ρs
-      ∙ ap (λ f. allOf f ρs) (fun-ext (λ ρ. allOf-map (eval e) (λ v. v ▹ listed us ρ) (lookup y ρ))))
+      ∙ ap (λ f. allOf f ρs) (fun-ext (λ ρ. allOf-map (eval e) (λ v. v ▹ listed (anyType us) ρ) (lookup y ρ))))
       (flattened (eval e) (map (inside y us) ρs))
 
-  module _ (δ : All (Tree ℕ) Γ) (s : ℕ) (ρ : All Val Γ) (ρs : List (All Val Γ)) (m : State) where
+  module _ (δ : All IdTree Γ) (s : ℕ) (ρ : All Val Γ) (ρs : List (All Val Γ)) (m : State) where
     -- after Usum
     abbrev pub counted : State
     counted = push (Usum (id (outer (lookup y δ)))) (length (ρ ∷ ρs)) (units (items y (ρ ∷ ρs))) m

@@ -5,9 +5,9 @@ use mathlib.Core.Path.{_≡_, refl, ap, _∙_, subst}
 use mathlib.Core.List.{List, [], _∷_, _++_, append-assoc, zipWith}
 use mathlib.Core.Option.{Option, some, none}
 use lib.ListN.{length, length-append}
-use Rattle.snesl.specs.Values.{Val}
+use Rattle.snesl.specs.Values.{ValueType, Val}
 use Rattle.snesl.specs.Terms.{Term, var, bind, const, iota, plus, sum, each, All, _▹_}
-use Rattle.snesl.specs.Trees.{Tree}
+use Rattle.snesl.specs.Trees.{IdTree}
 use Rattle.snesl.specs.Machine.{State, Result, onward, run, boundless}
 use Rattle.snesl.specs.Evaluation.{andThen, eval, allOf}
 use Rattle.snesl.specs.Translation.{size, tree, code}
@@ -27,29 +27,29 @@ nothing none = refl
 nothing (some a) = refl
 
 -- where the first part of a let leaves off, the second starts, and the results are bound
-module _ {Γ : List ℕ} {c : ℕ} (e : Term Γ c) {δ : All (Tree ℕ) Γ} {s : ℕ} {ρs : List (All Val Γ)} {m m′ : State} {vs : List (Val c)} where
+module _ {Γ : List ValueType} {υ : ValueType} (e : Term Γ υ) {δ : All IdTree Γ} {s : ℕ} {ρs : List (All Val Γ)} {m m′ : State} {vs : List (Val υ)} where
   pub let-start : length (m .store) ≡ s → Ran e δ s ρs m vs m′ → length (m′ .store) ≡ s + size e
   let-start first w = ap length (w .store) ∙ omega (arith, length-append (m .store) (w .added), w .adds)
 
-  pub let-agrees : Each (eval e) ρs vs → Agrees (m .store) δ ρs → Ran e δ s ρs m vs m′ → Agrees (m′ .store) (tree e δ s ▹ δ) (bound vs ρs)
+  pub let-agrees : Each (eval e) ρs vs → Agrees (m .store) δ ρs → Ran e δ s ρs m vs m′ → Agrees (m′ .store) (_▹_ {τ = υ} (tree e δ s) δ) (bound vs ρs)
   let-agrees h a w = agrees-bound e h (w .results) (rw (w .store) (agrees-grown (w .added) a))
 
 -- a let: its second part runs with the first's results bound
-module _ {Γ : List ℕ} {c d : ℕ} (e₁ : Term Γ c) (e₂ : Term (c ∷ Γ) d) where
+module _ {Γ : List ValueType} {υ τ : ValueType} (e₁ : Term Γ υ) (e₂ : Term (υ ∷ Γ) τ) where
   allOf-bind : (ρs : List (All Val Γ)) → allOf (eval (bind e₁ e₂)) ρs ≡ andThen (allOf (eval e₁) ρs) (λ vs. allOf (eval e₂) (bound vs ρs))
   unfolding allOf eval zipWith
   allOf-bind [] = refl
   allOf-bind (ρ ∷ ρs) = rw (allOf-bind ρs) (go (eval e₁ ρ) (allOf (eval e₁) ρs))
     where
-      go : (o : Option (Val c)) (os : Option (List (Val c)))
+      go : (o : Option (Val υ)) (os : Option (List (Val υ)))
           → andThen (andThen o (λ v. eval e₂ (v ▹ ρ))) (λ w. andThen (andThen os (λ vs. allOf (eval e₂) (bound vs ρs))) (λ ws. some (w ∷ ws)))
           ≡ andThen (andThen o (λ v. andThen os (λ vs. some (v ∷ vs)))) (λ vs. allOf (eval e₂) (bound vs (ρ ∷ ρs)))
       go none os = refl
       go (some v) none = nothing (eval e₂ (v ▹ ρ))
       go (some v) (some vs) = refl
 
-  module _ (δ : All (Tree ℕ) Γ) (s : ℕ) (ρ : All Val Γ) (ρs : List (All Val Γ)) (m : State) where
-    after : {vs : List (Val c)} {m′ : State} {o : Option (List (Val d))} {r : Result}
+  module _ (δ : All IdTree Γ) (s : ℕ) (ρ : All Val Γ) (ρs : List (All Val Γ)) (m : State) where
+    after : {vs : List (Val υ)} {m′ : State} {o : Option (List (Val τ))} {r : Result}
         → Each (eval e₁) (ρ ∷ ρs) vs
         → Ran e₁ δ s (ρ ∷ ρs) m vs m′
         → ComesTo e₂ (tree e₁ δ s ▹ δ) (s + size e₁) (bound vs (ρ ∷ ρs)) m′ o r
@@ -69,16 +69,16 @@ module _ {Γ : List ℕ} {c d : ℕ} (e₁ : Term Γ c) (e₂ : Term (c ∷ Γ) 
     second : Correct e₂
         → length (m .store) ≡ s
         → Agrees (m .store) δ (ρ ∷ ρs)
-        → {vs : List (Val c)} {m′ : State}
+        → {vs : List (Val υ)} {m′ : State}
         → Each (eval e₁) (ρ ∷ ρs) vs
         → Ran e₁ δ s (ρ ∷ ρs) m vs m′
         → ComesTo (bind e₁ e₂) δ s (ρ ∷ ρs) m (allOf (eval e₂) (bound vs (ρ ∷ ρs)))
         (run boundless (code e₂ (tree e₁ δ s ▹ δ) (s + size e₁)) (length (ρ ∷ ρs)) m′)
     unfolding zipWith
     second correct first a {m′ = m′} (each-cons {b = v} {r = vs} p h) w =
-        let δ′ = tree e₁ δ s ▹ δ in
+        let δ′ : All IdTree (υ ∷ Γ) = tree e₁ δ s ▹ δ in
         let s′ = s + size e₁ in
-        let all = (v ▹ ρ) ∷ bound {c = c} vs ρs in
+        let all = (v ▹ ρ) ∷ bound {υ = υ} vs ρs in
         after (each-cons p h) w
         (subst (λ n. ComesTo e₂ δ′ s′ all m′ (allOf (eval e₂) all) (run boundless (code e₂ δ′ s′) n m′)) (ap suc (length-bound e₁ h))
         (correct δ′ (v ▹ ρ) (bound vs ρs) s′ m′ (let-start e₁ first w) (let-agrees e₁ (each-cons p h) a w)))
@@ -86,7 +86,7 @@ module _ {Γ : List ℕ} {c d : ℕ} (e₁ : Term Γ c) (e₂ : Term (c ∷ Γ) 
     sequence : Correct e₂
         → length (m .store) ≡ s
         → Agrees (m .store) δ (ρ ∷ ρs)
-        → {o : Option (List (Val c))} {r : Result}
+        → {o : Option (List (Val υ))} {r : Result}
         → allOf (eval e₁) (ρ ∷ ρs) ≡ o
         → ComesTo e₁ δ s (ρ ∷ ρs) m o r
         → ComesTo (bind e₁ e₂) δ s (ρ ∷ ρs) m (andThen o (λ vs. allOf (eval e₂) (bound vs (ρ ∷ ρs))))
@@ -101,7 +101,7 @@ module _ {Γ : List ℕ} {c d : ℕ} (e₁ : Term Γ c) (e₂ : Term (c ∷ Γ) 
       rw (allOf-bind (ρ ∷ ρs), run-sequence boundless (code e₁ δ s) (code e₂ (tree e₁ δ s ▹ δ) (s + size e₁)) (length (ρ ∷ ρs)) m)
       (sequence δ s ρ ρs m correct₂ first a refl (correct₁ δ ρ ρs s m first a))
 
-pub correct : {Γ : List ℕ} {d : ℕ} (e : Term Γ d) → Correct e
+pub correct : {Γ : List ValueType} {τ : ValueType} (e : Term Γ τ) → Correct e
 correct (var x) = correct-var x
 correct (bind e₁ e₂) = correct-bind e₁ e₂ (correct e₁) (correct e₂)
 correct (const n) = correct-const n

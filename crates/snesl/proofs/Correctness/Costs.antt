@@ -3,8 +3,8 @@ use Prim.Native.Nat.{ℕ, _*_, _≤_}
 use native.Mathlib.Omega.{arith}
 use mathlib.Core.List.{List, [], _∷_, map}
 use mathlib.Core.Option.{Option, some, none}
-use Rattle.snesl.specs.Values.{Val}
-use Rattle.snesl.specs.Terms.{Term, var, bind, const, iota, plus, sum, each, All, _▹_, lookup, listed}
+use Rattle.snesl.specs.Values.{ValueType, Val}
+use Rattle.snesl.specs.Terms.{Term, var, bind, const, iota, plus, sum, each, anyType, All, _▹_, lookup, listed}
 use Rattle.snesl.specs.Evaluation.{eval}
 use Rattle.snesl.specs.Machine.{sumOf}
 use Rattle.snesl.specs.Charges.{ifValue, charge, plainCharge}
@@ -18,7 +18,7 @@ value-bounded : {A : Type 0} (f g : A → ℕ) → ((a : A) → f a ≤ 7 * g a)
 value-bounded f g h none = omega arith
 value-bounded f g h (some a) = h a
 
-pub charge-bounded : {Γ : List ℕ} {d : ℕ} (e : Term Γ d) (ρ : All Val Γ) → charge e ρ ≤ 7 * plainCharge e ρ
+pub charge-bounded : {Γ : List ValueType} {τ : ValueType} (e : Term Γ τ) (ρ : All Val Γ) → charge e ρ ≤ 7 * plainCharge e ρ
 unfolding charge plainCharge
 charge-bounded (var x) ρ = omega arith
 charge-bounded (bind e₁ e₂) ρ =
@@ -35,5 +35,5 @@ charge-bounded (each y us e) ρ =
     omega (
       arith,
       sums-bounded
-          (λ v. charge e (v ▹ listed us ρ)) (λ v. plainCharge e (v ▹ listed us ρ)) (λ v. charge-bounded e (v ▹ listed us ρ)) (lookup y ρ),
+          (λ v. charge e (v ▹ listed (anyType us) ρ)) (λ v. plainCharge e (v ▹ listed (anyType us) ρ)) (λ v. charge-bounded e (v ▹ listed (anyType us) ρ)) (lookup y ρ),
     )

@@ -9,11 +9,11 @@ use mathlib.Core.Logic.{⊎-elim}
 use lib.ListN.{length, length-map}
 use Rattle.snesl.specs.declared.code.Transducer.{Transducer}
 use Rattle.snesl.specs.declared.code.Transducer.the-variants.{Distr}
-use Rattle.snesl.specs.Values.{Val}
-use Rattle.snesl.specs.Terms.{_∋_, Term, var, bind, const, iota, plus, sum, each, listedTypes, All, _▹_, lookup}
+use Rattle.snesl.specs.Values.{ValueType, braces, int, Val}
+use Rattle.snesl.specs.Terms.{_∋_, Term, var, bind, const, iota, plus, sum, each, Scalars, anyType, listedTypes, All, _▹_, lookup}
 use Rattle.snesl.specs.Evaluation.{eval, allOf}
-use Rattle.snesl.specs.Streams.{Stream, ints, flags, units, Store, _!_}
-use Rattle.snesl.specs.Trees.{Tree, order, outer, root}
+use Rattle.snesl.specs.Streams.{Stream, flags, units, dataOf, Store, _!_}
+use Rattle.snesl.specs.Trees.{IdTree, order, outer, root}
 use Rattle.snesl.specs.Transducers.{apply, made}
 use Rattle.snesl.specs.Programs.{Program, done, define, withCtrl, _⨾_, fv, ascending, without}
 use Rattle.snesl.specs.Machine.{State, Result, went, onward, push, step, run, boundless}
@@ -24,16 +24,16 @@ use Rattle.snesl.specs.SideCondition.{Empty, Proper, proper-done, proper
 use Rattle.snesl.proofs.Correctness.AllOf.{Each, each-cons, each-of}
 use Rattle.snesl.proofs.Correctness.Environments.{bound, length-bound, insideAll, items}
 use Rattle.snesl.proofs.Correctness.Grown.{held-data, held-flags, agrees-grown}
-use Rattle.snesl.proofs.Correctness.Applied.{apply-usum, apply-distr}
-use Rattle.snesl.proofs.Correctness.Inside.{copy}
+use Rattle.snesl.proofs.Correctness.Applied.{apply-usum, apply-distr, len-data}
+use Rattle.snesl.proofs.Correctness.Inside.{copied}
 use Rattle.snesl.proofs.Correctness.Comprehension.{copying, preparing, counted, body-start, body-control, body-agrees}
 use Rattle.snesl.proofs.Correctness.Correct.{correct, let-start, let-agrees}
 use Rattle.snesl.proofs.Correctness.RunParts.{run-step, step-made, run-sequence}
 
 -- a tree that holds no values names empty streams
-holds-empty : {σ : Store} {d u : ℕ} {st : Tree ℕ d} → Holds σ d st [] → List·Memᴰ u (order st) → Empty σ u
+holds-empty : {σ : Store} {τ : ValueType} {u : ℕ} {st : IdTree τ} → Holds σ τ st [] → List·Memᴰ u (order st) → Empty σ u
 unfolding order segments concat
-holds-empty {σ} (holds-leaf {s = s} h) k = rw (List·Memᴰ·eq-of-singleton k) (record { stream = ints []; there-is = h; no-elements = refl })
+holds-empty {σ} (holds-leaf {b = b} {s = s} h) k = rw (List·Memᴰ·eq-of-singleton k) (record { stream = dataOf b []; there-is = h; no-elements = len-data b [] })
 holds-empty {σ} {u = u} (holds-node {s = s} {st = st} h k) i = ⊎-elim (λ j. holds-empty k j) last (List·Memᴰ·append-cases (order st) i)
   where
     last : List·Memᴰ u (s ∷ []) → Empty σ u
@@ -59,31 +59,31 @@ proper-sequence (proper-withCtrl {outs = outs} {ins = ins} {c = c} {b = b} {p = 
     (λ m″ z. g m″
     (run-sequence boundless (withCtrl outs c ins b done) p n m ∙ ap (λ r. onward r (run boundless p n)) e ∙ z)))
 
-module _ {Γ : List ℕ} {c : ℕ} (y : Γ ∋ suc c) (δ : All (Tree ℕ) Γ) (ρs : List (All Val Γ)) (p : Program) where
-  proper-distrs : (us : List (Γ ∋ 0)) (m : State) (a : Agrees (m .store) δ ρs)
+module _ {Γ : List ValueType} {υ : ValueType} (y : Γ ∋ braces υ) (δ : All IdTree Γ) (ρs : List (All Val Γ)) (p : Program) where
+  proper-distrs : (us : Scalars Γ) (m : State) (a : Agrees (m .store) δ ρs)
       → Proper p (length ρs) (copying y δ ρs p us m a .0)
       → Proper (distrs (outer (lookup y δ)) us δ p) (length ρs) m
   unfolding distrs copying
   proper-distrs [] m a k = k
   proper-distrs (u ∷ us) m a k =
-      proper-made (apply-distr (m .store) (lookup y) (lookup u) ρs (outer (lookup y δ)) (root (lookup u δ)) (held-flags (a .holds y)) (held-data (a .holds u)))
-      (proper-distrs us (push (Distr (id (outer (lookup y δ))) (id (root (lookup u δ)))) (length ρs) (ints (copy y ρs u)) m) (agrees-grown (ints (copy y ρs u) ∷ []) a) k)
+      proper-made (apply-distr (m .store) (lookup y) (u .0) (lookup (u .1)) ρs (outer (lookup y δ)) (root (lookup (u .1) δ)) (held-flags (a .holds y)) (held-data (a .holds (u .1))))
+      (proper-distrs us (push (Distr (id (outer (lookup y δ))) (id (root (lookup (u .1) δ)))) (length ρs) (copied y ρs u) m) (agrees-grown (copied y ρs u ∷ []) a) k)
 
 -- what a body takes in are streams of its environment's trees
 pub record TakesItsEnvironment : Type 0 where
-  pub takes : {Γ : List ℕ} {d : ℕ} (e : Term Γ d) (δ : All (Tree ℕ) Γ) (s u : ℕ)
+  pub takes : {Γ : List ValueType} {τ : ValueType} (e : Term Γ τ) (δ : All IdTree Γ) (s u : ℕ)
       → List·Memᴰ u (ascending (fv s (code e δ s)))
-      → (c : ℕ) × (x : Γ ∋ c) × List·Memᴰ u (order (lookup x δ))
+      → (υ : ValueType) × (x : Γ ∋ υ) × List·Memᴰ u (order (lookup x δ))
 
 -- Proper for every list of environments
-abbrev pub Always : {Γ : List ℕ} {d : ℕ} → Term Γ d → Type 0
+abbrev pub Always : {Γ : List ValueType} {τ : ValueType} → Term Γ τ → Type 0
 Always {Γ} e =
-    (δ : All (Tree ℕ) Γ) (ρ : All Val Γ) (ρs : List (All Val Γ)) (s : ℕ) (m : State)
+    (δ : All IdTree Γ) (ρ : All Val Γ) (ρs : List (All Val Γ)) (s : ℕ) (m : State)
     → length (m .store) ≡ s
     → Agrees (m .store) δ (ρ ∷ ρs)
     → Proper (code e δ s) (length (ρ ∷ ρs)) m
 
-always-iota : {Γ : List ℕ} (x : Γ ∋ 0) → Always (iota x)
+always-iota : {Γ : List ValueType} (x : Γ ∋ int) → Always (iota x)
 unfolding code _⨾_ fv ascending without
 always-iota x δ ρ ρs s m first a =
     proper-define (λ m₁ h₁. proper-define (λ m₂ h₂. proper-withCtrl (λ h u k. absurd (List·Memᴰ·not-nil k)) (λ j h. proper-last) (λ m′ h. proper-last)))
@@ -94,8 +94,8 @@ same-units p q = cc
 no-units : {o : Option Stream} {j : ℕ} → o ≡ some (units 0) → o ≡ some (units (suc j)) → ⊥
 no-units p q = omega (arith, same-units p q)
 
-module _ {Γ : List ℕ} {d : ℕ} (its : TakesItsEnvironment) (e : Term Γ d) (always : Always e) where
-  proper-body : (δ : All (Tree ℕ) Γ) (s c n : ℕ) (outs : List ℕ) (m : State)
+module _ {Γ : List ValueType} {τ : ValueType} (its : TakesItsEnvironment) (e : Term Γ τ) (always : Always e) where
+  proper-body : (δ : All IdTree Γ) (s c n : ℕ) (outs : List ℕ) (m : State)
       → length (m .store) ≡ s
       → (ρs : List (All Val Γ))
       → Agrees (m .store) δ ρs
@@ -112,7 +112,7 @@ module _ {Γ : List ℕ} {d : ℕ} (its : TakesItsEnvironment) (e : Term Γ d) (
       (λ j z. subst (λ n. Proper (code e δ s) n m) (same-units h z) (always δ ρ ρs s m first a))
       (λ m′ z. proper-done)
 
-module _ {Γ : List ℕ} {c d : ℕ} (its : TakesItsEnvironment) (y : Γ ∋ suc c) (us : List (Γ ∋ 0)) (e : Term (c ∷ listedTypes us) d) where
+module _ {Γ : List ValueType} {υ τ : ValueType} (its : TakesItsEnvironment) (y : Γ ∋ braces υ) (us : Scalars Γ) (e : Term (υ ∷ listedTypes (anyType us)) τ) where
   always-each : Always e → Always (each y us e)
   unfolding code
   always-each always δ ρ ρs s m first a =
@@ -130,8 +130,8 @@ module _ {Γ : List ℕ} {c d : ℕ} (its : TakesItsEnvironment) (y : Γ ∋ suc
       (body-control y us e δ s ρ ρs m m′ prepared first)))
 
 -- a run of the first part that went through leaves an environment for the second
-module _ {Γ : List ℕ} {c d : ℕ} (e₁ : Term Γ c) (e₂ : Term (c ∷ Γ) d) (always : Always e₂) (δ : All (Tree ℕ) Γ) (ρ : All Val Γ) (ρs : List (All Val Γ)) (s : ℕ) (m : State) where
-  proper-second : {o : Option (List (Val c))} {r : Result} {m′ : State}
+module _ {Γ : List ValueType} {υ τ : ValueType} (e₁ : Term Γ υ) (e₂ : Term (υ ∷ Γ) τ) (always : Always e₂) (δ : All IdTree Γ) (ρ : All Val Γ) (ρs : List (All Val Γ)) (s : ℕ) (m : State) where
+  proper-second : {o : Option (List (Val υ))} {r : Result} {m′ : State}
       → length (m .store) ≡ s
       → Agrees (m .store) δ (ρ ∷ ρs)
       → allOf (eval e₁) (ρ ∷ ρs) ≡ o
@@ -142,7 +142,7 @@ module _ {Γ : List ℕ} {c d : ℕ} (e₁ : Term Γ c) (e₂ : Term (c ∷ Γ) 
   proper-second {m′ = m′} first a q e (ran {m′ = end} w) =
       subst (λ m. Proper (code e₂ (tree e₁ δ s ▹ δ) (s + size e₁)) (length (ρ ∷ ρs)) m) (cc) (go (each-of (eval e₁) (ρ ∷ ρs) q) w)
     where
-      go : {vs : List (Val c)}
+      go : {vs : List (Val υ)}
           → Each (eval e₁) (ρ ∷ ρs) vs
           → Ran e₁ δ s (ρ ∷ ρs) m vs end
           → Proper (code e₂ (tree e₁ δ s ▹ δ) (s + size e₁)) (length (ρ ∷ ρs)) end
@@ -151,7 +151,7 @@ module _ {Γ : List ℕ} {c d : ℕ} (e₁ : Term Γ c) (e₂ : Term (c ∷ Γ) 
           (always (tree e₁ δ s ▹ δ) (v ▹ ρ) (bound vs ρs) (s + size e₁) end (let-start e₁ first w) (let-agrees e₁ (each-cons p h) a w))
   proper-second first a q e (halted why low high) = let z : _≡_ {A = ℕ} 0 1 = cc in absurd (omega arith)
 
-pub proper : TakesItsEnvironment → {Γ : List ℕ} {d : ℕ} (e : Term Γ d) → Always e
+pub proper : TakesItsEnvironment → {Γ : List ValueType} {τ : ValueType} (e : Term Γ τ) → Always e
 unfolding code
 proper its (var x) δ ρ ρs s m first a = proper-done
 proper its (bind e₁ e₂) δ ρ ρs s m first a =

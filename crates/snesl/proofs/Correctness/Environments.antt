@@ -4,43 +4,43 @@ use Prim.Native.Nat.{ℕ, suc}
 use mathlib.Core.Path.{_≡_, refl, ap, ap₂, _∙_, sym}
 use mathlib.Core.List.{List, [], _∷_, _++_, map, zipWith, map-map, map-append}
 use lib.ListN.{length, length-map}
-use Rattle.snesl.specs.Values.{Val}
-use Rattle.snesl.specs.Terms.{_∋_, Term, listedTypes, All, _▹_, lookup, listed, here, there}
+use Rattle.snesl.specs.Values.{ValueType, braces, Val}
+use Rattle.snesl.specs.Terms.{_∋_, Term, Scalars, anyType, listedTypes, All, _▹_, lookup, listed, here, there}
 use Rattle.snesl.specs.Evaluation.{eval}
 use Rattle.snesl.specs.Representation.{concat, segments}
 use Rattle.snesl.proofs.Correctness.AllOf.{Each, each-nil, each-cons}
 
 -- each environment with its value more
-abbrev pub bound : {Γ : List ℕ} {c : ℕ} → List (Val c) → List (All Val Γ) → List (All Val (c ∷ Γ))
+abbrev pub bound : {Γ : List ValueType} {υ : ValueType} → List (Val υ) → List (All Val Γ) → List (All Val (υ ∷ Γ))
 bound vs ρs = zipWith (λ v ρ. v ▹ ρ) vs ρs
 
-module _ {Γ : List ℕ} {c : ℕ} (e : Term Γ c) where
-  pub newest-bound : {ρs : List (All Val Γ)} {vs : List (Val c)} → Each (eval e) ρs vs → map (lookup here) (bound {c = c} vs ρs) ≡ vs
+module _ {Γ : List ValueType} {υ : ValueType} (e : Term Γ υ) where
+  pub newest-bound : {ρs : List (All Val Γ)} {vs : List (Val υ)} → Each (eval e) ρs vs → map (lookup here) (bound {υ = υ} vs ρs) ≡ vs
   unfolding zipWith lookup
   newest-bound each-nil = refl
   newest-bound (each-cons {b = v} p h) = ap (λ l. v ∷ l) (newest-bound h)
 
-  pub older-bound : {ρs : List (All Val Γ)} {vs : List (Val c)} {d : ℕ} (x : Γ ∋ d)
+  pub older-bound : {ρs : List (All Val Γ)} {vs : List (Val υ)} {τ : ValueType} (x : Γ ∋ τ)
       → Each (eval e) ρs vs
-      → map (lookup (there x)) (bound {c = c} vs ρs) ≡ map (lookup x) ρs
+      → map (lookup (there x)) (bound {υ = υ} vs ρs) ≡ map (lookup x) ρs
   unfolding zipWith lookup
   older-bound x each-nil = refl
   older-bound x (each-cons {a = ρ} p h) = ap (λ l. lookup x ρ ∷ l) (older-bound x h)
 
-  pub length-bound : {ρs : List (All Val Γ)} {vs : List (Val c)} → Each (eval e) ρs vs → length (bound {c = c} vs ρs) ≡ length ρs
+  pub length-bound : {ρs : List (All Val Γ)} {vs : List (Val υ)} → Each (eval e) ρs vs → length (bound {υ = υ} vs ρs) ≡ length ρs
   unfolding zipWith
   length-bound each-nil = refl
   length-bound (each-cons p h) = ap suc (length-bound h)
 
 -- the environments of y's items in ρ, where us are listed
-abbrev pub inside : {Γ : List ℕ} {c : ℕ} → Γ ∋ suc c → (us : List (Γ ∋ 0)) → All Val Γ → List (All Val (c ∷ listedTypes us))
-inside y us ρ = map (λ v. v ▹ listed us ρ) (lookup y ρ)
+abbrev pub inside : {Γ : List ValueType} {υ : ValueType} → Γ ∋ braces υ → (us : Scalars Γ) → All Val Γ → List (All Val (υ ∷ listedTypes (anyType us)))
+inside y us ρ = map (λ v. v ▹ listed (anyType us) ρ) (lookup y ρ)
 
-abbrev pub insideAll : {Γ : List ℕ} {c : ℕ} → Γ ∋ suc c → (us : List (Γ ∋ 0)) → List (All Val Γ) → List (All Val (c ∷ listedTypes us))
+abbrev pub insideAll : {Γ : List ValueType} {υ : ValueType} → Γ ∋ braces υ → (us : Scalars Γ) → List (All Val Γ) → List (All Val (υ ∷ listedTypes (anyType us)))
 insideAll y us ρs = concat (map (inside y us) ρs)
 
 -- how many items y has over all environments
-abbrev pub items : {Γ : List ℕ} {c : ℕ} → Γ ∋ suc c → List (All Val Γ) → ℕ
+abbrev pub items : {Γ : List ValueType} {υ : ValueType} → Γ ∋ braces υ → List (All Val Γ) → ℕ
 items y ρs = length (concat (map (lookup y) ρs))
 
 -- a map of the items, list by list
@@ -53,27 +53,27 @@ map-same : {A B : Type 0} (f : A → B) (g : B → A) (h : (x : A) → g (f x) �
 map-same f g h [] = refl
 map-same f g h (x ∷ l) = ap₂ (λ y t. y ∷ t) (h x) (map-same f g h l)
 
-module _ {Γ : List ℕ} {c : ℕ} (y : Γ ∋ suc c) (us : List (Γ ∋ 0)) where
+module _ {Γ : List ValueType} {υ : ValueType} (y : Γ ∋ braces υ) (us : Scalars Γ) where
   -- x's values are y's items
   pub item-inside : (ρs : List (All Val Γ)) → map (lookup here) (insideAll y us ρs) ≡ concat (map (lookup y) ρs)
   unfolding lookup
   item-inside ρs =
       concat-map (lookup here) (inside y us) ρs
-      ∙ ap (λ f. concat (map f ρs)) (λ i ρ. map-same (λ v. v ▹ listed us ρ) (lookup {d = c} here) (λ v. refl) (lookup y ρ) i)
+      ∙ ap (λ f. concat (map f ρs)) (λ i ρ. map-same (λ v. v ▹ listed (anyType us) ρ) (lookup {τ = υ} here) (λ v. refl) (lookup y ρ) i)
 
   -- a listed variable's values are copies, one for each item
-  pub copy-inside : {d : ℕ} (x : listedTypes us ∋ d) (ρs : List (All Val Γ))
-      → map (lookup (there x)) (insideAll y us ρs) ≡ concat (map (λ ρ. map (λ v. lookup x (listed us ρ)) (lookup y ρ)) ρs)
+  pub copy-inside : {τ : ValueType} (x : listedTypes (anyType us) ∋ τ) (ρs : List (All Val Γ))
+      → map (lookup (there x)) (insideAll y us ρs) ≡ concat (map (λ ρ. map (λ v. lookup x (listed (anyType us) ρ)) (lookup y ρ)) ρs)
   unfolding lookup
   copy-inside x ρs =
       concat-map (lookup (there x)) (inside y us) ρs
-      ∙ ap (λ f. concat (map f ρs)) (λ i ρ. map-map (lookup (there {e = c} x)) (λ v. v ▹ listed us ρ) (lookup y ρ) i)
+      ∙ ap (λ f. concat (map f ρs)) (λ i ρ. map-map (lookup (there {υ = υ} x)) (λ v. v ▹ listed (anyType us) ρ) (lookup y ρ) i)
 
   -- as many as y has items
   pub segments-inside : (ρs : List (All Val Γ)) → segments (map (inside y us) ρs) ≡ segments (map (lookup y) ρs)
   unfolding segments
   segments-inside [] = refl
-  segments-inside (ρ ∷ ρs) = rw (length-map (lookup y ρ) (λ v. v ▹ listed us ρ), segments-inside ρs)
+  segments-inside (ρ ∷ ρs) = rw (length-map (lookup y ρ) (λ v. v ▹ listed (anyType us) ρ), segments-inside ρs)
 
   pub length-inside : (ρs : List (All Val Γ)) → length (insideAll y us ρs) ≡ items y ρs
   length-inside ρs = sym (length-map (insideAll y us ρs) (lookup here)) ∙ ap length (item-inside ρs)

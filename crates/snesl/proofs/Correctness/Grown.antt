@@ -1,16 +1,16 @@
 -- The store only grows, so what a tree holds it goes on to hold.
-use Prim.Native.Nat.{ℕ, suc, _+_}
+use Prim.Native.Nat.{ℕ, _+_}
 use native.Mathlib.Omega.{arith}
 use mathlib.Core.Path.{_≡_, subst}
 use mathlib.Core.List.{List, [], _∷_, _++_, map}
 use mathlib.Core.Option.{some}
-use lib.IntN.{ℤ}
 use lib.ListN.{length, length-append}
 use Rattle.laws.proofs.Lists.{getElem?-append-left, getElem?-append-seam}
-use Rattle.snesl.specs.Values.{Val}
+use Rattle.snesl.specs.declared.code.Base.{Base}
+use Rattle.snesl.specs.Values.{ValueType, scalar, braces, Element, Val}
 use Rattle.snesl.specs.Terms.{_∋_, Term, All, _▹_, lookup, here, there}
-use Rattle.snesl.specs.Streams.{Stream, ints, flags, Store, _!_}
-use Rattle.snesl.specs.Trees.{Tree, leaf, inner, outer, root}
+use Rattle.snesl.specs.Streams.{Stream, flags, dataOf, Store, _!_}
+use Rattle.snesl.specs.Trees.{IdTree, leaf, inner, outer, root}
 use Rattle.snesl.specs.Evaluation.{eval}
 use Rattle.snesl.specs.Representation.{concat, segments, Holds, holds-leaf, holds-node}
 use Rattle.snesl.specs.Agreement.{Agrees}
@@ -18,25 +18,25 @@ use Rattle.snesl.proofs.Correctness.AllOf.{Each}
 use Rattle.snesl.proofs.Correctness.Environments.{bound, newest-bound, older-bound}
 
 module _ {σ : Store} where
-  pub holds-grown : {d : ℕ} {st : Tree ℕ d} {vs : List (Val d)} (τ : Store) → Holds σ d st vs → Holds (σ ++ τ) d st vs
-  holds-grown τ (holds-leaf {s = s} h) = holds-leaf (getElem?-append-left σ τ s h)
-  holds-grown τ (holds-node {s = s} h k) = holds-node (getElem?-append-left σ τ s h) (holds-grown τ k)
+  pub holds-grown : {τ : ValueType} {st : IdTree τ} {vs : List (Val τ)} (σ′ : Store) → Holds σ τ st vs → Holds (σ ++ σ′) τ st vs
+  holds-grown σ′ (holds-leaf {s = s} h) = holds-leaf (getElem?-append-left σ σ′ s h)
+  holds-grown σ′ (holds-node {s = s} h k) = holds-node (getElem?-append-left σ σ′ s h) (holds-grown σ′ k)
 
   -- what is held, place by place
-  pub held-data : {st : Tree ℕ 0} {vs : List ℤ} → Holds σ 0 st vs → σ ! root st ≡ some (ints vs)
+  pub held-data : {b : Base} {st : IdTree (scalar b)} {vs : List (Element b)} → Holds σ (scalar b) st vs → σ ! root st ≡ some (dataOf b vs)
   unfolding root
   held-data (holds-leaf h) = h
 
-  pub held-flags : {d : ℕ} {st : Tree ℕ (suc d)} {vs : List (List (Val d))} → Holds σ (suc d) st vs → σ ! outer st ≡ some (flags (segments vs))
+  pub held-flags : {τ : ValueType} {st : IdTree (braces τ)} {vs : List (List (Val τ))} → Holds σ (braces τ) st vs → σ ! outer st ≡ some (flags (segments vs))
   unfolding outer
   held-flags (holds-node h k) = h
 
-  pub held-inner : {d : ℕ} {st : Tree ℕ (suc d)} {vs : List (List (Val d))} → Holds σ (suc d) st vs → Holds σ d (inner st) (concat vs)
+  pub held-inner : {τ : ValueType} {st : IdTree (braces τ)} {vs : List (List (Val τ))} → Holds σ (braces τ) st vs → Holds σ τ (inner st) (concat vs)
   unfolding inner
   held-inner (holds-node h k) = k
 
-  pub agrees-grown : {Γ : List ℕ} {δ : All (Tree ℕ) Γ} {ρs : List (All Val Γ)} (τ : Store) → Agrees σ δ ρs → Agrees (σ ++ τ) δ ρs
-  agrees-grown τ a = record { holds = λ x. holds-grown τ (a .holds x) }
+  pub agrees-grown : {Γ : List ValueType} {δ : All IdTree Γ} {ρs : List (All Val Γ)} (σ′ : Store) → Agrees σ δ ρs → Agrees (σ ++ σ′) δ ρs
+  agrees-grown σ′ a = record { holds = λ x. holds-grown σ′ (a .holds x) }
 
 -- the stream that was just defined
 pub new-stream : (σ : Store) (a : Stream) {s : ℕ} → length σ ≡ s → (σ ++ a ∷ []) ! s ≡ some a
@@ -49,15 +49,15 @@ next-id σ a h = omega (arith, length-append σ (a ∷ []))
 pub old-stream : (σ : Store) (a : Stream) (s : ℕ) {b : Stream} → σ ! s ≡ some b → (σ ++ a ∷ []) ! s ≡ some b
 old-stream σ a s h = getElem?-append-left σ (a ∷ []) s h
 
-pub holds-new : (σ : Store) {s : ℕ} (vs : List ℤ) → length σ ≡ s → Holds (σ ++ ints vs ∷ []) 0 (leaf s) vs
-holds-new σ vs h = holds-leaf (new-stream σ (ints vs) h)
+pub holds-new : (σ : Store) {s : ℕ} (b : Base) (vs : List (Element b)) → length σ ≡ s → Holds (σ ++ dataOf b vs ∷ []) (scalar b) (leaf s) vs
+holds-new σ b vs h = holds-leaf (new-stream σ (dataOf b vs) h)
 
 -- with a let's value for each environment
-module _ {σ : Store} {Γ : List ℕ} {c : ℕ} (e : Term Γ c) {δ : All (Tree ℕ) Γ} {ρs : List (All Val Γ)} {vs : List (Val c)} {st : Tree ℕ c} where
-  pub agrees-bound : Each (eval e) ρs vs → Holds σ c st vs → Agrees σ δ ρs → Agrees σ (st ▹ δ) (bound vs ρs)
+module _ {σ : Store} {Γ : List ValueType} {υ : ValueType} (e : Term Γ υ) {δ : All IdTree Γ} {ρs : List (All Val Γ)} {vs : List (Val υ)} {st : IdTree υ} where
+  pub agrees-bound : Each (eval e) ρs vs → Holds σ υ st vs → Agrees σ δ ρs → Agrees σ (_▹_ {τ = υ} st δ) (bound vs ρs)
   unfolding lookup
   agrees-bound h k a = record { holds = go }
     where
-      go : {d : ℕ} (x : (c ∷ Γ) ∋ d) → Holds σ d (lookup x (st ▹ δ)) (map (lookup x) (bound {c = c} vs ρs))
+      go : {τ : ValueType} (x : (υ ∷ Γ) ∋ τ) → Holds σ τ (lookup x (_▹_ {τ = υ} st δ)) (map (lookup x) (bound {υ = υ} vs ρs))
       go here = rw (newest-bound e h) k
       go (there x) = rw (older-bound e x h) (a .holds x)

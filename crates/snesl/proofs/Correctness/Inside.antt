@@ -6,14 +6,14 @@ use native.Mathlib.Numerals.{add-one}
 use mathlib.Core.Path.{_≡_, refl, _∙_, subst}
 use mathlib.Core.List.{List, [], _∷_, _++_, map}
 use mathlib.Core.Option.{some}
-use lib.IntN.{ℤ}
 use lib.ListN.{length, length-map, length-append}
 use lib.Seq.{append-snoc}
 use Rattle.laws.proofs.Lists.{getElem?-append-seam}
-use Rattle.snesl.specs.Values.{Val}
-use Rattle.snesl.specs.Terms.{_∋_, here, there, listedTypes, All, lookup, listed}
-use Rattle.snesl.specs.Streams.{ints, units, Store, _!_}
-use Rattle.snesl.specs.Trees.{Tree}
+use Rattle.snesl.specs.declared.code.Base.{Base}
+use Rattle.snesl.specs.Values.{ValueType, scalar, braces, Element, Val}
+use Rattle.snesl.specs.Terms.{_∋_, here, there, Scalars, anyType, listedTypes, All, lookup, listed}
+use Rattle.snesl.specs.Streams.{Stream, units, dataOf, Store, _!_}
+use Rattle.snesl.specs.Trees.{IdTree}
 use Rattle.snesl.specs.Translation.{numbered, within}
 use Rattle.snesl.specs.Representation.{Holds, holds-leaf, concat}
 use Rattle.snesl.specs.Agreement.{Agrees}
@@ -33,29 +33,32 @@ length-each-copied f g (r ∷ rs) =
       length-each-copied f g rs,
     )
 
-module _ {Γ : List ℕ} {c : ℕ} (y : Γ ∋ suc c) (ρs : List (All Val Γ)) where
+module _ {Γ : List ValueType} {υ : ValueType} (y : Γ ∋ braces υ) (ρs : List (All Val Γ)) where
   -- u's value for each item of y
-  abbrev pub copy : Γ ∋ 0 → List ℤ
+  abbrev pub copy : {b : Base} → Γ ∋ scalar b → List (Element b)
   copy u = concat (map (λ ρ. map (λ v. lookup u ρ) (lookup y ρ)) ρs)
 
-  pub length-copy : (u : Γ ∋ 0) → length (copy u) ≡ items y ρs
+  pub length-copy : {b : Base} (u : Γ ∋ scalar b) → length (copy u) ≡ items y ρs
   length-copy u = length-each-copied (lookup y) (lookup u) ρs
 
-  abbrev pub copies : List (Γ ∋ 0) → Store
-  copies us = map (λ u. ints (copy u)) us
+  abbrev pub copied : (b : Base) × (Γ ∋ scalar b) → Stream
+  copied u = dataOf (u .0) (copy (u .1))
 
-  numbered-hold : (us : List (Γ ∋ 0)) (σ : Store) (s : ℕ)
+  abbrev pub copies : Scalars Γ → Store
+  copies us = map copied us
+
+  numbered-hold : (us : Scalars Γ) (σ : Store) (s : ℕ)
       → length σ ≡ s
-      → {d : ℕ} (x : listedTypes us ∋ d)
-      → Holds (σ ++ copies us) d (lookup x (numbered s us)) (concat (map (λ ρ. map (λ v. lookup x (listed us ρ)) (lookup y ρ)) ρs))
+      → {τ : ValueType} (x : listedTypes (anyType us) ∋ τ)
+      → Holds (σ ++ copies us) τ (lookup x (numbered s us)) (concat (map (λ ρ. map (λ v. lookup x (listed (anyType us) ρ)) (lookup y ρ)) ρs))
   unfolding lookup numbered listed
   numbered-hold (u ∷ us) σ s h here =
       holds-leaf
-      (subst (λ s. (σ ++ ints (copy u) ∷ copies us) ! s ≡ some (ints (copy u))) h (getElem?-append-seam σ (ints (copy u)) (copies us)))
+      (subst (λ s. (σ ++ copied u ∷ copies us) ! s ≡ some (copied u)) h (getElem?-append-seam σ (copied u) (copies us)))
   numbered-hold (u ∷ us) σ s h (there x) =
-      rw (append-snoc σ (ints (copy u)) (copies us)) at (numbered-hold us (σ ++ ints (copy u) ∷ []) (suc s) (next-id σ (ints (copy u)) h ∙ add-one s) x)
+      rw (append-snoc σ (copied u) (copies us)) at (numbered-hold us (σ ++ copied u ∷ []) (suc s) (next-id σ (copied u) h ∙ add-one s) x)
 
-  pub agrees-inside : (us : List (Γ ∋ 0)) {δ : All (Tree ℕ) Γ} {σ : Store} {s : ℕ}
+  pub agrees-inside : (us : Scalars Γ) {δ : All IdTree Γ} {σ : Store} {s : ℕ}
       → length σ ≡ s
       → Agrees σ δ ρs
       → Agrees (σ ++ units (items y ρs) ∷ copies us) (within y us δ s) (insideAll y us ρs)
@@ -65,7 +68,7 @@ module _ {Γ : List ℕ} {c : ℕ} (y : Γ ∋ suc c) (ρs : List (All Val Γ)) 
       grown : Store
       grown = σ ++ units (items y ρs) ∷ copies us
 
-      go : {d : ℕ} (x : (c ∷ listedTypes us) ∋ d) → Holds grown d (lookup x (within y us δ s)) (map (lookup x) (insideAll y us ρs))
+      go : {τ : ValueType} (x : (υ ∷ listedTypes (anyType us)) ∋ τ) → Holds grown τ (lookup x (within y us δ s)) (map (lookup x) (insideAll y us ρs))
       go here = rw (item-inside y us ρs) (holds-grown (units (items y ρs) ∷ copies us) (held-inner (a .holds y)))
       go (there x) =
           rw (copy-inside y us x ρs)

@@ -7,10 +7,10 @@ use mathlib.Core.Option.{Option, some, none}
 use lib.IntN.{ℤ, pos}
 use lib.ListN.{length, length-map, length-replicate, replicate}
 use Rattle.snesl.specs.declared.code.Transducer.the-variants.{Const, ToFlags, Usum, ScanPlus}
-use Rattle.snesl.specs.Values.{Val}
+use Rattle.snesl.specs.Values.{ValueType, int, Val}
 use Rattle.snesl.specs.Terms.{_∋_, iota, All, lookup}
 use Rattle.snesl.specs.Streams.{ints, flags, units, _!_}
-use Rattle.snesl.specs.Trees.{Tree, root}
+use Rattle.snesl.specs.Trees.{IdTree, root}
 use Rattle.snesl.specs.Transducers.{apply, made, negative, outside, unless, firstNegative, firstOutside, scans, unary}
 use Rattle.snesl.specs.Programs.{Program, define, done, withCtrl, _⨾_}
 use Rattle.snesl.specs.Machine.{State, onward, run, boundless, push, skip, skipped, sumOf, workOf, fetch}
@@ -29,7 +29,7 @@ use Rattle.snesl.proofs.Correctness.Grown.{held-data, new-stream, old-s
 use Rattle.snesl.proofs.Correctness.Applied.{apply-usum, apply-scan, apply-toFlags, work-one, work-two}
 use Rattle.snesl.proofs.Correctness.Leaves.{Correct}
 
-module _ {Γ : List ℕ} (x : Γ ∋ 0) (δ : All (Tree ℕ) Γ) (ρ : All Val Γ) (ρs : List (All Val Γ)) (s : ℕ) (m : State) where
+module _ {Γ : List ValueType} (x : Γ ∋ int) (δ : All IdTree Γ) (ρ : All Val Γ) (ρs : List (All Val Γ)) (s : ℕ) (m : State) where
   -- the numbers, and the lists that the rules give
   abbrev zs : List ℤ
   zs = map (lookup x) (ρ ∷ ρs)
@@ -200,7 +200,7 @@ module _ {Γ : List ℕ} (x : Γ ∋ 0) (δ : All (Tree ℕ) Γ) (ρ : All Val �
         rw (q, run-negative (ToFlags (id (root (lookup x δ)))) p n m h) (halted {i = length (m .store)} iota-negative (omega arith) (omega arith))
     signs none p (all-natural q) h well = rw q (well h)
 
-pub correct-iota : {Γ : List ℕ} (x : Γ ∋ 0) → Correct (iota x)
+pub correct-iota : {Γ : List ValueType} (x : Γ ∋ int) → Correct (iota x)
 unfolding eval code _⨾_
 correct-iota x δ ρ ρs s m first a =
     let zs = map (lookup x) (ρ ∷ ρs) in

@@ -8,11 +8,13 @@ use lib.IntN.{ℤ, pos, _+ℤ_}
 use lib.ListN.{length, length-map, length-replicate, replicate}
 use Rattle.laws.proofs.Lists.{map-const}
 use Rattle.snesl.specs.declared.code.Transducer.{Transducer}
-use Rattle.snesl.specs.declared.code.Transducer.the-variants.{Const, MapTwoPlus, SumPlus}
-use Rattle.snesl.specs.Values.{Val, total}
+use Rattle.snesl.specs.declared.code.Base.{Base}
+use Rattle.snesl.specs.declared.code.Operation.the-variants.{Plus}
+use Rattle.snesl.specs.declared.code.Transducer.the-variants.{Const, MapTwo, SumPlus}
+use Rattle.snesl.specs.Values.{ValueType, scalar, braces, int, Element, Val, total}
 use Rattle.snesl.specs.Terms.{_∋_, Term, var, const, plus, sum, All, lookup}
-use Rattle.snesl.specs.Streams.{ints, flags, _!_}
-use Rattle.snesl.specs.Trees.{Tree, leaf, inner, outer, root}
+use Rattle.snesl.specs.Streams.{ints, flags, dataOf, _!_}
+use Rattle.snesl.specs.Trees.{IdTree, leaf, inner, outer, root}
 use Rattle.snesl.specs.Transducers.{apply, made, outside, operands, exact, unless, firstOutside, pluses, sums}
 use Rattle.snesl.specs.Programs.{define, done}
 use Rattle.snesl.specs.Machine.{State, went, fetch, workOf, run, boundless, sumOf}
@@ -31,14 +33,14 @@ use Rattle.snesl.proofs.Correctness.Grown.{held-data, held-flags, held-
 use Rattle.snesl.proofs.Correctness.Applied.{apply-plus, apply-sum, work-two}
 
 -- what `correct` says of a term
-abbrev pub Correct : {Γ : List ℕ} {d : ℕ} → Term Γ d → Type 0
+abbrev pub Correct : {Γ : List ValueType} {τ : ValueType} → Term Γ τ → Type 0
 Correct {Γ} e =
-    (δ : All (Tree ℕ) Γ) (ρ : All Val Γ) (ρs : List (All Val Γ)) (s : ℕ) (m : State)
+    (δ : All IdTree Γ) (ρ : All Val Γ) (ρs : List (All Val Γ)) (s : ℕ) (m : State)
     → length (m .store) ≡ s
     → Agrees (m .store) δ (ρ ∷ ρs)
     → ComesTo e δ s (ρ ∷ ρs) m (allOf (eval e) (ρ ∷ ρs)) (run boundless (code e δ s) (length (ρ ∷ ρs)) m)
 
-pub correct-var : {Γ : List ℕ} {d : ℕ} (x : Γ ∋ d) → Correct (var x)
+pub correct-var : {Γ : List ValueType} {τ : ValueType} (x : Γ ∋ τ) → Correct (var x)
 unfolding eval code run size tree
 correct-var x δ ρ ρs s m h a =
     subst (λ o. ComesTo (var x) δ s (ρ ∷ ρs) m o (went m)) (sym (allOf-some (lookup x) (ρ ∷ ρs)))
@@ -52,20 +54,20 @@ correct-var x δ ρ ρs s m h a =
     })
 
 -- a term whose code is one definition and whose tree is that stream
-module _ {Γ : List ℕ} (e : Term Γ 0) (δ : All (Tree ℕ) Γ) (s : ℕ) (ρs : List (All Val Γ)) (m : State) (t : Transducer) (n : ℕ)
+module _ {Γ : List ValueType} {b : Base} (e : Term Γ (scalar b)) (δ : All IdTree Γ) (s : ℕ) (ρs : List (All Val Γ)) (m : State) (t : Transducer) (n : ℕ)
     (one : size e ≡ 1) (new : tree e δ s ≡ leaf s) (first : length (m .store) ≡ s) (step : stepsOf e ρs ≡ 1) where
-  single-made : (zs : List ℤ)
-      → apply t n (m .store) ≡ made (ints zs)
-      → workOf n (fetch (m .store) (operands t)) (ints zs) ≡ charges e ρs
-      → ComesTo e δ s ρs m (some zs) (run boundless (define t done) n m)
+  single-made : (vs : List (Element b))
+      → apply t n (m .store) ≡ made (dataOf b vs)
+      → workOf n (fetch (m .store) (operands t)) (dataOf b vs) ≡ charges e ρs
+      → ComesTo e δ s ρs m (some vs) (run boundless (define t done) n m)
   unfolding run
-  single-made zs h k =
-      subst (λ r. ComesTo e δ s ρs m (some zs) r) (sym (run-made t done n m h))
+  single-made vs h k =
+      subst (λ r. ComesTo e δ s ρs m (some vs) r) (sym (run-made t done n m h))
       (ran record {
-        added = ints zs ∷ [];
+        added = dataOf b vs ∷ [];
         store = refl;
         adds = sym one;
-        results = rw new (holds-new (m .store) zs first);
+        results = rw new (holds-new (m .store) b vs first);
         work = ap (λ k. m .work + k) k;
         steps = ap (λ k. m .steps + k) (sym step);
       })
@@ -75,6 +77,9 @@ module _ {Γ : List ℕ} (e : Term Γ 0) (δ : All (Tree ℕ) Γ) (s : ℕ) (ρs
       subst (λ r. ComesTo e δ s ρs m none r) (sym (run-outside t done n m h))
       (halted no-number (omega arith) (omega arith))
 
+-- an int where each exact result is in range
+module _ {Γ : List ValueType} (e : Term Γ int) (δ : All IdTree Γ) (s : ℕ) (ρs : List (All Val Γ)) (m : State) (t : Transducer) (n : ℕ)
+    (one : size e ≡ 1) (new : tree e δ s ≡ leaf s) (first : length (m .store) ≡ s) (step : stepsOf e ρs ≡ 1) where
   single-exact : (rs : List (ℕ × ℤ)) (zs : List ℤ)
       → map result rs ≡ zs
       → apply t n (m .store) ≡ exact rs
@@ -88,10 +93,10 @@ module _ {Γ : List ℕ} (e : Term Γ 0) (δ : All (Tree ℕ) Γ) (s : ℕ) (ρs
           → Ranged (map result rs) o f
           → apply t n (m .store) ≡ unless f outside (made (ints (map result rs)))
           → ComesTo e δ s ρs m o (run boundless (define t done) n m)
-      go none all-in h = single-made (map result rs) h (rw p k)
-      go (some i) one-out h = single-outside h
+      go none all-in h = single-made e δ s ρs m t n one new first step (map result rs) h (rw p k)
+      go (some i) one-out h = single-outside e δ s ρs m t n one new first step h
 
-pub correct-const : {Γ : List ℕ} (z : ℤ) → Correct {Γ = Γ} (const z)
+pub correct-const : {Γ : List ValueType} (z : ℤ) → Correct {Γ = Γ} (const z)
 unfolding eval code size tree apply sumOf
 correct-const z δ ρ ρs s m h a =
     subst (λ o. ComesTo (const z) δ s (ρ ∷ ρs) m o (run boundless (define (Const z) done) (length (ρ ∷ ρs)) m))
@@ -100,7 +105,7 @@ correct-const z δ ρ ρs s m h a =
     (replicate (length (ρ ∷ ρs)) z) refl
     (omega (arith, length-replicate (length ρs) z, charges-const z (ρ ∷ ρs))))
 
-pub correct-plus : {Γ : List ℕ} (x y : Γ ∋ 0) → Correct (plus x y)
+pub correct-plus : {Γ : List ValueType} (x y : Γ ∋ int) → Correct (plus x y)
 unfolding eval code size tree
 correct-plus x y δ ρ ρs s m h a =
     let n = length (ρ ∷ ρs) in
@@ -111,9 +116,9 @@ correct-plus x y δ ρ ρs s m h a =
     let j = root (lookup y δ) in
     let left : m .store ! i ≡ some (ints xs) = held-data (a .holds x) in
     let right : m .store ! j ≡ some (ints ys) = held-data (a .holds y) in
-    subst (λ o. ComesTo (plus x y) δ s (ρ ∷ ρs) m o (run boundless (define (MapTwoPlus (id i) (id j)) done) n m))
+    subst (λ o. ComesTo (plus x y) δ s (ρ ∷ ρs) m o (run boundless (define (MapTwo Plus (id i) (id j)) done) n m))
     (allOf-map within (λ ρ. lookup x ρ +ℤ lookup y ρ) (ρ ∷ ρs))
-    (single-exact (plus x y) δ s (ρ ∷ ρs) m (MapTwoPlus (id i) (id j)) n refl refl h (steps-plus x y ρ ρs)
+    (single-exact (plus x y) δ s (ρ ∷ ρs) m (MapTwo Plus (id i) (id j)) n refl refl h (steps-plus x y ρ ρs)
     (pluses 0 xs ys) zs
     (results-pluses (lookup x) (lookup y) (ρ ∷ ρs) 0)
     (apply-plus (m .store) xs ys n i j (length-map (ρ ∷ ρs) (lookup x)) (length-map (ρ ∷ ρs) (lookup y)) left right)
@@ -126,7 +131,7 @@ correct-plus x y δ ρ ρs s m h a =
       charges-plus x y (ρ ∷ ρs),
     )))
 
-pub correct-sum : {Γ : List ℕ} (x : Γ ∋ 1) → Correct (sum x)
+pub correct-sum : {Γ : List ValueType} (x : Γ ∋ braces int) → Correct (sum x)
 unfolding eval code size tree
 correct-sum x δ ρ ρs s m h a =
     let n = length (ρ ∷ ρs) in

@@ -5,9 +5,9 @@ use mathlib.Core.Path.{_≡_, refl, subst}
 use mathlib.Core.List.{List, [], _∷_}
 use mathlib.Core.Option.{Option, some, none}
 use lib.ListN.{length}
-use Rattle.snesl.specs.Values.{Val}
+use Rattle.snesl.specs.Values.{ValueType, Val}
 use Rattle.snesl.specs.Terms.{Term, All}
-use Rattle.snesl.specs.Trees.{Tree}
+use Rattle.snesl.specs.Trees.{IdTree}
 use Rattle.snesl.specs.Machine.{State, Stop, Result, went, stopped, run, boundless, sumOf}
 use Rattle.snesl.specs.Evaluation.{andThen, eval, allOf}
 use Rattle.snesl.specs.Translation.{size, tree, code}
@@ -16,8 +16,8 @@ use Rattle.snesl.specs.Agreement.{Agrees, ComesTo, ran, halted, ByRule, 
 use Rattle.snesl.proofs.Correctness.Reached.{steps-one}
 use Rattle.snesl.proofs.Correctness.Correct.{correct}
 
-module _ {Γ : List ℕ} {d : ℕ} (e : Term Γ d) (δ : All (Tree ℕ) Γ) (s : ℕ) (ρ : All Val Γ) (m : State) where
-  once : {os : Option (List (Val d))} {r : Result} (o : Option (Val d))
+module _ {Γ : List ValueType} {τ : ValueType} (e : Term Γ τ) (δ : All IdTree Γ) (s : ℕ) (ρ : All Val Γ) (m : State) where
+  once : {os : Option (List (Val τ))} {r : Result} (o : Option (Val τ))
       → os ≡ andThen o (λ v. some (v ∷ []))
       → ComesTo e δ s (ρ ∷ []) m os r
       → ComesToOnce e δ s ρ m o r
@@ -29,7 +29,7 @@ module _ {Γ : List ℕ} {d : ℕ} (e : Term Γ d) (δ : All (Tree ℕ) Γ) (s :
         added = w .added;
         store = w .store;
         adds = w .adds;
-        results = subst (λ vs. Holds (m′ .store) d (tree e δ s) vs) (cc) (w .results);
+        results = subst (λ vs. Holds (m′ .store) τ (tree e δ s) vs) (cc) (w .results);
         work = omega (arith, w .work);
         steps = omega (arith, w .steps, steps-one e ρ);
       }
@@ -40,29 +40,29 @@ module _ {Γ : List ℕ} {d : ℕ} (e : Term Γ d) (δ : All (Tree ℕ) Γ) (s :
   correct-once first a = once (eval e ρ) refl (correct e δ ρ [] s m first a)
 
 -- Read from what the rules give, and from what the run came to.
-module _ {Γ : List ℕ} {d : ℕ} {e : Term Γ d} {δ : All (Tree ℕ) Γ} {s : ℕ} {ρ : All Val Γ} {m : State} where
-  pub value-runs : {o : Option (Val d)} {r : Result} {v : Val d}
+module _ {Γ : List ValueType} {τ : ValueType} {e : Term Γ τ} {δ : All IdTree Γ} {s : ℕ} {ρ : All Val Γ} {m : State} where
+  pub value-runs : {o : Option (Val τ)} {r : Result} {v : Val τ}
       → o ≡ some v
       → ComesToOnce e δ s ρ m o r
       → (m′ : State) × (r ≡ went m′) × RanOnce e δ s ρ m v m′
   value-runs h (ran-once {m′ = m′} w) = (m′, refl, subst (λ v. RanOnce e δ s ρ m v m′) (cc) w)
   value-runs h (halted-once why low high) = let z : _≡_ {A = ℕ} 0 1 = cc in absurd (omega arith)
 
-  pub no-value-halts : {o : Option (Val d)} {r : Result}
+  pub no-value-halts : {o : Option (Val τ)} {r : Result}
       → o ≡ none
       → ComesToOnce e δ s ρ m o r
       → (why : Stop) × (i : ℕ) × (r ≡ stopped why i) × ByRule why × (s ≤ i) × (i < s + size e)
   no-value-halts h (ran-once w) = let z : _≡_ {A = ℕ} 0 1 = cc in absurd (omega arith)
   no-value-halts h (halted-once {why = why} {i = i} rule low high) = (why, i, refl, rule, low, high)
 
-  pub run-has-value : {o : Option (Val d)} {r : Result} {m′ : State}
+  pub run-has-value : {o : Option (Val τ)} {r : Result} {m′ : State}
       → r ≡ went m′
       → ComesToOnce e δ s ρ m o r
-      → (v : Val d) × (o ≡ some v) × RanOnce e δ s ρ m v m′
+      → (v : Val τ) × (o ≡ some v) × RanOnce e δ s ρ m v m′
   run-has-value h (ran-once {v = v} w) = (v, refl, subst (λ m′. RanOnce e δ s ρ m v m′) (cc) w)
   run-has-value h (halted-once why low high) = let z : _≡_ {A = ℕ} 0 1 = cc in absurd (omega arith)
 
-  pub halt-has-no-value : {o : Option (Val d)} {r : Result} {why : Stop} {i : ℕ}
+  pub halt-has-no-value : {o : Option (Val τ)} {r : Result} {why : Stop} {i : ℕ}
       → r ≡ stopped why i
       → ComesToOnce e δ s ρ m o r
       → (o ≡ none) × ByRule why × (s ≤ i) × (i < s + size e)

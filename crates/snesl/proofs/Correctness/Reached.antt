@@ -9,8 +9,8 @@ use mathlib.Core.Option.{Option, some, none}
 use lib.Dec.{ltb}
 use lib.ListN.{length, replicate, length-append, length-replicate, replicate-append-replicate}
 use borrow.Author.Tests.{lt-ltb}
-use Rattle.snesl.specs.Values.{Val}
-use Rattle.snesl.specs.Terms.{_∋_, Term, var, bind, const, iota, plus, sum, each, All, _▹_, lookup, listed}
+use Rattle.snesl.specs.Values.{ValueType, braces, int, Val}
+use Rattle.snesl.specs.Terms.{_∋_, Term, var, bind, const, iota, plus, sum, each, Scalars, anyType, All, _▹_, lookup, listed}
 use Rattle.snesl.specs.Evaluation.{eval}
 use Rattle.snesl.specs.Translation.{size}
 use Rattle.snesl.specs.Charges.{times, either, anyOf, reached, countTrue, stepsOf}
@@ -91,14 +91,14 @@ module _ {R : Type 0} (n : ℕ) (f : R → List Bool) (sized : (r : R) → lengt
       sym (subst (λ k. either (replicate k false) (anyOf n (map f r)) ≡ anyOf n (map f r)) (length-anyOf r) (nowhere-either (anyOf n (map f r))))
   anyOf-append (x ∷ l) r = ap (either (f x)) (anyOf-append l r) ∙ sym (either-assoc (f x) (anyOf n (map f l)) (anyOf n (map f r)))
 
-pub length-reached : {Γ : List ℕ} {d : ℕ} (e : Term Γ d) (ρ : All Val Γ) → length (reached e ρ) ≡ size e
+pub length-reached : {Γ : List ValueType} {τ : ValueType} (e : Term Γ τ) (ρ : All Val Γ) → length (reached e ρ) ≡ size e
 unfolding reached size
 length-reached (var x) ρ = refl
-length-reached (bind {c = c} e₁ e₂) ρ =
+length-reached (bind {υ = υ} e₁ e₂) ρ =
     length-append (reached e₁ ρ) (elim (eval e₁ ρ) [ none ↦ replicate (size e₂) false | some v ↦ reached e₂ (v ▹ ρ) ])
     ∙ ap₂ (λ a b. a + b) (length-reached e₁ ρ) (rest (eval e₁ ρ) (λ v. length-reached e₂ (v ▹ ρ)))
   where
-    rest : (o : Option (Val c)) → ((v : Val c) → length (reached e₂ (v ▹ ρ)) ≡ size e₂)
+    rest : (o : Option (Val υ)) → ((v : Val υ) → length (reached e₂ (v ▹ ρ)) ≡ size e₂)
         → length {A = Bool} (elim o [ none ↦ replicate (size e₂) false | some v ↦ reached e₂ (v ▹ ρ) ]) ≡ size e₂
     rest none h = length-replicate (size e₂) false
     rest (some v) h = h v
@@ -107,19 +107,19 @@ length-reached (iota x) ρ = refl
 length-reached (plus x y) ρ = refl
 length-reached (sum x) ρ = refl
 length-reached (each y us e) ρ =
-    let marks = anyOf (size e) (map (λ v. reached e (v ▹ listed us ρ)) (lookup y ρ)) in
+    let marks = anyOf (size e) (map (λ v. reached e (v ▹ listed (anyType us) ρ)) (lookup y ρ)) in
     omega (
       arith,
       length-append (replicate (length us) true) marks,
       length-replicate (length us) true,
-      length-anyOf (size e) (λ v. reached e (v ▹ listed us ρ)) (λ v. length-reached e (v ▹ listed us ρ)) (lookup y ρ),
+      length-anyOf (size e) (λ v. reached e (v ▹ listed (anyType us) ρ)) (λ v. length-reached e (v ▹ listed (anyType us) ρ)) (lookup y ρ),
     )
 
 -- a term's marks in several environments
-abbrev pub marks : {Γ : List ℕ} {d : ℕ} → Term Γ d → List (All Val Γ) → List Bool
+abbrev pub marks : {Γ : List ValueType} {τ : ValueType} → Term Γ τ → List (All Val Γ) → List Bool
 marks e ρs = anyOf (size e) (map (reached e) ρs)
 
-module _ {Γ : List ℕ} {d : ℕ} (e : Term Γ d) where
+module _ {Γ : List ValueType} {τ : ValueType} (e : Term Γ τ) where
   pub steps-none : stepsOf e [] ≡ 0
   unfolding anyOf
   steps-none = countTrue-nowhere (size e)
@@ -137,8 +137,8 @@ unfolding anyOf
 same-marks bs h r [] = either-nowhere bs (length bs) refl
 same-marks bs h r (r′ ∷ rs) = ap (either bs) (same-marks bs h r′ rs) ∙ h
 
-module _ {Γ : List ℕ} where
-  pub steps-var : {d : ℕ} (x : Γ ∋ d) (ρs : List (All Val Γ)) → stepsOf (var x) ρs ≡ 0
+module _ {Γ : List ValueType} where
+  pub steps-var : {τ : ValueType} (x : Γ ∋ τ) (ρs : List (All Val Γ)) → stepsOf (var x) ρs ≡ 0
   unfolding anyOf reached size either countTrue
   steps-var x [] = refl
   steps-var x (ρ ∷ ρs) = steps-var x ρs
@@ -147,35 +147,35 @@ module _ {Γ : List ℕ} where
   unfolding reached size countTrue either
   steps-const n ρ ρs = ap countTrue (same-marks (true ∷ []) refl ρ ρs)
 
-  pub steps-plus : (x y : Γ ∋ 0) (ρ : All Val Γ) (ρs : List (All Val Γ)) → stepsOf (plus x y) (ρ ∷ ρs) ≡ 1
+  pub steps-plus : (x y : Γ ∋ int) (ρ : All Val Γ) (ρs : List (All Val Γ)) → stepsOf (plus x y) (ρ ∷ ρs) ≡ 1
   unfolding reached size countTrue either
   steps-plus x y ρ ρs = ap countTrue (same-marks (true ∷ []) refl ρ ρs)
 
-  pub steps-sum : (x : Γ ∋ 1) (ρ : All Val Γ) (ρs : List (All Val Γ)) → stepsOf (sum x) (ρ ∷ ρs) ≡ 1
+  pub steps-sum : (x : Γ ∋ braces int) (ρ : All Val Γ) (ρs : List (All Val Γ)) → stepsOf (sum x) (ρ ∷ ρs) ≡ 1
   unfolding reached size countTrue either
   steps-sum x ρ ρs = ap countTrue (same-marks (true ∷ []) refl ρ ρs)
 
 -- a let: its two parts' marks, one after the other
-module _ {Γ : List ℕ} {c d : ℕ} (e₁ : Term Γ c) (e₂ : Term (c ∷ Γ) d) where
-  reached-bind : (ρ : All Val Γ) {v : Val c} → eval e₁ ρ ≡ some v → reached (bind e₁ e₂) ρ ≡ reached e₁ ρ ++ reached e₂ (v ▹ ρ)
+module _ {Γ : List ValueType} {υ τ : ValueType} (e₁ : Term Γ υ) (e₂ : Term (υ ∷ Γ) τ) where
+  reached-bind : (ρ : All Val Γ) {v : Val υ} → eval e₁ ρ ≡ some v → reached (bind e₁ e₂) ρ ≡ reached e₁ ρ ++ reached e₂ (v ▹ ρ)
   unfolding reached
   reached-bind ρ p = rw p
 
-  marks-bind : {ρs : List (All Val Γ)} {vs : List (Val c)} → Each (eval e₁) ρs vs → marks (bind e₁ e₂) ρs ≡ marks e₁ ρs ++ marks e₂ (bound vs ρs)
+  marks-bind : {ρs : List (All Val Γ)} {vs : List (Val υ)} → Each (eval e₁) ρs vs → marks (bind e₁ e₂) ρs ≡ marks e₁ ρs ++ marks e₂ (bound vs ρs)
   unfolding anyOf size zipWith
   marks-bind each-nil = sym (replicate-append-replicate (size e₁) (size e₂) false)
   marks-bind (each-cons {a = ρ} {b = v} {l = ρs} {r = vs} p h) =
       ap₂ either (reached-bind ρ p) (marks-bind h)
       ∙ either-append (reached e₁ ρ) (marks e₁ ρs) (reached e₂ (v ▹ ρ)) (marks e₂ (bound vs ρs)) (length-reached e₁ ρ ∙ sym (length-marks e₁ ρs))
 
-  pub steps-bind : {ρs : List (All Val Γ)} {vs : List (Val c)} → Each (eval e₁) ρs vs → stepsOf (bind e₁ e₂) ρs ≡ stepsOf e₁ ρs + stepsOf e₂ (bound vs ρs)
+  pub steps-bind : {ρs : List (All Val Γ)} {vs : List (Val υ)} → Each (eval e₁) ρs vs → stepsOf (bind e₁ e₂) ρs ≡ stepsOf e₁ ρs + stepsOf e₂ (bound vs ρs)
   steps-bind {ρs} {vs} h = ap countTrue (marks-bind h) ∙ countTrue-append (marks e₁ ρs) (marks e₂ (bound vs ρs))
 
 -- a comprehension: its own definitions, and then what its items' evaluations reach
-module _ {Γ : List ℕ} {c d : ℕ} (y : Γ ∋ suc c) (us : List (Γ ∋ 0)) (e : Term (c ∷ _) d) where
+module _ {Γ : List ValueType} {υ τ : ValueType} (y : Γ ∋ braces υ) (us : Scalars Γ) (e : Term (υ ∷ _) τ) where
   reached-each : (ρ : All Val Γ) → reached (each y us e) ρ ≡ true ∷ (replicate (length us) true ++ marks e (inside y us ρ))
   unfolding reached
-  reached-each ρ = ap (λ l. true ∷ (replicate (length us) true ++ anyOf (size e) l)) (sym (map-map (reached e) (λ v. v ▹ listed us ρ) (lookup y ρ)))
+  reached-each ρ = ap (λ l. true ∷ (replicate (length us) true ++ anyOf (size e) l)) (sym (map-map (reached e) (λ v. v ▹ listed (anyType us) ρ) (lookup y ρ)))
 
   marks-each : (ρ : All Val Γ) (ρs : List (All Val Γ))
       → marks (each y us e) (ρ ∷ ρs) ≡ true ∷ (replicate (length us) true ++ marks e (insideAll y us (ρ ∷ ρs)))
@@ -207,7 +207,7 @@ some-above : (a b : ℕ) → (ltb 0 a || ltb 0 b) ≡ ltb 0 (a + b)
 some-above zero b = rw zero-add
 some-above (suc a) b = rw (lt-ltb 0 (suc a) (omega arith), lt-ltb 0 (suc a + b) (omega arith))
 
-module _ {Γ : List ℕ} (x : Γ ∋ 0) where
+module _ {Γ : List ValueType} (x : Γ ∋ int) where
   -- how many items iota has over all environments
   abbrev pub counts : List (All Val Γ) → ℕ
   counts ρs = length (concat (map countsOf (map (lookup x) ρs)))
