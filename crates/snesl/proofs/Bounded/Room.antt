@@ -11,10 +11,11 @@ use borrow.Author.Tests.{leb-true, leb-false}
 use lib.Dec.{leb}
 use lib.ListN.{length, take, drop, length-append, take-append-drop}
 use lib.Seq.{take-append-seam, take-take}
+use Rattle.snesl.specs.declared.code.Kind.{Kind}
+use Rattle.snesl.specs.declared.code.Kind.the-variants.{Ints, Bools, Flags, Units}
 use Rattle.snesl.specs.declared.code.Transducer.{Transducer}
-use Rattle.snesl.specs.declared.code.Transducer.the-variants.{Const, ToFlags, Usum, MapTwoPlus, ScanPlus, Distr, SumPlus}
-use Rattle.snesl.specs.Streams.{Stream, Store, elements, contents, room, _!_}
-use Rattle.snesl.specs.Transducers.{made, apply, empty}
+use Rattle.snesl.specs.Streams.{Stream, Store, bare, elements, contents, room, _!_}
+use Rattle.snesl.specs.Transducers.{made, apply, signature, carried, empty}
 use Rattle.snesl.specs.Programs.{Program, done, define, withCtrl}
 use Rattle.snesl.specs.Machine.{State, Stop, full, Result, went, stopped, onward, push, step, skipped, skip, unitsOf, run, boundless, holding}
 use Rattle.snesl.specs.Bounded.{Passes, starts, defines, skips, enters, leaves}
@@ -29,23 +30,26 @@ contents-append (a ∷ σ) τ = ap (λ l. elements a ++ l) (contents-append σ �
 pub room-append : (σ τ : Store) → room (σ ++ τ) ≡ room σ + room τ
 room-append σ τ = ap length (contents-append σ τ) ∙ length-append (contents σ) (contents τ)
 
-elements-empty : (t : Transducer) → elements (empty t) ≡ []
-elements-empty (Const z) = refl
-elements-empty (ToFlags s) = refl
-elements-empty (Usum s) = refl
-elements-empty (MapTwoPlus s t) = refl
-elements-empty (ScanPlus z s t) = refl
-elements-empty (Distr s t) = refl
-elements-empty (SumPlus s t) = refl
+elements-bare : (k : Kind) → elements (bare k) ≡ []
+elements-bare Ints = refl
+elements-bare Bools = refl
+elements-bare Flags = refl
+elements-bare Units = refl
 
-pub room-skipped : (p : Program) → room (skipped p) ≡ 0
+elements-empty : (σ : Store) (t : Transducer) → elements (empty σ t) ≡ []
+elements-empty σ t = elements-bare (signature (carried σ t) t .output)
+
+pub room-skipped : (σ : Store) (p : Program) → room (skipped σ p) ≡ 0
 unfolding skipped contents
-room-skipped done = refl
-room-skipped (define t p) = rw elements-empty (room-skipped p)
-room-skipped (withCtrl outs c ins b p) = let e = room-append (skipped b) (skipped p) in let f = room-skipped b in let g = room-skipped p in omega arith
+room-skipped σ done = refl
+room-skipped σ (define t p) = rw (elements-empty σ t) (room-skipped (σ ++ empty σ t ∷ []) p)
+room-skipped σ (withCtrl outs c ins b p) =
+    let l = skipped σ b in
+    let r = skipped (σ ++ l) p in
+    omega (arith, room-append l r, room-skipped σ b, room-skipped (σ ++ l) p)
 
 pub room-skip : (p : Program) (m : State) → room (skip p m .store) ≡ room (m .store)
-room-skip p m = let e = room-append (m .store) (skipped p) in let f = room-skipped p in omega arith
+room-skip p m = omega (arith, room-append (m .store) (skipped (m .store) p), room-skipped (m .store) p)
 
 prefix-room : {σ τ : Store} → Prefix σ τ → room σ ≤ room τ
 prefix-room {σ} p = let e = ap room (p .split) in let f = room-append σ (p .rest) in omega arith

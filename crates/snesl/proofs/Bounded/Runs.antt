@@ -6,12 +6,12 @@ use mathlib.Core.Bool.{Bool, true, false}
 use mathlib.Core.List.{List, [], _∷_, _++_, append-assoc, append-nil}
 use mathlib.Core.Logic.{_⊎_, inl, inr, ⊎-elim}
 use mathlib.Core.Option.{Option, some, none}
-use mathlib.Core.Path.{_≡_, refl, sym, _∙_, ap, ap₂, subst}
+use mathlib.Core.Path.{_≡_, refl, sym, _∙_, ap, subst}
 use lib.ListN.{length, take, length-append}
 use lib.Seq.{take-append-seam, take-take}
 use Rattle.snesl.specs.declared.code.Transducer.{Transducer}
 use Rattle.snesl.specs.Streams.{Stream, Store, room, _!_}
-use Rattle.snesl.specs.Transducers.{Answer, made, unfit, negative, outside, apply}
+use Rattle.snesl.specs.Transducers.{Answer, made, unfit, negative, outside, apply, empty}
 use Rattle.snesl.specs.Programs.{Program, done, define, withCtrl, count}
 use Rattle.snesl.specs.Machine.{State, Stop, unfitting, belowZero, outOfRange, full, Result, went, stopped, onward, push, step, skipped, skip, unitsOf, run, boundless}
 use Rattle.snesl.specs.Bounded.{Passes, starts, defines, skips, enters, leaves}
@@ -231,7 +231,7 @@ latest {m = m} (ran-skip {b = b} e w) =
       passed = skips e (l .passed);
       longest =
           λ τ q.
-          ⊎-elim (λ same. prefix-trans (prefix-of same) (prefix-trans (prefix-more (m .store) (skipped b)) (l .longest _ starts))) (l .longest τ)
+          ⊎-elim (λ same. prefix-trans (prefix-of same) (prefix-trans (prefix-more (m .store) (skipped (m .store) b)) (l .longest _ starts))) (l .longest τ)
           (of-skip e q);
       ends = l .ends;
     }
@@ -272,19 +272,20 @@ passed-prefix {p} {n} {m} {σ} {τ} i j h =
     ∙ prefix-take (l .longest σ i)
 
 -- each definition, run or skipped, adds one stream: the id that a program's numbering gives a definition is its stream's position
-length-skipped : (p : Program) → length (skipped p) ≡ count p
+length-skipped : (σ : Store) (p : Program) → length (skipped σ p) ≡ count p
 unfolding skipped count
-length-skipped done = refl
-length-skipped (define t p) = ap suc (length-skipped p)
-length-skipped (withCtrl outs c ins b p) =
-    length-append (skipped b) (skipped p) ∙ ap₂ _+_ (length-skipped b) (length-skipped p)
+length-skipped σ done = refl
+length-skipped σ (define t p) = ap suc (length-skipped (σ ++ empty σ t ∷ []) p)
+length-skipped σ (withCtrl outs c ins b p) =
+    let l = skipped σ b in
+    omega (arith, length-append l (skipped (σ ++ l) p), length-skipped σ b, length-skipped (σ ++ l) p)
 
 ran-length : {p : Program} {n : ℕ} {m m′ : State} → Ran p n m (went m′) → length (m′ .store) ≡ length (m .store) + count p
 unfolding count
 ran-length ran-done = omega arith
 ran-length {m = m} (ran-define {a = a} e w) = let f = length-append (m .store) (a ∷ []) in let g = ran-length w in omega arith
 ran-length {m = m} (ran-skip {b = b} e w) =
-    let f = length-append (m .store) (skipped b) in let g = length-skipped b in let h = ran-length w in omega arith
+    let f = length-append (m .store) (skipped (m .store) b) in let g = length-skipped (m .store) b in let h = ran-length w in omega arith
 ran-length (ran-body e f v w) = let g = ran-length v in let h = ran-length w in omega arith
 
 pub went-length : (p : Program) (n : ℕ) (m : State) {m′ : State} → run boundless p n m ≡ went m′ → length (m′ .store) ≡ length (m .store) + count p
