@@ -9,9 +9,9 @@ use lib.Seq.{take-append-seam, drop-append-add}
 use Rattle.snesl.specs.declared.refusal.Refusal.{Refusal}
 use Rattle.snesl.specs.Limits.{usedOf}
 use Rattle.snesl.specs.Refusals.{number}
-use Rattle.snesl.specs.Values.{Val}
+use Rattle.snesl.specs.Values.{ValueType, Val}
 use Rattle.snesl.specs.Streams.{elements, Store, _!_, contents, room}
-use Rattle.snesl.specs.Trees.{Tree, mapTree}
+use Rattle.snesl.specs.Trees.{IdTree, mapTree}
 use Rattle.snesl.specs.Representation.{represent, laid, Holds}
 use Rattle.snesl.specs.Text.{show}
 use Rattle.snesl.specs.Outcome.{Outcome, elementsOf, outcome, zeroed, streamsRefused, streamsAfter, answerAfter}
@@ -50,8 +50,8 @@ stands-at (a ∷ σ) rest (suc s) =
     ∙ drop-append-add (elements a) (contents σ ++ rest) (room (take s σ)))
     ∙ stands-at σ rest s
 
-stands-right : (σ : Store) (rest : List ℤ) {d : ℕ} {st : Tree ℕ d} {vs : List (Val d)} → Holds σ d st vs
-    → mapTree (standing σ (contents σ ++ rest)) st ≡ laid (represent d vs)
+stands-right : (σ : Store) (rest : List ℤ) {τ : ValueType} {st : IdTree τ} {vs : List (Val τ)} → Holds σ τ st vs
+    → mapTree (standing σ (contents σ ++ rest)) st ≡ laid (represent τ vs)
 stands-right σ rest {st = st} h = (λ i. mapTree (λ s. stands-at σ rest s i) st) ∙ elements-held h
 
 module _ {t : List ℕ} (a : Accepted t) (streams : List ℤ) (answer : List ℕ) where
@@ -59,7 +59,7 @@ module _ {t : List ℕ} (a : Accepted t) (streams : List ℤ) (answer : List ℕ
       → Demands t streams (streamsAfter streams o) answer (answerAfter answer o) (toldOf o)
   ending-keeps (short s) = stops a s (sym (stops-clear streams s)) refl
   ending-keeps (shown {v = v} {m = m} e fits c w roomy) =
-      keeps {bytes = length (show (a .depth) v)} {work = m .work} {steps = m .steps} {taken = room (m .store)} a record {
+      keeps {bytes = length (show (a .type) v)} {work = m .work} {steps = m .steps} {taken = room (m .store)} a record {
         machine = m;
         comes = c;
         right =

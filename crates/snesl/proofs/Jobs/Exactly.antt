@@ -50,15 +50,15 @@ module _ {t : List ℕ} (a : Accepted t) (lent answerLent : ℕ) where
       back (shown e fits c w roomy) _ h = none-some (sym h ∙ e)
 
   -- an outcome that answers this value, by its text if that fits
-  abbrev Answers : Val (a .depth) → Outcome → Type 0
+  abbrev Answers : Val (a .type) → Outcome → Type 0
   Answers v o =
-      ((length (show (a .depth) v) ≤ answerLent)
+      ((length (show (a .type) v) ≤ answerLent)
       × (r : ℕ)
       × (held : List ℤ)
-      × (o ≡ value (show (a .depth) v) (charge (a .term) (environment a)) (countTrue (reached (a .term) (environment a))) r held))
-      ⊎ ((answerLent < length (show (a .depth) v)) × (o ≡ refusal (NoAnswerRoom (length (show (a .depth) v)))))
+      × (o ≡ value (show (a .type) v) (charge (a .term) (environment a)) (countTrue (reached (a .term) (environment a))) r held))
+      ⊎ ((answerLent < length (show (a .type) v)) × (o ≡ refusal (NoAnswerRoom (length (show (a .type) v)))))
 
-  pub value-exactly : {v : Val (a .depth)} → Roomy (outcome t lent answerLent) → eval (a .term) (environment a) ≡ some v
+  pub value-exactly : {v : Val (a .type)} → Roomy (outcome t lent answerLent) → eval (a .term) (environment a) ≡ some v
       → Answers v (outcome t lent answerLent)
   value-exactly {v} = go (ending a lent answerLent)
     where
@@ -69,18 +69,18 @@ module _ {t : List ℕ} (a : Accepted t) (lent answerLent : ℕ) where
       go (short (unshown {v = w} e c longer)) roomy h =
           let same : w ≡ v = cc in
           inr (
-            subst (λ u. answerLent < length (show (a .depth) u)) same longer,
-            ap (λ u. refusal (NoAnswerRoom (length (show (a .depth) u)))) same,
+            subst (λ u. answerLent < length (show (a .type) u)) same longer,
+            ap (λ u. refusal (NoAnswerRoom (length (show (a .type) u)))) same,
           )
       go (shown {v = w} {m = m} e fits c ran roomy) _ h =
           let same : w ≡ v = cc in
           let work : m .work ≡ charge (a .term) (environment a) = omega (arith, ran .work) in
           let steps : m .steps ≡ countTrue (reached (a .term) (environment a)) = omega (arith, ran .steps) in
           inl (
-            subst (λ u. length (show (a .depth) u) ≤ answerLent) same fits,
+            subst (λ u. length (show (a .type) u) ≤ answerLent) same fits,
             room (m .store),
             contents (m .store),
-            λ i. value (show (a .depth) (same i)) (work i) (steps i) (room (m .store)) (contents (m .store)),
+            λ i. value (show (a .type) (same i)) (work i) (steps i) (room (m .store)) (contents (m .store)),
           )
 
   -- the bounded run is full at s exactly if the boundless one passes a store whose room is above the buffer's with the stream s, and with none before
@@ -114,7 +114,7 @@ module _ {t : List ℕ} (a : Accepted t) (lent answerLent : ℕ) where
       full-of e h =
           outcome-executed a lent answerLent
           ∙ ap (executed (usedOf lent) answerLent (a .inputs) (a .term) (a .given)) e
-          ∙ ap (finished answerLent (resultTree a))
+          ∙ ap (finished (a .type) answerLent (resultTree a))
           (full-iff (usedOf lent) (program a) 1 (loaded (a .given)) (none-over (usedOf lent) (a .given) .0 e) s .1 h)
 
 -- a value's room is what is held, and lies within the buffer

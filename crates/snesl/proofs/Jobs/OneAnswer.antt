@@ -44,21 +44,21 @@ away {t} lent answerLent (unvalued {is = is} {ss = ss} {f = f} e c v) =
     ∙ ap (valued (usedOf lent) answerLent is f) v
 
 module _ {t : List ℕ} (a : Accepted t) (lent answerLent : ℕ) where
-  comes-out : {r : Result} → Comes a (usedOf lent) r → outcome t lent answerLent ≡ finished answerLent (resultTree a) r
+  comes-out : {r : Result} → Comes a (usedOf lent) r → outcome t lent answerLent ≡ finished (a .type) answerLent (resultTree a) r
   comes-out c =
       outcome-executed a lent answerLent
       ∙ ap (executed (usedOf lent) answerLent (a .inputs) (a .term) (a .given)) (c .loads)
-      ∙ ap (finished answerLent (resultTree a)) (c .runs)
+      ∙ ap (finished (a .type) answerLent (resultTree a)) (c .runs)
 
   -- a run that went through, with the value that the rules give
-  went-out : {v : Val (a .depth)} {m : State} → eval (a .term) (environment a) ≡ some v → Comes a (usedOf lent) (went m)
-      → (outcome t lent answerLent ≡ answered answerLent (show (a .depth) v) m)
+  went-out : {v : Val (a .type)} {m : State} → eval (a .term) (environment a) ≡ some v → Comes a (usedOf lent) (went m)
+      → (outcome t lent answerLent ≡ answered answerLent (show (a .type) v) m)
       × (m .work ≡ charge (a .term) (environment a))
       × (m .steps ≡ countTrue (reached (a .term) (environment a)))
   went-out {v} {m} e c =
       let w = went-right a (usedOf lent) answerLent c in
       let same : w .0 ≡ v = cc in (
-        comes-out c ∙ went-text a (usedOf lent) answerLent (w .2) ∙ ap (λ u. answered answerLent (show (a .depth) u) m) same,
+        comes-out c ∙ went-text a (usedOf lent) answerLent (w .2) ∙ ap (λ u. answered answerLent (show (a .type) u) m) same,
         omega (arith, w .2 .work),
         omega (arith, w .2 .steps),
       )
@@ -96,7 +96,7 @@ demands-determine {t} {streams} {streams′} {answer} {answer′} (stops {r = r}
     record { says = refl; streams-are = s ∙ stops-clear streams h; answer-is = k }
 demands-determine {t} {streams} {streams′} {answer} {answer′} (keeps {bytes} {work} {steps} {taken} a k) =
     let m = k .machine in
-    let text = show (a .depth) (k .right .result) in
+    let text = show (a .type) (k .right .result) in
     let long : length text ≤ length answer = omega (arith, k .right .long, k .right .fits) in
     let w = went-out a (length streams) (length answer) (k .right .evaluated) (k .comes) in
     let worked : work ≡ m .work = k .charged .charged ∙ sym (w .1) in
