@@ -4,9 +4,10 @@ use mathlib.Core.List.{List, List·Memᴰ}
 use mathlib.Core.Logic.{_⊎_, _↔_}
 use mathlib.Core.Path.{_≡_}
 use lib.ListN.{length, take}
+use Rattle.snesl.specs.Values.{ValueType}
 use Rattle.snesl.specs.Terms.{Term, All}
 use Rattle.snesl.specs.Streams.{Store, room}
-use Rattle.snesl.specs.Trees.{Tree, order}
+use Rattle.snesl.specs.Trees.{IdTree, order}
 use Rattle.snesl.specs.Programs.{Program, dv, fv, Apart, Within, WellFormed, Scoped}
 use Rattle.snesl.specs.Machine.{State, Stop, full, went, stopped, run, boundless, holding}
 use Rattle.snesl.specs.Translation.{size, tree, code}
@@ -19,7 +20,7 @@ use Rattle.snesl.proofs.Bounded.Runs as Runs
 use Rattle.snesl.proofs.Bounded.Room as Room
 
 -- 002, Definition 1.1: compiled code is well-formed, where the environment names only ids given out before.
-pub code-is-well-formed : {Γ : List ℕ} {d s : ℕ} (e : Term Γ d) (δ : All (Tree ℕ) Γ) → Below s (idsOf δ) → WellFormed s (code e δ s)
+pub code-is-well-formed : {Γ : List ValueType} {τ : ValueType} {s : ℕ} (e : Term Γ τ) (δ : All IdTree Γ) → Below s (idsOf δ) → WellFormed s (code e δ s)
 code-is-well-formed = Well.well-code
 
 -- 002, Lemma 1.2: what well-formed code defines is fresh.
@@ -27,21 +28,21 @@ pub defined-ids-are-fresh : {s : ℕ} {p : Program} → WellFormed s p → Apart
 defined-ids-are-fresh = Well.freshness
 
 -- Every id that compiled code uses is known where it is used: of the environment, defined before, or put out by a WithCtrl before.
-pub used-ids-are-known : {Γ ks : List ℕ} {d : ℕ} (e : Term Γ d) (δ : All (Tree ℕ) Γ) (s : ℕ) → Within (idsOf δ) ks → Scoped ks s (code e δ s)
+pub used-ids-are-known : {Γ : List ValueType} {ks : List ℕ} {τ : ValueType} (e : Term Γ τ) (δ : All IdTree Γ) (s : ℕ) → Within (idsOf δ) ks → Scoped ks s (code e δ s)
 used-ids-are-known = Known.scoped-code
 
 -- It takes from outside only what its environment names,
-pub free-ids-are-the-environment's : {Γ : List ℕ} {d : ℕ} (e : Term Γ d) (δ : All (Tree ℕ) Γ) (s : ℕ) → Within (fv s (code e δ s)) (idsOf δ)
+pub free-ids-are-the-environment's : {Γ : List ValueType} {τ : ValueType} (e : Term Γ τ) (δ : All IdTree Γ) (s : ℕ) → Within (fv s (code e δ s)) (idsOf δ)
 free-ids-are-the-environment's = Freshness.free-ids
 
 -- what it makes known are ids of its own,
-pub defined-ids-come-next : {Γ : List ℕ} {d u : ℕ} (e : Term Γ d) (δ : All (Tree ℕ) Γ) (s : ℕ)
+pub defined-ids-come-next : {Γ : List ValueType} {τ : ValueType} {u : ℕ} (e : Term Γ τ) (δ : All IdTree Γ) (s : ℕ)
     → List·Memᴰ u (dv s (code e δ s))
     → (s ≤ u) × (u < s + size e)
 defined-ids-come-next = Freshness.defined-next
 
 -- and its result's tree names only ids of the environment or ids that it makes known: an id that no WithCtrl puts out is never used outside its body.
-pub result-ids-are-known : {Γ : List ℕ} {d u : ℕ} (e : Term Γ d) (δ : All (Tree ℕ) Γ) (s : ℕ)
+pub result-ids-are-known : {Γ : List ValueType} {τ : ValueType} {u : ℕ} (e : Term Γ τ) (δ : All IdTree Γ) (s : ℕ)
     → List·Memᴰ u (order (tree e δ s))
     → List·Memᴰ u (idsOf δ) ⊎ List·Memᴰ u (dv s (code e δ s))
 result-ids-are-known = Freshness.result-ids

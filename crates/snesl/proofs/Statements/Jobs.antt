@@ -8,7 +8,7 @@ use lib.IntN.{ℤ}
 use lib.ListN.{length, take}
 use Rattle.snesl.specs.declared.refusal.Refusal.the-variants.{NoValue, NoRoom, NoAnswerRoom}
 use Rattle.snesl.specs.Limits.{usedOf}
-use Rattle.snesl.specs.Values.{Val}
+use Rattle.snesl.specs.Values.{ValueType, Val}
 use Rattle.snesl.specs.Terms.{Term, All, ∅}
 use Rattle.snesl.specs.Evaluation.{eval}
 use Rattle.snesl.specs.Charges.{charge, reached, countTrue}
@@ -19,7 +19,7 @@ use Rattle.snesl.specs.Agreement.{Agrees}
 use Rattle.snesl.specs.Ids.{idsOf, Below}
 use Rattle.snesl.specs.Bounded.{Passes}
 use Rattle.snesl.specs.Text.{show}
-use Rattle.snesl.specs.Checking.{turnedOnto, turned, depths}
+use Rattle.snesl.specs.Checking.{turnedOnto, turned, inputTypes}
 use Rattle.snesl.specs.Inputs.{inputTrees, inputStart, inputStreams, inputOver}
 use Rattle.snesl.specs.Outcome.{refusal, value, loaded, outcome, streamsAfter, answerAfter}
 use Rattle.snesl.specs.Demands.{Told, declines, toldOf, Accepted, environment, Demands}
@@ -31,36 +31,36 @@ use Rattle.snesl.proofs.Jobs.Exactly as Exactly
 
 -- 1. The inputs. Their streams are those of the ids below the code's first one, and in them each input's tree holds its value: so correctness holds of a
 -- job's code behind its inputs.
-pub inputs-take-the-first-ids : {ds : List ℕ} (vs : All Val ds) → length (inputStreams vs) ≡ inputStart ds
+pub inputs-take-the-first-ids : {τs : List ValueType} (vs : All Val τs) → length (inputStreams vs) ≡ inputStart τs
 inputs-take-the-first-ids = InputStreams.length-inputs
 
-pub inputs-hold-their-values : {ds : List ℕ} (vs : All Val ds) → Agrees (inputStreams vs) (turned ∅ (inputTrees 0 ds)) (turned ∅ vs ∷ [])
+pub inputs-hold-their-values : {τs : List ValueType} (vs : All Val τs) → Agrees (inputStreams vs) (turned ∅ (inputTrees 0 τs)) (turned ∅ vs ∷ [])
 inputs-hold-their-values = InputStreams.inputs-agree
 
-pub input-ids-lie-below : (ds : List ℕ) → Below (inputStart ds) (idsOf (turned ∅ (inputTrees 0 ds)))
+pub input-ids-lie-below : (τs : List ValueType) → Below (inputStart τs) (idsOf (turned ∅ (inputTrees 0 τs)))
 input-ids-lie-below = InputStreams.inputs-below
 
 -- A job's code is well-formed, and every id that it uses is known where it is used.
-pub job-code-is-well-formed : {d : ℕ} (ds : List ℕ) (e : Term (turnedOnto [] ds) d)
-    → WellFormed (inputStart ds) (code e (turned ∅ (inputTrees 0 ds)) (inputStart ds))
+pub job-code-is-well-formed : {τ : ValueType} (τs : List ValueType) (e : Term (turnedOnto [] τs) τ)
+    → WellFormed (inputStart τs) (code e (turned ∅ (inputTrees 0 τs)) (inputStart τs))
 job-code-is-well-formed = InputStreams.job-well-formed
 
-pub job-ids-are-known : {d : ℕ} (ds : List ℕ) (e : Term (turnedOnto [] ds) d)
-    → Scoped (idsOf (turned ∅ (inputTrees 0 ds))) (inputStart ds) (code e (turned ∅ (inputTrees 0 ds)) (inputStart ds))
+pub job-ids-are-known : {τ : ValueType} (τs : List ValueType) (e : Term (turnedOnto [] τs) τ)
+    → Scoped (idsOf (turned ∅ (inputTrees 0 τs))) (inputStart τs) (code e (turned ∅ (inputTrees 0 τs)) (inputStart τs))
 job-ids-are-known = InputStreams.job-scoped
 
 -- 2. Their room. No input is over exactly if all fit in the buffer;
-pub no-input-is-over-if-all-fit : {ds : List ℕ} (cap : ℕ) (vs : All Val ds) → (inputOver cap 0 0 vs ≡ none) ↔ (room (inputStreams vs) ≤ cap)
+pub no-input-is-over-if-all-fit : {τs : List ValueType} (cap : ℕ) (vs : All Val τs) → (inputOver cap 0 0 vs ≡ none) ↔ (room (inputStreams vs) ≤ cap)
 no-input-is-over-if-all-fit = InputRoom.none-over
 
 -- and s is told exactly if it is the first id of an input, number i, with which the room passes the buffer, and with those before it does not.
-pub the-first-input-over : {ds : List ℕ} (cap s : ℕ) (vs : All Val ds)
+pub the-first-input-over : {τs : List ValueType} (cap s : ℕ) (vs : All Val τs)
     → (inputOver cap 0 0 vs ≡ some s)
     ↔ ((i : ℕ)
-    × (i < length ds)
-    × (s ≡ inputStart (take i ds))
+    × (i < length τs)
+    × (s ≡ inputStart (take i τs))
     × (room (take s (inputStreams vs)) ≤ cap)
-    × (cap < room (take (inputStart (take (suc i) ds)) (inputStreams vs))))
+    × (cap < room (take (inputStart (take (suc i) τs)) (inputStreams vs))))
 the-first-input-over = InputRoom.some-over
 
 -- 3. The demands (specs/Demands.antt), for every job and whatever is lent: a call that answers and leaves what the outcome says keeps them;
@@ -90,14 +90,14 @@ module _ {t : List ℕ} (a : Accepted t) (lent answerLent : ℕ) where
   eight-exactly-without-a-value = Exactly.eight-exactly a lent answerLent
 
   -- and where they give one, it is answered with its text and its charges, or refused by 10 with the text's length where that is more than is lent.
-  pub a-value-is-answered : {v : Val (a .depth)} → ((s : ℕ) → outcome t lent answerLent ≡ refusal (NoRoom s) → ⊥)
+  pub a-value-is-answered : {v : Val (a .type)} → ((s : ℕ) → outcome t lent answerLent ≡ refusal (NoRoom s) → ⊥)
       → eval (a .term) (environment a) ≡ some v
-      → ((length (show (a .depth) v) ≤ answerLent)
+      → ((length (show (a .type) v) ≤ answerLent)
       × (r : ℕ)
       × (held : List ℤ)
       × (outcome t lent answerLent
-      ≡ value (show (a .depth) v) (charge (a .term) (environment a)) (countTrue (reached (a .term) (environment a))) r held))
-      ⊎ ((answerLent < length (show (a .depth) v)) × (outcome t lent answerLent ≡ refusal (NoAnswerRoom (length (show (a .depth) v)))))
+      ≡ value (show (a .type) v) (charge (a .term) (environment a)) (countTrue (reached (a .term) (environment a))) r held))
+      ⊎ ((answerLent < length (show (a .type) v)) × (outcome t lent answerLent ≡ refusal (NoAnswerRoom (length (show (a .type) v)))))
   a-value-is-answered = Exactly.value-exactly a lent answerLent
 
   -- 5. It is refused by 9 at s exactly if s is told of its inputs; or none is, and its boundless run passes a store whose last stream is s and whose room is
@@ -107,7 +107,7 @@ module _ {t : List ℕ} (a : Accepted t) (lent answerLent : ℕ) where
       ↔ ((inputOver (usedOf lent) 0 0 (a .given) ≡ some s)
       ⊎ ((inputOver (usedOf lent) 0 0 (a .given) ≡ none)
       × ((τ : Store)
-      × Passes (code (a .term) (turned ∅ (inputTrees 0 (depths (a .inputs)))) (inputStart (depths (a .inputs)))) 1 (loaded (a .given)) τ
+      × Passes (code (a .term) (turned ∅ (inputTrees 0 (inputTypes (a .inputs)))) (inputStart (inputTypes (a .inputs)))) 1 (loaded (a .given)) τ
       × (length τ ≡ s + 1)
       × (usedOf lent < room τ)
       × (room (take s τ) ≤ usedOf lent))))
