@@ -8,11 +8,11 @@ use mathlib.Core.Path.{_≡_, refl, sym, _∙_, ap₂}
 use lib.ListN.{length, length-append}
 use Rattle.snesl.specs.Values.{ValueType, scalar, braces, depthOf, Val}
 use Rattle.snesl.specs.Terms.{_∋_, here, there, Term, All, ∅, _▹_, lookup}
-use Rattle.snesl.specs.Streams.{flags, dataOf, Store}
+use Rattle.snesl.specs.Streams.{flags, Store}
 use Rattle.snesl.specs.Trees.{IdTree, order}
 use Rattle.snesl.specs.Programs.{WellFormed, Scoped}
 use Rattle.snesl.specs.Translation.{code}
-use Rattle.snesl.specs.Representation.{concat, segments, represent, Holds, holds-leaf, holds-node}
+use Rattle.snesl.specs.Representation.{concat, segments, represent, Holds, holds-node}
 use Rattle.snesl.specs.Agreement.{Agrees}
 use Rattle.snesl.specs.Ids.{idsOf, Below}
 use Rattle.snesl.specs.Checking.{turnedOnto, turned}
@@ -20,7 +20,7 @@ use Rattle.snesl.specs.Inputs.{inputTree, inputTrees, inputStart, inputS
 use Rattle.snesl.proofs.Compiled.Freshness.{of-ids, of-node, of-leaf}
 use Rattle.snesl.proofs.Compiled.WellFormed.{well-code}
 use Rattle.snesl.proofs.Compiled.Scoped.{scoped-code}
-use Rattle.snesl.proofs.Correctness.Grown.{holds-grown, agrees-grown, new-stream}
+use Rattle.snesl.proofs.Correctness.Grown.{holds-grown, agrees-grown, new-stream, holds-new}
 use Rattle.snesl.proofs.Representing.Trees.{length-order}
 
 -- an input takes an id for each of its streams
@@ -37,7 +37,7 @@ length-inputs (_▹_ {τ = τ} v vs) =
 -- its tree, from the next id on, holds its value
 holds-input : (σ : Store) (s : ℕ) (τ : ValueType) (vs : List (Val τ)) → length σ ≡ s → Holds (σ ++ order (represent τ vs)) τ (inputTree s (depthOf τ)) vs
 unfolding inputTree represent order
-holds-input σ s (scalar b) vs first = holds-leaf (new-stream σ (dataOf b vs) first)
+holds-input σ s (scalar b) vs first = holds-new σ b vs first
 holds-input σ s (braces τ) vs first =
     let ts = order (represent τ (concat vs)) in
     let outermost = flags (segments vs) in
