@@ -8,10 +8,11 @@ use lib.ListN.{length, getD, drop}
 use lib.Seq.{getD-take, getD-drop}
 use Rattle.laws.specs.Parts.{part, written}
 use Rattle.snesl.specs.declared.code.Variable.{Variable}
+use Rattle.snesl.specs.Values.{ValueType, depthOf}
 use Rattle.snesl.specs.Terms.{All, _▹_}
 use Rattle.snesl.specs.Trees.{Tree, leaf, node, root, inner, outer}
 use Rattle.snesl.specs.Checking.{Name}
-use Rattle.environment.specs.Words.{Place, placeWords, treeWords, treeSize, spelled, Entry}
+use Rattle.environment.specs.Words.{Place, PlaceTree, placeWords, treeWords, treeSize, spelled, Entry}
 use Rattle.environment.proofs.Stack.{part-front, part-back, from-written}
 use Rattle.environment.proofs.Finding.{length-tree}
 
@@ -56,10 +57,10 @@ module _ {env : List ℕ} {sp p : ℕ} where
     outer-place = part-back env (p + 2) (treeSize d) 3 (treeWords (inner t)) (placeWords (outer t)) halves (length-tree (inner t))
 
 -- A tree's words with a name and a depth put below them are a binding.
-pub bound : {Γ : List ℕ} {d : ℕ} → (env : List ℕ) (at : ℕ) (x : Variable) (names : All Name Γ) (t : Tree Place d) (trees : All (Tree Place) Γ)
+pub bound : {Γ : List ValueType} → (τ : ValueType) (env : List ℕ) (at : ℕ) (x : Variable) (names : All Name Γ) (t : PlaceTree τ) (trees : All PlaceTree Γ)
     (rest : List ℕ) → at + 2 ≤ length env → drop (at + 2) env ≡ treeWords t ++ (spelled names trees ++ rest)
-    → drop at (written at (x .0 ∷ d ∷ []) env) ≡ spelled (x ▹ names) (t ▹ trees) ++ rest
+    → drop at (written at (x .0 ∷ depthOf τ ∷ []) env) ≡ spelled (x ▹ names) (_▹_ {τ = τ} t trees) ++ rest
 unfolding spelled
-bound {d = d} env at x names t trees rest h e =
-    from-written env at (x .0 ∷ d ∷ []) h
-    ∙ (ap (λ l. x .0 ∷ d ∷ l) e ∙ ap (λ l. x .0 ∷ d ∷ l) (sym (append-assoc (treeWords t) (spelled names trees) rest)))
+bound τ env at x names t trees rest h e =
+    from-written env at (x .0 ∷ depthOf τ ∷ []) h
+    ∙ (ap (λ l. x .0 ∷ depthOf τ ∷ l) e ∙ ap (λ l. x .0 ∷ depthOf τ ∷ l) (sym (append-assoc (treeWords t) (spelled names trees) rest)))
