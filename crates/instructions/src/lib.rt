@@ -3,10 +3,11 @@ use decimals::numbers;
 use lines::pieces::put_bytes;
 use lines::pieces::put_id;
 use snesl::code::Instruction;
+use snesl::code::Operation;
 use snesl::code::StreamId;
 use snesl::code::Transducer;
 ghost use mathlib.Core.List.{[], _∷_};
-ghost use Rattle.snesl.specs.Transducers.{operands};
+ghost use Rattle.snesl.specs.Transducers.{operands, operationName, boolName};
 ghost use Rattle.snesl.specs.Ascii.{ascii};
 ghost use Rattle.snesl.specs.Listing.{idText, idsText, nameText, defineLine};
 ghost use Rattle.decimals.specs.Writing.{Writes};
@@ -24,15 +25,44 @@ fn put_name(text: &mut [u8], at: usize, t: Transducer) -> usize
             let p = put_bytes(text, at, b"Const_");
             numbers::write_int(text, p, z)
         }
+        Transducer::ConstBool(c) => put_bool_name(text, at, c),
         Transducer::ToFlags(_) => put_bytes(text, at, b"ToFlags"),
+        Transducer::B2u(_) => put_bytes(text, at, b"B2u"),
         Transducer::Usum(_) => put_bytes(text, at, b"Usum"),
-        Transducer::MapTwoPlus(_, _) => put_bytes(text, at, b"MapTwo+"),
+        Transducer::MapTwo(o, _, _) => put_operation_name(text, at, o),
+        Transducer::MapOneNot(_) => put_bytes(text, at, b"MapOneNot"),
         Transducer::ScanPlus(z, _, _) => {
             let p = put_bytes(text, at, b"ScanPlus_");
             numbers::write_int(text, p, z)
         }
         Transducer::Distr(_, _) => put_bytes(text, at, b"Distr"),
         Transducer::SumPlus(_, _) => put_bytes(text, at, b"SumPlus"),
+        Transducer::Pack(_, _) => put_bytes(text, at, b"Pack"),
+        Transducer::UPack(_, _) => put_bytes(text, at, b"UPack"),
+    }
+}
+
+// The name of a constant bool's transducer.
+fn put_bool_name(text: &mut [u8], at: usize, c: bool) -> usize
+    requires { ⌜ Countable at (boolName c) ⌝ }
+    ensures { λ r. ⌜ Writes (now (text .entry)) (now (text .exit)) at (boolName c) r ⌝ }
+{
+    if c {
+        put_bytes(text, at, b"Const_T")
+    } else {
+        put_bytes(text, at, b"Const_F")
+    }
+}
+
+// The name of a scalar operation's transducer.
+fn put_operation_name(text: &mut [u8], at: usize, o: Operation) -> usize
+    requires { ⌜ Countable at (operationName o) ⌝ }
+    ensures { λ r. ⌜ Writes (now (text .entry)) (now (text .exit)) at (operationName o) r ⌝ }
+{
+    match o {
+        Operation::Plus => put_bytes(text, at, b"MapTwo+"),
+        Operation::LessEqual => put_bytes(text, at, b"MapTwo<="),
+        Operation::Equal => put_bytes(text, at, b"MapTwo=="),
     }
 }
 
@@ -43,12 +73,17 @@ fn put_operands(text: &mut [u8], at: usize, t: Transducer) -> usize
 {
     match t {
         Transducer::Const(_) => at,
+        Transducer::ConstBool(_) => at,
         Transducer::ToFlags(a) => put_id(text, at, a),
+        Transducer::B2u(a) => put_id(text, at, a),
         Transducer::Usum(a) => put_id(text, at, a),
-        Transducer::MapTwoPlus(a, b) => put_pair(text, at, a, b),
+        Transducer::MapTwo(_, a, b) => put_pair(text, at, a, b),
+        Transducer::MapOneNot(a) => put_id(text, at, a),
         Transducer::ScanPlus(_, a, b) => put_pair(text, at, a, b),
         Transducer::Distr(a, b) => put_pair(text, at, a, b),
         Transducer::SumPlus(a, b) => put_pair(text, at, a, b),
+        Transducer::Pack(a, b) => put_pair(text, at, a, b),
+        Transducer::UPack(a, b) => put_pair(text, at, a, b),
     }
 }
 
