@@ -8,8 +8,9 @@ use mathlib.Core.Path.{_≡_, ap, subst}
 use lib.ListN.{length}
 use Rattle.snesl.specs.declared.code.Transducer.{Transducer}
 use Rattle.snesl.specs.Transducers.{operands}
-use Rattle.snesl.specs.Terms.{_∋_, Term, var, bind, const, iota, plus, sum, each, All, _▹_}
-use Rattle.snesl.specs.Trees.{Tree, leaf, order}
+use Rattle.snesl.specs.Values.{ValueType}
+use Rattle.snesl.specs.Terms.{Term, var, bind, const, iota, plus, sum, each, Scalars, All, _▹_}
+use Rattle.snesl.specs.Trees.{Tree, IdTree, leaf, order}
 use Rattle.snesl.specs.Programs.{Program, done, define, withCtrl, _⨾_, count, dv, fv, without, among, ascending}
 use Rattle.snesl.specs.Translation.{size, within, tree, distrs, controlled, code}
 use Rattle.snesl.specs.Ids.{idsOf, Below}
@@ -85,7 +86,7 @@ tidy-seq (tidy-withCtrl lc lo fb f) e r = tidy-withCtrl lc lo fb (tidy-seq f (om
 tidy-alone : {a s : ℕ} (t : Transducer) → a ≤ s → Tidy a s (define t done)
 tidy-alone t l = tidy-define l tidy-done
 
-tidy-copies : {Γ : List ℕ} {a : ℕ} (s b : ℕ) (us : List (Γ ∋ 0)) (δ : All (Tree ℕ) Γ) → a ≤ s → Tidy a s (copies b us δ)
+tidy-copies : {Γ : List ValueType} {a : ℕ} (s b : ℕ) (us : Scalars Γ) (δ : All IdTree Γ) → a ≤ s → Tidy a s (copies b us δ)
 unfolding distrs
 tidy-copies s b [] δ l = tidy-done
 tidy-copies s b (u ∷ us) δ l = tidy-define l (tidy-copies (suc s) b us δ (omega arith))
@@ -102,7 +103,7 @@ dv-one : {u : ℕ} (s : ℕ) (t : Transducer) → u ∈ dv s (define t done) →
 unfolding dv
 dv-one s t m = List·Memᴰ·eq-of-singleton m
 
-tidy-code : {Γ : List ℕ} {d a : ℕ} (e : Term Γ d) (δ : All (Tree ℕ) Γ) (s : ℕ) → a ≤ s → Tidy a s (code e δ s)
+tidy-code : {Γ : List ValueType} {τ : ValueType} {a : ℕ} (e : Term Γ τ) (δ : All IdTree Γ) (s : ℕ) → a ≤ s → Tidy a s (code e δ s)
 unfolding code
 tidy-code (var x) δ s l = tidy-done
 tidy-code (bind e₁ e₂) δ s l =
@@ -123,7 +124,7 @@ tidy-code (each y us e) δ s l =
     (λ u m. let r = defined-next e (within y us δ s) b m in omega (arith, r .0))
     (tidy-code e (within y us δ s) b (omega arith))))
 
-module _ {Γ : List ℕ} {d : ℕ} (e : Term Γ d) (δ : All (Tree ℕ) Γ) (s : ℕ) (below : Below s (idsOf δ)) where
+module _ {Γ : List ValueType} {τ : ValueType} (e : Term Γ τ) (δ : All IdTree Γ) (s : ℕ) (below : Below s (idsOf δ)) where
   -- what a body takes in
   pub taken-in : ascending (fv s (code e δ s)) ≡ ascending (between 0 s (uses (code e δ s)))
   taken-in =

@@ -10,8 +10,9 @@ use mathlib.Core.Path.{_≡_, refl, sym, ap, _∙_, subst}
 use borrow.Author.Tests.{lt-ltb, le-ltb, eqb-true}
 use lib.Dec.{ltb, eqb}
 use lib.ListN.{length}
+use Rattle.snesl.specs.Values.{ValueType}
 use Rattle.snesl.specs.Terms.{Term, All}
-use Rattle.snesl.specs.Trees.{Tree, order}
+use Rattle.snesl.specs.Trees.{IdTree, order}
 use Rattle.snesl.specs.Programs.{Program, dv, fv, insert, among, member, ascending, Within}
 use Rattle.snesl.specs.Translation.{size, tree, code}
 use Rattle.snesl.specs.Ids.{idsOf, Below}
@@ -158,7 +159,7 @@ module _ (own most : ℕ) (ids : List ℕ) (room : length ids ≤ most) where
           (λ v j. let b = of-between 0 own us (of-ascending (between 0 own us) j) in r .new v (b .0) (b .2))
 
 -- ---- a body's survey
-module _ {Γ : List ℕ} {d : ℕ} (e : Term Γ d) (δ : All (Tree ℕ) Γ) (s : ℕ) (below : Below s (idsOf δ)) (k : Sink) (room : length (idsOf δ) ≤ k .most) where
+module _ {Γ : List ValueType} {τ : ValueType} (e : Term Γ τ) (δ : All IdTree Γ) (s : ℕ) (below : Below s (idsOf δ)) (k : Sink) (room : length (idsOf δ) ≤ k .most) where
   abbrev after : Sink
   after = feed s (code e δ s) (surveyed s k)
 

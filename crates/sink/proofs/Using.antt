@@ -1,7 +1,7 @@
 -- What a transducer uses, case by case, and that its line is short.
 use Prim.Native.Nat.{ℕ, _+_, _≤_, _<_, _^_}
 use native.Mathlib.Omega.{arith}
-use mathlib.Core.Bool.{true, false}
+use mathlib.Core.Bool.{Bool, true, false}
 use mathlib.Core.List.{List, [], _∷_, _++_, append-nil, List·Memᴰ·not-nil, List·Memᴰ·cases-cons, List·Memᴰ·eq-of-singleton}
 use mathlib.Core.Logic.{⊎-elim}
 use mathlib.Core.Path.{_≡_, refl, sym, ap, _∙_, subst}
@@ -10,9 +10,11 @@ use lib.Signed.{mag}
 use lib.ListN.{length, length-append}
 use Rattle.snesl.specs.declared.code.StreamId.{StreamId}
 use Rattle.snesl.specs.declared.code.Transducer.{Transducer}
-use Rattle.snesl.specs.declared.code.Transducer.the-variants.{Const, ToFlags, Usum, MapTwoPlus, ScanPlus, Distr, SumPlus}
+use Rattle.snesl.specs.declared.code.Transducer.the-variants.{Const, ConstBool, ToFlags, B2u, Usum, MapTwo, MapOneNot, ScanPlus, Distr, SumPlus, Pack, UPack}
+use Rattle.snesl.specs.declared.code.Operation.{Operation}
+use Rattle.snesl.specs.declared.code.Operation.the-variants.{Plus, LessEqual, Equal}
 use Rattle.snesl.specs.Ascii.{ascii, pieces}
-use Rattle.snesl.specs.Transducers.{operands}
+use Rattle.snesl.specs.Transducers.{operands, boolName, operationName}
 use Rattle.snesl.specs.Listing.{idText, idsText, nameText, defineLine, withCtrlLine}
 use Rattle.snesl.proofs.Compiled.Members.{_∈_}
 use Rattle.lines.specs.Pieces.{restText, controlText}
@@ -43,6 +45,16 @@ two-short a b h g = let n = ids-short (a ∷ b ∷ []) (two-small h g) in omega 
 none-short : length (idsText []) ≤ 44
 none-short = let n = ids-short [] none-small in omega arith
 
+-- names that depend on a bool or an operation
+bool-name-short : (c : Bool) → length (boolName c ++ []) ≤ 32
+bool-name-short false = omega arith
+bool-name-short true = omega arith
+
+operation-name-short : (o : Operation) → length (operationName o ++ []) ≤ 32
+operation-name-short Plus = omega arith
+operation-name-short LessEqual = omega arith
+operation-name-short Equal = omega arith
+
 -- a transducer known by its case
 pub operates : {t u : Transducer} {r : Used} → t ≡ u → Operates u r → Operates t r
 operates {r = r} e o = subst (λ v. Operates v r) (sym e) o
@@ -50,9 +62,18 @@ operates {r = r} e o = subst (λ v. Operates v r) (sym e) o
 pub const-operates : (z : ℤ) → mag z < 2 ^ 31 → Operates (Const z) Nothing
 const-operates z h = record { ids = refl; name = let n = int-short z h in omega arith; list = none-short }
 
+pub constBool-operates : (c : Bool) → Operates (ConstBool c) Nothing
+constBool-operates c = record { ids = refl; name = bool-name-short c; list = none-short }
+
 module _ {x : ℕ} (a : StreamId) (h : Small x) (e : x ≡ a .0) where
   pub toFlags-operates : Operates (ToFlags a) (One x)
   toFlags-operates = record { ids = ap (λ y. y ∷ []) e; name = omega arith; list = one-short (a .0) (subst Small e h) }
+
+  pub b2u-operates : Operates (B2u a) (One x)
+  b2u-operates = record { ids = ap (λ y. y ∷ []) e; name = omega arith; list = one-short (a .0) (subst Small e h) }
+
+  pub not-operates : Operates (MapOneNot a) (One x)
+  not-operates = record { ids = ap (λ y. y ∷ []) e; name = omega arith; list = one-short (a .0) (subst Small e h) }
 
   pub usum-operates : Operates (Usum a) (One x)
   usum-operates = record { ids = ap (λ y. y ∷ []) e; name = omega arith; list = one-short (a .0) (subst Small e h) }
@@ -64,8 +85,14 @@ module _ {x : ℕ} (a : StreamId) (h : Small x) (e : x ≡ a .0) where
     lists : length (idsText (a .0 ∷ b .0 ∷ [])) ≤ 44
     lists = two-short (a .0) (b .0) (subst Small e h) (subst Small f g)
 
-    pub plus-operates : Operates (MapTwoPlus a b) (Two x y)
-    plus-operates = record { ids = both; name = omega arith; list = lists }
+    pub mapTwo-operates : (o : Operation) → Operates (MapTwo o a b) (Two x y)
+    mapTwo-operates o = record { ids = both; name = operation-name-short o; list = lists }
+
+    pub pack-operates : Operates (Pack a b) (Two x y)
+    pack-operates = record { ids = both; name = omega arith; list = lists }
+
+    pub upack-operates : Operates (UPack a b) (Two x y)
+    upack-operates = record { ids = both; name = omega arith; list = lists }
 
     pub scan-operates : (z : ℤ) → mag z < 2 ^ 31 → Operates (ScanPlus z a b) (Two x y)
     scan-operates z m = record { ids = both; name = let n = int-short z m in omega arith; list = lists }

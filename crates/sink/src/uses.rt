@@ -23,11 +23,16 @@ pub fn operands_of(t: Transducer) -> Used
 {
     match t {
         Transducer::Const(z) => Used::Nothing,
+        Transducer::ConstBool(c) => Used::Nothing,
         Transducer::ToFlags(a) => Used::One(id_of(a)),
+        Transducer::B2u(a) => Used::One(id_of(a)),
         Transducer::Usum(a) => Used::One(id_of(a)),
-        Transducer::MapTwoPlus(a, b) => Used::Two(id_of(a), id_of(b)),
+        Transducer::MapTwo(o, a, b) => Used::Two(id_of(a), id_of(b)),
+        Transducer::MapOneNot(a) => Used::One(id_of(a)),
         Transducer::ScanPlus(z, a, b) => Used::Two(id_of(a), id_of(b)),
         Transducer::Distr(a, b) => Used::Two(id_of(a), id_of(b)),
         Transducer::SumPlus(a, b) => Used::Two(id_of(a), id_of(b)),
+        Transducer::Pack(a, b) => Used::Two(id_of(a), id_of(b)),
+        Transducer::UPack(a, b) => Used::Two(id_of(a), id_of(b)),
     }
 }
