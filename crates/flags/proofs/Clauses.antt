@@ -5,7 +5,7 @@ use mathlib.Core.List.{List, [], _∷_}
 use mathlib.Core.Option.{Option, some, none}
 use mathlib.Core.Path.{_≡_, refl}
 use lib.IntN.{ℤ, pos, _+ℤ_}
-use Rattle.snesl.specs.Transducers.{Feed, alone, eachF, eachT, takes, fed, misfit, countF, spread, scans, sums}
+use Rattle.snesl.specs.Transducers.{Feed, alone, eachF, eachT, takes, fed, misfit, countF, spread, scans, sums, onlyIf, keptSegments}
 use Rattle.flags.specs.Segments.{leading, wholes}
 
 module _ {A : Type 0} (flag : A → Option Bool) where
@@ -120,6 +120,14 @@ module _ {A : Type 0} (flag : A → Option Bool) where
     unfolding sums
     sums-true k t xs p = rw (sums, p)
 
+    pub kept-false : (c : Bool) (cs : List Bool) → flag b ≡ some false → keptSegments flag (c ∷ cs) (b ∷ bs) ≡ onlyIf c false (keptSegments flag (c ∷ cs) bs)
+    unfolding keptSegments
+    kept-false c cs p = rw (keptSegments, p)
+
+    pub kept-true : (c : Bool) (cs : List Bool) → flag b ≡ some true → keptSegments flag (c ∷ cs) (b ∷ bs) ≡ onlyIf c true (keptSegments flag cs bs)
+    unfolding keptSegments
+    kept-true c cs p = rw (keptSegments, p)
+
   pub leading-end : leading flag [] ≡ 0
   unfolding leading
   leading-end = refl
@@ -147,3 +155,7 @@ module _ {A : Type 0} (flag : A → Option Bool) where
   pub sums-end : (k : ℕ) (t : ℤ) (xs : List ℤ) → sums flag k t [] xs ≡ []
   unfolding sums
   sums-end k t xs = refl
+
+  pub kept-end : (cs : List Bool) → keptSegments flag cs [] ≡ []
+  unfolding keptSegments
+  kept-end cs = refl

@@ -8,7 +8,7 @@ use native.Mathlib.Omega.{arith}
 use lib.IntN.{ℤ, pos, _+ℤ_}
 use lib.ListN.{length, take, drop, replicate, length-drop}
 use Rattle.laws.proofs.Never.{never}
-use Rattle.snesl.specs.Transducers.{Feed, alone, eachF, eachT, takes, fed, misfit, countF, spread, scans, sums}
+use Rattle.snesl.specs.Transducers.{Feed, alone, eachF, eachT, takes, fed, misfit, countF, spread, scans, sums, keptSegments}
 use Rattle.flags.specs.Segments.{leading, wholes, totalFrom, running}
 use Rattle.flags.proofs.Clauses as clause
 
@@ -56,6 +56,15 @@ module _ {A : Type 0} (flag : A → Option Bool) where
   front-scans (before-end p f) start k t [] h = absurd (omega arith)
   front-scans (before-end p f) start k t (x ∷ xs) h =
       clause.scans-false flag _ _ start k t x xs p ∙ ap (λ l. (k, t) ∷ l) (front-scans f start k (t +ℤ x) xs (omega arith))
+
+  pub front-kept : {bs : List A} {e : ℕ} → Front bs e → (cs : List Bool) →
+      keptSegments flag (true ∷ cs) bs ≡ (replicate e false ++ true ∷ []) ++ keptSegments flag cs (drop (suc e) bs)
+  front-kept (at-end p) cs = clause.kept-true flag _ _ true cs p
+  front-kept (before-end p f) cs = clause.kept-false flag _ _ true cs p ∙ ap (λ l. false ∷ l) (front-kept f cs)
+
+  pub front-left-out : {bs : List A} {e : ℕ} → Front bs e → (cs : List Bool) → keptSegments flag (false ∷ cs) bs ≡ keptSegments flag cs (drop (suc e) bs)
+  front-left-out (at-end p) cs = clause.kept-true flag _ _ false cs p
+  front-left-out (before-end p f) cs = clause.kept-false flag _ _ false cs p ∙ front-left-out f cs
 
   -- ---- the first segment of streams that fit
 

@@ -1,4 +1,5 @@
 pub mod Ending
+pub mod Alike
 pub mod Filling
 pub mod Turns
 pub mod Reading

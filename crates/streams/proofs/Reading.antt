@@ -7,7 +7,7 @@ use mathlib.Core.Option.{Option, some, none}
 use mathlib.Core.Path.{_≡_, refl, _∙_, ap, fun-ext}
 use lib.IntN.{ℤ, pos, _+ℤ_}
 use Rattle.snesl.specs.Streams.{bit}
-use Rattle.snesl.specs.Transducers.{Feed, takes, fed, first, flagOf, misfit, countF, spread, scans, sums}
+use Rattle.snesl.specs.Transducers.{Feed, takes, fed, first, flagOf, misfit, countF, spread, scans, sums, onlyIf, keptSegments}
 
 -- all that a transducer asks of a flag stream
 pub record Same {A B : Type 0} (flag : A → Option Bool) (us : List A) (flag′ : B → Option Bool) (bs : List B) : Type 1 where
@@ -16,6 +16,7 @@ pub record Same {A B : Type 0} (flag : A → Option Bool) (us : List A) (flag′
   pub spreads : {C : Type 0} (xs : List C) → spread flag us xs ≡ spread flag′ bs xs
   pub scanned : (start : ℤ) (k : ℕ) (t : ℤ) (xs : List ℤ) → scans flag start k t us xs ≡ scans flag′ start k t bs xs
   pub summed : (k : ℕ) (t : ℤ) (xs : List ℤ) → sums flag k t us xs ≡ sums flag′ k t bs xs
+  pub keeps : (cs : List Bool) → keptSegments flag cs us ≡ keptSegments flag′ cs bs
 
 module _ {A B : Type 0} (flag : A → Option Bool) (g : B → A) where
   misfit-map : (C : Type 0) (f : Feed) (bs : List B) (k n : ℕ) (xs : List C) → misfit flag f k n (map g bs) xs ≡ misfit (λ b. flag (g b)) f k n bs xs
@@ -71,6 +72,15 @@ module _ {A B : Type 0} (flag : A → Option Bool) (g : B → A) where
             elim c [ false ↦ sums-map bs k (t +ℤ first xs) (tail xs) i | true ↦ (k, t) ∷ sums-map bs (suc k) (pos 0) xs i ]
       ]
 
+  kept-map : (bs : List B) (cs : List Bool) → keptSegments flag cs (map g bs) ≡ keptSegments (λ b. flag (g b)) cs bs
+  unfolding keptSegments
+  kept-map [] cs = refl
+  kept-map (b ∷ bs) [] = refl
+  kept-map (b ∷ bs) (c ∷ cs) =
+      λ i.
+      elim (flag (g b))
+      [ none ↦ [] | some t ↦ onlyIf c t (elim t [ false ↦ kept-map bs (c ∷ cs) i | true ↦ kept-map bs cs i ]) ]
+
   -- g's image reads as flag′ reads
   pub same : (flag′ : B → Option Bool) (bs : List B) → ((b : B) → flag (g b) ≡ flag′ b) → Same flag (map g bs) flag′ bs
   same flag′ bs h =
@@ -81,6 +91,7 @@ module _ {A B : Type 0} (flag : A → Option Bool) (g : B → A) where
         spreads = λ {C} xs. spread-map C bs xs ∙ ap (λ r. spread r bs xs) e;
         scanned = λ start k t xs. scans-map start bs k t xs ∙ ap (λ r. scans r start k t bs xs) e;
         summed = λ k t xs. sums-map bs k t xs ∙ ap (λ r. sums r k t bs xs) e;
+        keeps = λ cs. kept-map bs cs ∙ ap (λ r. keptSegments r cs bs) e;
       }
 
 bit-reads : (b : Bool) → flagOf (bit b) ≡ some b
