@@ -2,6 +2,8 @@
 // specs/ compares with snesl's marks, so a wrong number here is refused where it is used.
 pub const IN: u16 = 18_766;
 
+pub const IB: u16 = 18_754;
+
 pub const VA: u16 = 22_081;
 
 pub const VR: u16 = 22_098;
