@@ -7,7 +7,7 @@ use lib.ListN.{length}
 use Rattle.snesl.specs.declared.refusal.Refusal.the-variants.{NoRecord, OverLimit, TooMany}
 use Rattle.snesl.specs.Limits.{mostRecords, mostInputs, mostDepth, lastVariable}
 use Rattle.snesl.specs.Records as records
-use Rattle.snesl.specs.Records.{markAt, markIN, markVA, byteAt, spanAt}
+use Rattle.snesl.specs.Records.{markAt, markVA, byteAt, spanAt}
 use Rattle.formula.specs.declared.read.Asks.{Asks}
 use Rattle.formula.specs.declared.read.Asks.the-variants as asks
 use Rattle.formula.specs.declared.read.Scanned.{Scanned}
@@ -24,6 +24,7 @@ use Rattle.formula.specs.declared.read.FormulaRead.{FormulaRead}
 use Rattle.formula.specs.declared.read.FormulaRead.the-variants as formula
 use Rattle.formula.specs.declared.read.JobRead.{JobRead}
 use Rattle.formula.specs.declared.read.JobRead.the-variants as job
+use Rattle.formula.specs.Declarations.{isInput}
 
 -- what the record at k asks of a scan, and where it ends
 abbrev pub askedOf : (k : ℕ) → records.Head → Asks
@@ -47,10 +48,10 @@ abbrev pub scannedOf : records.Scanned → Scanned
 scannedOf (records.refused r) = scanned.Refused r
 scannedOf (records.scanned e k n) = scanned.Found k n
 
--- the place of an IN record at k, where `count` have been read
+-- the place of an input record at k, where `count` have been read
 unfoldable pub entryAt : List ℕ → (k count : ℕ) → Entry
 entryAt t k count =
-    elim (eqb (markAt t k) markIN) [
+    elim (isInput (markAt t k)) [
       | true ↦
           elim (leb (k + 4) (length t)) [
             | true ↦

@@ -1,4 +1,5 @@
 // Reading a formula and a job: refusals 1 to 4, at each record in that order, first record first (document 01, "Refusal numbers").
+use crate::inputs::is_input;
 use records::head::Head;
 use records::head::has_bytes;
 use records::head::head_at;
@@ -29,7 +30,7 @@ enum Scanned {
     Found(usize, usize),
 }
 
-// How many IN records there are, and the position behind them.
+// How many input records there are, and the position behind them.
 enum Declared {
     Refused(Refusal),
     Found(usize, usize),
@@ -41,7 +42,7 @@ enum Texts {
     Found(usize),
 }
 
-// What stands where an IN record may stand: none, one within all limits, or one that is refused.
+// What stands where an input record may stand: none, one within all limits, or one that is refused.
 enum Entry {
     Last,
     One,
@@ -113,11 +114,11 @@ fn scan(bytes: &[u8], k: usize, n: usize, levels: usize) -> Scanned
     }
 }
 
-// The place of an IN record at k, where `count` have been read.
+// The place of an input record at k, where `count` have been read.
 fn entry_at(bytes: &[u8], k: usize, count: usize) -> Entry
     ensures { λ r. ⌜ r ≡ entryAt (now (bytes .entry)) k count ⌝ }
 {
-    if mark_at(bytes, k) == marks::IN {
+    if is_input(mark_at(bytes, k)) {
         if has_bytes(bytes, k, 4) {
             if bytes[k + 2] <= Formula::VARIABLE {
                 if bytes[k + 3] <= Formula::DEPTH {
@@ -134,7 +135,7 @@ fn entry_at(bytes: &[u8], k: usize, count: usize) -> Entry
     Entry::Last
 }
 
-// The IN records that the bytes start with.
+// The input records that the bytes start with.
 fn declare(bytes: &[u8]) -> Declared
     ensures { λ r. ⌜ r ≡ declaredOf (inputsAt mostInputs (now (bytes .entry)) 0) ⌝ }
 {

@@ -1,4 +1,4 @@
--- What is left of the IN records, behind those that are read, is what the definition makes of them.
+-- What is left of the input records, behind those that are read, is what the definition makes of them.
 use Prim.Native.Nat.{_-_}
 use mathlib.Core.Path.{sym, _∙_}
 use native.Mathlib.Omega.{arith}
