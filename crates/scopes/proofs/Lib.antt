@@ -1,2 +1,3 @@
+pub mod TypeWords
 pub mod Scopes
 pub mod Listing

@@ -4,18 +4,18 @@ use mathlib.Core.Bool.{Bool, true, false, _&&_, _||_, not}
 use mathlib.Core.List.{List, [], _∷_}
 use mathlib.Core.Path.{_≡_, refl, sym, ap, ap₂, _∙_}
 use native.Mathlib.Omega.{arith}
-use lib.Dec.{ltb}
-use lib.ListN.{length, take}
-use lib.Seq.{take-take}
-use borrow.Author.Tests.{eq-eqb, ne-eqb, lt-ltb, le-ltb}
+use lib.Dec.{leb}
+use lib.ListN.{length, take, drop}
+use lib.Seq.{take-take, drop-drop, drop-at}
+use borrow.Author.Tests.{eq-eqb, ne-eqb, lt-ltb, le-ltb, le-leb, lt-leb}
 use Rattle.snesl.specs.declared.code.Variable.{Variable}
 use Rattle.snesl.specs.Checking.{same, names}
 use Rattle.snesl.specs.Records.{variableAt, variablesAt}
 use Rattle.snesl.specs.declared.refusal.Refusal.the-variants.{Unbound, WrongType}
 use Rattle.scopes.specs.declared.scope.Kind.{Kind}
-use Rattle.scopes.specs.declared.scope.Kind.the-variants.{Missing, Depth}
-use Rattle.scopes.specs.Scopes.{depthIn, Pushed}
-use Rattle.scopes.specs.UsingLists.{isBoundIn, isIntIn, firstUsable, usableIn, intsIn, listedWords, Listed, Body, stop as stopped, inside, sequenceIn, eachIn, Inside}
+use Rattle.scopes.specs.declared.scope.Kind.the-variants.{Missing, Word}
+use Rattle.scopes.specs.Scopes.{scope, wordIn, Pushed}
+use Rattle.scopes.specs.UsingLists.{isBoundIn, isScalarIn, firstUsable, usableIn, scalarsIn, wordFound, listedWords, Listed, Body, stop as stopped, inside, sequenceIn, eachIn, Inside}
 use Rattle.records.proofs.Variables.{length-variables}
 
 module _ (t : List ℕ) where
@@ -85,10 +85,10 @@ names-none u = refl
 
 -- the first variable of a list, by its tests in turn
 module _ (w : List ℕ) (x u : Variable) (us : List Variable) where
-  pub first-missing : depthIn (u .0) w ≡ Missing → false ≡ firstUsable w x u us
+  pub first-missing : wordIn (u .0) w ≡ Missing → false ≡ firstUsable w x u us
   first-missing e = sym (ap (λ k. isBoundIn k && (not (same x u) && not (names u us))) e)
 
-  module _ (d : ℕ) (e : depthIn (u .0) w ≡ Depth d) where
+  module _ (d : ℕ) (e : wordIn (u .0) w ≡ Word d) where
     bound : firstUsable w x u us ≡ (not (same x u) && not (names u us))
     bound = ap (λ k. isBoundIn k && (not (same x u) && not (names u us))) e
 
@@ -112,40 +112,46 @@ module _ (w : List ℕ) (x : Variable) where
   usable-none = refl
 
 module _ (w : List ℕ) where
-  pub ints-on : (u : Variable) (us : List Variable) (d : ℕ) → depthIn (u .0) w ≡ Depth d → d ≡ 0 → intsIn w (u ∷ us) ≡ intsIn w us
-  unfolding intsIn
-  ints-on u us d e z = ap (λ k. isIntIn k && intsIn w us) e ∙ ap (λ b. b && intsIn w us) (eq-eqb d 0 z)
+  pub scalars-on : (u : Variable) (us : List Variable) (d : ℕ) → wordIn (u .0) w ≡ Word d → d < 2 → scalarsIn w (u ∷ us) ≡ scalarsIn w us
+  unfolding scalarsIn
+  scalars-on u us d e h = ap (λ k. isScalarIn k && scalarsIn w us) e ∙ ap (λ b. b && scalarsIn w us) (lt-ltb d 2 h)
 
-  pub ints-off : (u : Variable) (us : List Variable) (d : ℕ) → depthIn (u .0) w ≡ Depth d → (d ≡ 0 → ⊥) → intsIn w (u ∷ us) ≡ false
-  unfolding intsIn
-  ints-off u us d e n = ap (λ k. isIntIn k && intsIn w us) e ∙ ap (λ b. b && intsIn w us) (ne-eqb d 0 n)
+  pub scalars-off : (u : Variable) (us : List Variable) (d : ℕ) → wordIn (u .0) w ≡ Word d → 2 ≤ d → scalarsIn w (u ∷ us) ≡ false
+  unfolding scalarsIn
+  scalars-off u us d e h = ap (λ k. isScalarIn k && scalarsIn w us) e ∙ ap (λ b. b && scalarsIn w us) (le-ltb d 2 h)
 
-  pub ints-missing : (u : Variable) (us : List Variable) → depthIn (u .0) w ≡ Missing → intsIn w (u ∷ us) ≡ false
-  unfolding intsIn
-  ints-missing u us e = ap (λ k. isIntIn k && intsIn w us) e
+  pub scalars-missing : (u : Variable) (us : List Variable) → wordIn (u .0) w ≡ Missing → scalarsIn w (u ∷ us) ≡ false
+  unfolding scalarsIn
+  scalars-missing u us e = ap (λ k. isScalarIn k && scalarsIn w us) e
 
-  pub ints-none : intsIn w [] ≡ true
-  unfolding intsIn
-  ints-none = refl
+  pub scalars-none : scalarsIn w [] ≡ true
+  unfolding scalarsIn
+  scalars-none = refl
 
-pub length-words : (us : List Variable) → length (listedWords us) ≡ 2 * length us
+pub length-words : (w : List ℕ) (us : List Variable) → length (listedWords w us) ≡ 2 * length us
 unfolding listedWords
-length-words [] = refl
-length-words (u ∷ us) = let h = length-words us in omega arith
+length-words w [] = refl
+length-words w (u ∷ us) = let h = length-words w us in omega arith
 
 -- what is the same below a place is so below a lower one
 less-below : (a b : List ℕ) (i j : ℕ) → i ≤ j → take j a ≡ take j b → take i a ≡ take i b
 less-below a b i j h e = sym (take-take i j a h) ∙ ap (take i) e ∙ take-take i j b h
 
+-- the scope that they are looked up in is as it was
+listed-above : {pairs old new : List ℕ} {sp r : ℕ} → Listed pairs sp old new r → drop sp new ≡ drop sp old
+listed-above {pairs} {old} {new} {sp} {r} p =
+    ap (λ z. drop z new) (sym (p .at))
+    ∙ (sym (drop-drop (length pairs) r new) ∙ (ap (drop (length pairs)) (p .words) ∙ drop-at pairs (drop sp old) (length pairs) refl))
+
 -- the listed variables behind the first `left` stand below sp
-pub record Pushing (t : List ℕ) (at count sp : ℕ) (old env : List ℕ) (left top : ℕ) : Type 0 where
+pub record Pushing (t : List ℕ) (at count sp floor : ℕ) (old env : List ℕ) (left top : ℕ) : Type 0 where
   pub within : left ≤ count
-  pub listed : Listed (variablesAt t (at + left) (count - left)) sp old env top
+  pub listed : Listed (listedWords (scope sp floor old) (variablesAt t (at + left) (count - left))) sp old env top
   pub room : top + 2 * (count - left) ≡ sp
   pub long : length env ≡ length old
 
-module _ (t : List ℕ) (at count sp : ℕ) (old : List ℕ) where
-  pub push-start : Pushing t at count sp old old count sp
+module _ (t : List ℕ) (at count sp floor : ℕ) (old : List ℕ) where
+  pub push-start : Pushing t at count sp floor old old count sp
   unfolding listedWords
   push-start =
       record {
@@ -157,21 +163,29 @@ module _ (t : List ℕ) (at count sp : ℕ) (old : List ℕ) where
         long = refl;
       }
 
-  module _ {env : List ℕ} {left top : ℕ} (p : Pushing t at count sp old env left top) where
+  module _ {env : List ℕ} {left top : ℕ} (p : Pushing t at count sp floor old env left top) where
+    -- what is found there now
+    abbrev listedAt : ℕ → ℕ
+    listedAt i = wordFound (wordIn (variableAt t (at + i) .0) (scope sp floor old))
+
     pub push-turn :
-        0 < left → (new : List ℕ) (r : ℕ) → Pushed env top (variableAt t (at + (left - 1)) .0) 0 new r → length new ≡ length env
-        → Pushing t at count sp old new (left - 1) r
+        0 < left → {k : Kind} {word : ℕ} → k ≡ wordIn (variableAt t (at + (left - 1)) .0) (scope sp floor env) → word ≡ wordFound k
+        → (new : List ℕ) (r : ℕ) → Pushed env top (variableAt t (at + (left - 1)) .0) word new r → length new ≡ length env
+        → Pushing t at count sp floor old new (left - 1) r
     unfolding listedWords
-    push-turn h new r q l =
+    push-turn h {k} {word} e f new r q l =
         record {
           within = omega arith;
-          listed = rw one (record { at = omega (arith, q .at, p .listed .at); below = q .below ∙ less-below env old r top (omega (arith, q .at)) (p .listed .below); words = q .words ∙ ap (λ z. v ∷ 0 ∷ z) (p .listed .words) });
+          listed = rw one (record { at = omega (arith, q .at, p .listed .at); below = q .below ∙ less-below env old r top (omega (arith, q .at)) (p .listed .below); words = q .words ∙ ap₂ (λ a z. v ∷ a ∷ z) found (p .listed .words) });
           room = omega (arith, q .at, p .room);
           long = l ∙ p .long;
         }
       where
         v : ℕ
         v = variableAt t (at + (left - 1)) .0
+
+        found : word ≡ listedAt (left - 1)
+        found = f ∙ ap wordFound (e ∙ ap (λ z. wordIn v (take (floor - sp) z)) (listed-above (p .listed)))
 
         one : variablesAt t (at + (left - 1)) (count - (left - 1)) ≡ variableAt t (at + (left - 1)) ∷ variablesAt t (at + left) (count - left)
         one =
@@ -180,7 +194,7 @@ module _ (t : List ℕ) (at count sp : ℕ) (old : List ℕ) where
             row t (at + (left - 1)) (count - (left - 1)) (omega arith)
             ∙ ap₂ (λ a b. variableAt t (at + (left - 1)) ∷ variablesAt t a b) on less
 
-    pub push-done : left ≤ 0 → Listed (variablesAt t at count) sp old env top
+    pub push-done : left ≤ 0 → Listed (listedWords (scope sp floor old) (variablesAt t at count)) sp old env top
     push-done h =
         let here : at + left ≡ at = omega arith in
         let all : count - left ≡ count = omega arith in
@@ -192,49 +206,52 @@ module _ (w : List ℕ) (p : ℕ) (x y : Variable) (us : List Variable) where
   abbrev of-kind : Kind → Body
   of-kind k = elim (isBoundIn k && usableIn w x us) [ true ↦ sequenceIn w p x us k | false ↦ stopped (Unbound p) ]
 
-  of-y : {k : Kind} → depthIn (y .0) w ≡ k → eachIn w p x y us ≡ of-kind k
+  of-y : {k : Kind} → wordIn (y .0) w ≡ k → eachIn w p x y us ≡ of-kind k
   unfolding eachIn
   of-y e = ap of-kind e
 
-  pub each-unbound : depthIn (y .0) w ≡ Missing → eachIn w p x y us ≡ stopped (Unbound p)
+  pub each-unbound : wordIn (y .0) w ≡ Missing → eachIn w p x y us ≡ stopped (Unbound p)
   each-unbound e = of-y e
 
-  module _ (d : ℕ) (e : depthIn (y .0) w ≡ Depth d) where
-    by-names : {b : Bool} → usableIn w x us ≡ b → eachIn w p x y us ≡ elim b [ true ↦ sequenceIn w p x us (Depth d) | false ↦ stopped (Unbound p) ]
-    by-names q = of-y e ∙ ap (λ (b : Bool). elim b as (λ z. Body) [ true ↦ sequenceIn w p x us (Depth d) | false ↦ stopped (Unbound p) ]) q
+  module _ (d : ℕ) (e : wordIn (y .0) w ≡ Word d) where
+    by-names : {b : Bool} → usableIn w x us ≡ b → eachIn w p x y us ≡ elim b [ true ↦ sequenceIn w p x us (Word d) | false ↦ stopped (Unbound p) ]
+    by-names q = of-y e ∙ ap (λ (b : Bool). elim b as (λ z. Body) [ true ↦ sequenceIn w p x us (Word d) | false ↦ stopped (Unbound p) ]) q
 
     pub each-unusable : usableIn w x us ≡ false → eachIn w p x y us ≡ stopped (Unbound p)
     each-unusable q = by-names q
 
     module _ (q : usableIn w x us ≡ true) where
       by-types :
-          {b c : Bool} → ltb 0 d ≡ b → intsIn w us ≡ c
-          → eachIn w p x y us ≡ elim (b && c) [ true ↦ inside (x .0 ∷ (d - 1) ∷ listedWords us) | false ↦ stopped (WrongType p) ]
+          {b c : Bool} → leb 2 d ≡ b → scalarsIn w us ≡ c
+          → eachIn w p x y us ≡ elim (b && c) [ true ↦ inside (x .0 ∷ (d - 2) ∷ listedWords w us) | false ↦ stopped (WrongType p) ]
       by-types u v =
           by-names q
-          ∙ ap₂ (λ (b c : Bool). elim (b && c) as (λ z. Body) [ true ↦ inside (x .0 ∷ (d - 1) ∷ listedWords us) | false ↦ stopped (WrongType p) ])
+          ∙ ap₂ (λ (b c : Bool). elim (b && c) as (λ z. Body) [ true ↦ inside (x .0 ∷ (d - 2) ∷ listedWords w us) | false ↦ stopped (WrongType p) ])
           u v
 
-      pub each-int : d ≤ 0 → eachIn w p x y us ≡ stopped (WrongType p)
-      each-int h = by-types (le-ltb 0 d h) refl
+      pub each-scalar : d < 2 → eachIn w p x y us ≡ stopped (WrongType p)
+      each-scalar h = by-types (lt-leb 2 d h) refl
 
-      pub each-types : 0 < d → intsIn w us ≡ false → eachIn w p x y us ≡ stopped (WrongType p)
-      each-types h i = by-types (lt-ltb 0 d h) i
+      pub each-types : 2 ≤ d → scalarsIn w us ≡ false → eachIn w p x y us ≡ stopped (WrongType p)
+      each-types h i = by-types (le-leb 2 d h) i
 
       pub each-inside :
-          0 < d → intsIn w us ≡ true → {sp top r : ℕ} {old mid new : List ℕ} → Listed us sp old mid top → Pushed mid top (x .0) (d - 1) new r
+          2 ≤ d → scalarsIn w us ≡ true → {sp top r : ℕ} {old mid new : List ℕ} → Listed (listedWords w us) sp old mid top
+          → Pushed mid top (x .0) (d - 2) new r
           → Inside (eachIn w p x y us) sp old new r
       each-inside h i {top = top} {r = r} {old = old} {mid = mid} l m =
           record {
-            pairs = x .0 ∷ (d - 1) ∷ listedWords us;
-            is = by-types (lt-ltb 0 d h) i;
+            pairs = x .0 ∷ (d - 2) ∷ listedWords w us;
+            is = by-types (le-leb 2 d h) i;
             at = omega (arith, l .at, m .at);
             below = m .below ∙ less-below mid old r top (omega (arith, m .at)) (l .below);
-            words = m .words ∙ ap (λ z. x .0 ∷ (d - 1) ∷ z) (l .words);
+            words = m .words ∙ ap (λ z. x .0 ∷ (d - 2) ∷ z) (l .words);
           }
 
 -- below the listed variables there is room for x
-pub room-left : (t : List ℕ) (k j sp : ℕ) (old new : List ℕ) (r : ℕ) → Listed (variablesAt t k j) sp old new r → 2 * (1 + j) ≤ sp → (2 ≤ r) × (r ≤ sp)
-room-left t k j sp old new r l h =
-    let n : length (listedWords (variablesAt t k j)) ≡ 2 * j = length-words (variablesAt t k j) ∙ ap (λ z. 2 * z) (length-variables t k j) in
+pub room-left :
+    (t w : List ℕ) (k j sp : ℕ) (old new : List ℕ) (r : ℕ) → Listed (listedWords w (variablesAt t k j)) sp old new r → 2 * (1 + j) ≤ sp
+    → (2 ≤ r) × (r ≤ sp)
+room-left t w k j sp old new r l h =
+    let n : length (listedWords w (variablesAt t k j)) ≡ 2 * j = length-words w (variablesAt t k j) ∙ ap (λ z. 2 * z) (length-variables t k j) in
     (omega (arith, l .at), omega (arith, l .at))

@@ -8,17 +8,17 @@ use lib.ListN.{length, getD, set, take, drop, length-set}
 use lib.Seq.{take-set-le, drop-cons, drop-set-lt, getD-set-same, getD-set-other}
 use borrow.Author.Tests.{eq-eqb, ne-eqb}
 use Rattle.scopes.specs.declared.scope.Kind.{Kind}
-use Rattle.scopes.specs.declared.scope.Kind.the-variants.{Missing, Depth}
-use Rattle.scopes.specs.Scopes.{scope, depthIn, Pushed}
+use Rattle.scopes.specs.declared.scope.Kind.the-variants.{Missing, Word}
+use Rattle.scopes.specs.Scopes.{scope, wordIn, Pushed}
 
 -- the first pair of a scope is the name's, or it is passed by
-pub hit : (x y d : ℕ) (w : List ℕ) → x ≡ y → depthIn x (y ∷ d ∷ w) ≡ Depth d
-unfolding depthIn
-hit x y d w e = ap (λ (b : Bool). elim b as (λ z. Kind) [ true ↦ Depth d | false ↦ depthIn x w ]) (eq-eqb x y e)
+pub hit : (x y d : ℕ) (w : List ℕ) → x ≡ y → wordIn x (y ∷ d ∷ w) ≡ Word d
+unfolding wordIn
+hit x y d w e = ap (λ (b : Bool). elim b as (λ z. Kind) [ true ↦ Word d | false ↦ wordIn x w ]) (eq-eqb x y e)
 
-pub miss : (x y d : ℕ) (w : List ℕ) → (x ≡ y → ⊥) → depthIn x (y ∷ d ∷ w) ≡ depthIn x w
-unfolding depthIn
-miss x y d w n = ap (λ (b : Bool). elim b as (λ z. Kind) [ true ↦ Depth d | false ↦ depthIn x w ]) (ne-eqb x y n)
+pub miss : (x y d : ℕ) (w : List ℕ) → (x ≡ y → ⊥) → wordIn x (y ∷ d ∷ w) ≡ wordIn x w
+unfolding wordIn
+miss x y d w n = ap (λ (b : Bool). elim b as (λ z. Kind) [ true ↦ Word d | false ↦ wordIn x w ]) (ne-eqb x y n)
 
 module _ (env : List ℕ) where
   pair : (i : ℕ) → i + 2 ≤ length env → drop i env ≡ getD env i 0 ∷ getD env (i + 1) 0 ∷ drop (i + 2) env
@@ -36,8 +36,8 @@ module _ (env : List ℕ) where
       let e : floor - i ≡ suc (suc (floor - (i + 2))) = omega arith in
       ap₂ take e (pair i (omega arith))
 
-  short : (x n : ℕ) (l : List ℕ) → n < 2 → depthIn x (take n l) ≡ Missing
-  unfolding depthIn
+  short : (x n : ℕ) (l : List ℕ) → n < 2 → wordIn x (take n l) ≡ Missing
+  unfolding wordIn
   short x zero l h = refl
   short x (suc zero) [] h = refl
   short x (suc zero) (y ∷ l) h = refl
@@ -46,24 +46,24 @@ module _ (env : List ℕ) where
   -- the pairs before i are none of x
   pub record Looking (x sp floor i : ℕ) : Type 0 where
     pub within : i ≤ floor
-    pub left : depthIn x (scope sp floor env) ≡ depthIn x (scope i floor env)
+    pub left : wordIn x (scope sp floor env) ≡ wordIn x (scope i floor env)
 
   pub start : {x sp floor : ℕ} → sp ≤ floor → Looking x sp floor sp
   start h = record { within = h; left = refl }
 
   module _ {x sp floor i : ℕ} (p : Looking x sp floor i) (l : floor ≤ length env) where
-    pub found : 2 ≤ floor - i → getD env i 0 ≡ x → Depth (getD env (i + 1) 0) ≡ depthIn x (scope sp floor env)
-    found h e = sym (p .left ∙ (ap (depthIn x) (scope-pair i floor h l) ∙ hit x _ _ _ (sym e)))
+    pub found : 2 ≤ floor - i → getD env i 0 ≡ x → Word (getD env (i + 1) 0) ≡ wordIn x (scope sp floor env)
+    found h e = sym (p .left ∙ (ap (wordIn x) (scope-pair i floor h l) ∙ hit x _ _ _ (sym e)))
 
     pub turn : 2 ≤ floor - i → (getD env i 0 ≡ x → ⊥) → Looking x sp floor (i + 2)
     turn h n =
         record {
           within = omega arith;
           left =
-              p .left ∙ (ap (depthIn x) (scope-pair i floor h l) ∙ miss x _ _ _ (λ q. n (sym q)));
+              p .left ∙ (ap (wordIn x) (scope-pair i floor h l) ∙ miss x _ _ _ (λ q. n (sym q)));
         }
 
-    pub missing : floor - i < 2 → Missing ≡ depthIn x (scope sp floor env)
+    pub missing : floor - i < 2 → Missing ≡ wordIn x (scope sp floor env)
     missing h = sym (p .left ∙ short x (floor - i) (drop i env) h)
 
 -- two stores below sp

@@ -1,51 +1,55 @@
--- A using list, and the scope of its body, over scopes as the code holds them (Scopes.antt): only depths are kept. Crate checking's proofs/Judging.antt
+-- A using list, and the scope of its body, over scopes as the code holds them (Scopes.antt): only types are kept. Crate checking's proofs/Judging.antt
 -- shows that this is what snesl's `check` does at an EA.
 use Prim.Native.Nat.{ℕ, _+_, _-_}
 use mathlib.Core.Bool.{Bool, true, false, _&&_, not}
 use mathlib.Core.List.{List, [], _∷_, _++_}
 use mathlib.Core.Path.{_≡_}
-use lib.Dec.{eqb, ltb}
+use lib.Dec.{leb, ltb}
 use lib.ListN.{length, take, drop}
 use Rattle.snesl.specs.declared.code.Variable.{Variable}
 use Rattle.snesl.specs.declared.refusal.Refusal.{Refusal}
 use Rattle.snesl.specs.declared.refusal.Refusal.the-variants.{Unbound, WrongType}
 use Rattle.snesl.specs.Checking.{same, names}
 use Rattle.scopes.specs.declared.scope.Kind.{Kind}
-use Rattle.scopes.specs.declared.scope.Kind.the-variants.{Missing, Depth}
+use Rattle.scopes.specs.declared.scope.Kind.the-variants.{Missing, Word}
 use Rattle.scopes.specs.declared.listed.Prepared.{Prepared}
 use Rattle.scopes.specs.declared.listed.Prepared.the-variants as prepared
-use Rattle.scopes.specs.Scopes.{depthIn}
+use Rattle.scopes.specs.Scopes.{wordIn}
 
 abbrev pub isBoundIn : Kind → Bool
 isBoundIn Missing = false
-isBoundIn (Depth d) = true
+isBoundIn (Word d) = true
 
-abbrev pub isIntIn : Kind → Bool
-isIntIn Missing = false
-isIntIn (Depth d) = eqb d 0
+abbrev pub isScalarIn : Kind → Bool
+isScalarIn Missing = false
+isScalarIn (Word d) = ltb d 2
 
 -- the first of some listed variables is bound, is not x, and is not listed again
 abbrev pub firstUsable : List ℕ → Variable → Variable → List Variable → Bool
-firstUsable w x u us = isBoundIn (depthIn (u .0) w) && (not (same x u) && not (names u us))
+firstUsable w x u us = isBoundIn (wordIn (u .0) w) && (not (same x u) && not (names u us))
 
 unfoldable pub usableIn : List ℕ → Variable → List Variable → Bool
 usableIn w x [] = true
 usableIn w x (u ∷ us) = firstUsable w x u us && usableIn w x us
 
-unfoldable pub intsIn : List ℕ → List Variable → Bool
-intsIn w [] = true
-intsIn w (u ∷ us) = isIntIn (depthIn (u .0) w) && intsIn w us
+unfoldable pub scalarsIn : List ℕ → List Variable → Bool
+scalarsIn w [] = true
+scalarsIn w (u ∷ us) = isScalarIn (wordIn (u .0) w) && scalarsIn w us
 
--- the listed variables inside a body: ints
-unfoldable pub listedWords : List Variable → List ℕ
-listedWords [] = []
-listedWords (u ∷ us) = u .0 ∷ 0 ∷ listedWords us
+-- the listed variables inside a body, each with the type that it has outside
+abbrev pub wordFound : Kind → ℕ
+wordFound Missing = 0
+wordFound (Word d) = d
+
+unfoldable pub listedWords : List ℕ → List Variable → List ℕ
+listedWords w [] = []
+listedWords w (u ∷ us) = u .0 ∷ wordFound (wordIn (u .0) w) ∷ listedWords w us
 
 -- they stand below sp, and all else is as it was
-pub record Listed (us : List Variable) (sp : ℕ) (old new : List ℕ) (r : ℕ) : Type 0 where
-  pub at : r + length (listedWords us) ≡ sp
+pub record Listed (pairs : List ℕ) (sp : ℕ) (old new : List ℕ) (r : ℕ) : Type 0 where
+  pub at : r + length pairs ≡ sp
   pub below : take r new ≡ take r old
-  pub words : drop r new ≡ listedWords us ++ drop sp old
+  pub words : drop r new ≡ pairs ++ drop sp old
 
 -- an EA record up to its body: a refusal, or the body's scope
 pub data Body : Type 0 where
@@ -54,13 +58,13 @@ pub data Body : Type 0 where
 
 abbrev pub sequenceIn : List ℕ → (place : ℕ) → Variable → List Variable → Kind → Body
 sequenceIn w p x us Missing = stop (Unbound p)
-sequenceIn w p x us (Depth d) =
-    elim (ltb 0 d && intsIn w us) [ true ↦ inside (x .0 ∷ (d - 1) ∷ listedWords us) | false ↦ stop (WrongType p) ]
+sequenceIn w p x us (Word d) =
+    elim (leb 2 d && scalarsIn w us) [ true ↦ inside (x .0 ∷ (d - 2) ∷ listedWords w us) | false ↦ stop (WrongType p) ]
 
 unfoldable pub eachIn : List ℕ → (place : ℕ) → (x y : Variable) → List Variable → Body
 eachIn w p x y us =
-    elim (isBoundIn (depthIn (y .0) w) && usableIn w x us)
-    [ true ↦ sequenceIn w p x us (depthIn (y .0) w) | false ↦ stop (Unbound p) ]
+    elim (isBoundIn (wordIn (y .0) w) && usableIn w x us)
+    [ true ↦ sequenceIn w p x us (wordIn (y .0) w) | false ↦ stop (Unbound p) ]
 
 -- the body's scope stands below sp, and all else is as it was
 pub record Inside (b : Body) (sp : ℕ) (old new : List ℕ) (r : ℕ) : Type 0 where

@@ -2,6 +2,7 @@
 use crate::scope::Kind;
 use crate::scope::look;
 use crate::scope::push;
+use crate::types::BRACES;
 use snesl::code::Variable;
 use snesl::refusal::Refusal;
 ghost use mathlib.Core.Path.{_≡_};
@@ -11,7 +12,7 @@ ghost use lib.ListN.{length, drop};
 ghost use Rattle.snesl.specs.Checking.{names};
 ghost use Rattle.snesl.specs.Records.{variableAt, variablesAt};
 ghost use Rattle.scopes.specs.Scopes.{scope};
-ghost use Rattle.scopes.specs.UsingLists.{firstUsable, usableIn, intsIn, listedWords, Listed, eachIn, Prepares};
+ghost use Rattle.scopes.specs.UsingLists.{firstUsable, usableIn, scalarsIn, wordFound, listedWords, Listed, eachIn, Prepares};
 
 // What an EA record says before its body: a refusal, or where the body's scope starts; its floor is the scope outside.
 pub enum Prepared {
@@ -51,7 +52,7 @@ fn first_usable(
     let u = Variable(bytes[at]);
     match look(env, u, sp, floor) {
         Kind::Missing => false,
-        Kind::Depth(_) => {
+        Kind::Word(_) => {
             if x.0 == u.0 {
                 return false;
             }
@@ -87,10 +88,10 @@ fn usable(
     true
 }
 
-// Is each listed variable an int?
-fn ints(bytes: &[u8], at: usize, count: usize, env: &[u8], sp: usize, floor: usize) -> bool
+// Is each listed variable a scalar?
+fn scalars(bytes: &[u8], at: usize, count: usize, env: &[u8], sp: usize, floor: usize) -> bool
     requires { ⌜ at + count ≤ length (now bytes) ⌝ ∗ ⌜ (sp ≤ floor) × (floor ≤ length (now env)) ⌝ }
-    ensures { λ r. ⌜ r ≡ intsIn (scope sp floor (now (env .entry))) (variablesAt (now (bytes .entry)) at count) ⌝ }
+    ensures { λ r. ⌜ r ≡ scalarsIn (scope sp floor (now (env .entry))) (variablesAt (now (bytes .entry)) at count) ⌝ }
 {
     let mut i = 0;
     while i < count {
@@ -98,8 +99,8 @@ fn ints(bytes: &[u8], at: usize, count: usize, env: &[u8], sp: usize, floor: usi
             Kind::Missing => {
                 return false;
             }
-            Kind::Depth(depth) => {
-                if depth == 0 {
+            Kind::Word(word) => {
+                if word < BRACES {
                     i += 1;
                 } else {
                     return false;
@@ -110,16 +111,35 @@ fn ints(bytes: &[u8], at: usize, count: usize, env: &[u8], sp: usize, floor: usi
     true
 }
 
-// The listed variables, each an int, as a scope below sp.
-fn push_listed(bytes: &[u8], at: usize, count: usize, env: &mut [u8], sp: usize) -> usize
-    requires { ⌜ at + count ≤ length (now bytes) ⌝ ∗ ⌜ (2 * count ≤ sp) × (sp ≤ length (now env)) ⌝ }
-    ensures { λ r. ⌜ Listed (variablesAt (now (bytes .entry)) at count) sp (now (env .entry)) (now (env .exit)) r ⌝ }
+// The type of a variable that was found; a listed one always is.
+fn word_found(kind: Kind) -> u8
+    ensures { λ r. ⌜ r ≡ wordFound kind ⌝ }
+{
+    match kind {
+        Kind::Missing => 0,
+        Kind::Word(word) => word,
+    }
+}
+
+// The listed variables, each with its type, as a scope below sp.
+fn push_listed(
+    bytes: &[u8],
+    at: usize,
+    count: usize,
+    env: &mut [u8],
+    sp: usize,
+    floor: usize,
+) -> usize
+    requires { ⌜ at + count ≤ length (now bytes) ⌝ ∗ ⌜ (2 * count ≤ sp) × (sp ≤ floor) × (floor ≤ length (now env)) ⌝ }
+    ensures { λ r. ⌜ Listed (listedWords (scope sp floor (now (env .entry))) (variablesAt (now (bytes .entry)) at count)) sp (now (env .entry)) (now (env .exit)) r ⌝ }
 {
     let mut left = count;
     let mut top = sp;
     while 0 < left {
         left -= 1;
-        top = push(env, top, Variable(bytes[at + left]), 0);
+        let u = Variable(bytes[at + left]);
+        let word = word_found(look(env, u, sp, floor));
+        top = push(env, top, u, word);
     }
     top
 }
@@ -140,12 +160,12 @@ pub fn prepare(
 {
     match look(env, y, sp, floor) {
         Kind::Missing => Prepared::Refused(Refusal::Unbound(k)),
-        Kind::Depth(depth) => {
+        Kind::Word(word) => {
             if usable(bytes, k + 5, listed, env, x, sp, floor) {
-                if 0 < depth {
-                    if ints(bytes, k + 5, listed, env, sp, floor) {
-                        let top = push_listed(bytes, k + 5, listed, env, sp);
-                        return Prepared::Scope(push(env, top, x, depth - 1));
+                if BRACES <= word {
+                    if scalars(bytes, k + 5, listed, env, sp, floor) {
+                        let top = push_listed(bytes, k + 5, listed, env, sp, floor);
+                        return Prepared::Scope(push(env, top, x, word - BRACES));
                     }
                 }
                 return Prepared::Refused(Refusal::WrongType(k));
