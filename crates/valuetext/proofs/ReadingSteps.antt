@@ -6,21 +6,23 @@ use mathlib.Core.Logic.{_⊎_, inl, inr}
 use mathlib.Core.Option.{Option, some, none}
 use mathlib.Core.Path.{_≡_, refl, sym, ap, ap₂, _∙_, subst}
 use native.Mathlib.Omega.{arith}
-use borrow.Author.Tests.{eqb-true}
+use borrow.Author.Tests.{eqb-true, eq-eqb, ne-eqb}
 use lib.Dec.{eqb}
 use mir.Syntax.{w32}
-use mir.Val.{toZ, ofZ}
+use mir.Val.{SFits, toZ, ofZ}
 use mir.Facts.{toZ-ofZ}
 use lib.IntN.{ℤ, pos}
 use lib.ListN.{length, getD, set, drop, replicate, length-append, length-drop, length-set, length-replicate, replicate-append-replicate}
 use lib.Seq.{sets, length-sets, set-getD, getD-set-same, set-set}
-use Rattle.snesl.specs.Values.{Val}
+use Rattle.snesl.specs.declared.code.Base.{Base}
+use Rattle.snesl.specs.declared.code.Base.the-variants as base
+use Rattle.snesl.specs.Values.{typeOf, Element, Val}
 use Rattle.snesl.specs.Streams.{bit}
 use Rattle.snesl.specs.Representation.{concat, segments}
-use Rattle.snesl.specs.Text.{comma, before, readItems, readInt, readValue}
+use Rattle.snesl.specs.Text.{comma, before, readItems, readInt, readBool, readElement, readValue}
 use Rattle.decimals.specs.Numbers.{pick, intAt, intRead}
-use Rattle.valuetext.specs.Laying.{lay, advance, Under, Apart}
-use Rattle.valuetext.specs.Reading.{openingAt, afterAt, Clear, measuring, filling, Ready, Laid, ReadAs, read-no, read-bytes}
+use Rattle.valuetext.specs.Laying.{cells, lay, advance, Under, Apart}
+use Rattle.valuetext.specs.Reading.{openingAt, afterAt, cell, scalarRead, scalarAt, boolAt, intsIn, Clear, measuring, filling, Ready, Laid, ReadAs, read-no, read-bytes}
 use Rattle.valuetext.specs.declared.reading.Taken.the-variants.{Bytes, No}
 use Rattle.valuetext.specs.declared.reading.Opening.the-variants.{Empty, Items, No as NoList}
 use Rattle.valuetext.specs.declared.reading.After.{After}
@@ -28,8 +30,8 @@ use Rattle.valuetext.specs.declared.reading.After.the-variants.{Comma, C
 use Rattle.decimals.specs.declared.numbers.ReadInt.the-variants.{Int, No as NoInt}
 use Rattle.laws.proofs.Options.{some-pair}
 use Rattle.decimals.proofs.Stores.{sets-append, sets-none}
-use Rattle.decimals.proofs.IntText.{IntRead, int-of, int-read}
-use Rattle.valuetext.proofs.Laying.{length-advance, advance-set, advance-append, under-back, under-front, apart-set, apart-front, apart-back, lay-set, lay-none, lay-sets, lay-append}
+use Rattle.decimals.proofs.IntText.{IntRead, int-read}
+use Rattle.valuetext.proofs.Laying.{cells-none, cells-one, length-advance, advance-set, advance-append, under-back, under-front, apart-set, apart-front, apart-back, lay-set, lay-none, lay-sets, lay-append}
 
 -- a byte other than 0 lies within the text
 present : (t : List ℕ) (i : ℕ) {x : ℕ} → getD t i 0 ≡ x → 0 < x → i < length t
@@ -48,88 +50,191 @@ grown-set (c ∷ cs) (suc j) (suc i) = grown-set cs j i
 
 -- ---- nothing laid
 
-lay-nothing : (d : ℕ) (b : List ℤ) (cs : List ℕ) → lay d b cs [] ≡ b
+lay-nothing : (β : Base) (d : ℕ) (b : List ℤ) (cs : List ℕ) → lay β d b cs [] ≡ b
 unfolding lay concat segments
-lay-nothing zero b cs = refl
-lay-nothing (suc d) b cs = lay-nothing d b cs
+lay-nothing β zero b cs = ap (sets b (getD cs 0 0)) (cells-none β)
+lay-nothing β (suc d) b cs = lay-nothing β d b cs
 
-pub advance-nothing : (d : ℕ) (cs : List ℕ) → advance d cs [] ≡ cs
+pub advance-nothing : (β : Base) (d : ℕ) (cs : List ℕ) → advance β d cs [] ≡ cs
 unfolding advance concat segments
-advance-nothing zero cs = let e : getD cs 0 0 + 0 ≡ getD cs 0 0 = omega arith in rw e (set-getD cs 0 0)
-advance-nothing (suc d) cs =
+advance-nothing β zero cs = let e : getD cs 0 0 + 0 ≡ getD cs 0 0 = omega arith in rw e (set-getD cs 0 0)
+advance-nothing β (suc d) cs =
     let e : getD cs (suc d) 0 + 0 ≡ getD cs (suc d) 0 = omega arith in
-    rw (e, advance-nothing d cs) (set-getD cs (suc d) 0)
+    rw (e, advance-nothing β d cs) (set-getD cs (suc d) 0)
 
-length-lay : (d : ℕ) (b : List ℤ) (cs : List ℕ) (vs : List (Val d)) → length (lay d b cs vs) ≡ length b
+length-lay : (β : Base) (d : ℕ) (b : List ℤ) (cs : List ℕ) (vs : List (Val (typeOf β d))) → length (lay β d b cs vs) ≡ length b
 unfolding lay
-length-lay zero b cs vs = length-sets b (getD cs 0 0) vs
-length-lay (suc d) b cs vs =
-    length-sets (lay d b cs (concat vs)) (getD cs (suc d) 0) (map bit (segments vs)) ∙ length-lay d b cs (concat vs)
+length-lay β zero b cs vs = length-sets b (getD cs 0 0) (cells β vs)
+length-lay β (suc d) b cs vs =
+    length-sets (lay β d b cs (concat vs)) (getD cs (suc d) 0) (map bit (segments vs)) ∙ length-lay β d b cs (concat vs)
 
--- ---- an int
+-- ---- a scalar
 
-no-int-of : (o : Option (ℤ × ℕ)) → NoInt ≡ intRead o → o ≡ none
-no-int-of none e = refl
-no-int-of (some r) e = let x : _≡_ {A = ℕ} 0 1 = cc in absurd (omega arith)
+-- what is read at the front of a text, with its element
+record Scalar (β : Base) (t : List ℕ) (z : ℤ) (k : ℕ) : Type 0 where
+  pub value : Element β
+  pub reads : readElement β t ≡ some (value, k)
+  pub is : z ≡ cell β value
+  pub fits : SFits w32 z
+  pub some-bytes : 0 < k
+  pub inside : k ≤ length t
 
-pub leaf-int : {t : List ℕ} {b b′ : List ℤ} {cs cs′ : List ℕ} {z : ℤ} {k : ℕ} → Int z k ≡ intAt t
-    → b′ ≡ set b (getD cs 0 0) (toZ w32 (ofZ w32 z)) → cs′ ≡ set cs 0 (getD cs 0 0 + 1) → ReadAs 0 t b b′ cs cs′ (Bytes k)
-unfolding readValue lay advance
-leaf-int {t} {b} {b′} {cs} {cs′} {z} {k} e p q =
-    let r : readInt t ≡ some (z, k) = int-of z k (readInt t) e in
+int-scalar : {t : List ℕ} {z : ℤ} {k : ℕ} → readInt t ≡ some (z, k) → Scalar base.Int t z k
+int-scalar {t} {z} {k} r =
     let i : IntRead t z k = int-read t z k r in
-    read-bytes
-    (record {
-      value = z;
-      reads = r;
-      content = p ∙ ap (set b (getD cs 0 0)) (toZ-ofZ (i .fits));
-      cursors = q;
-      inside = i .inside;
-      grown = λ j. omega (arith, grown-set cs 0 j, i .some-bytes, ap (λ (l : List ℕ). getD l j 0) q);
-    })
+    record { value = z; reads = r; is = refl; fits = i .fits; some-bytes = i .some-bytes; inside = i .inside }
 
-pub leaf-no : {t : List ℕ} {b b′ : List ℤ} {cs cs′ : List ℕ} → NoInt ≡ intAt t → ReadAs 0 t b b′ cs cs′ No
-unfolding readValue
-leaf-no {t} e = read-no (no-int-of (readInt t) e)
+bit-fits : (c : Bool) → SFits w32 (bit c)
+bit-fits false = record { sfits = omega arith }
+bit-fits true = record { sfits = omega arith }
 
-pub leaf-ready : {t : List ℕ} {b : List ℤ} {cs : List ℕ} {z : ℤ} {k : ℕ} → Ready 0 t b cs → Int z k ≡ intAt t → (0 < length cs) × (getD cs 0 0 + 1 < 2 ^ 64)
-leaf-ready {t} {b} {cs} {z} {k} a e =
-    let i : IntRead t z k = int-read t z k (int-of z k (readInt t) e) in
-    (a .levels, omega (arith, a .counts 0 (omega arith), i .some-bytes, i .inside))
+-- a bool is one byte
+bool-byte : (t : List ℕ) (r : Bool × ℕ) → readBool t ≡ some r → (r .1 ≡ 1) × (1 ≤ length t)
+bool-byte t r e = go (eqb (getD t 0 0) 84) refl (eqb (getD t 0 0) 70) refl e
+  where
+    go : (p : Bool) → eqb (getD t 0 0) 84 ≡ p → (q : Bool) → eqb (getD t 0 0) 70 ≡ q
+        → _≡_ {A = Option (Bool × ℕ)} (elim p [ true ↦ some (true, 1) | false ↦ elim q [ true ↦ some (false, 1) | false ↦ none ] ]) (some r)
+        → (r .1 ≡ 1) × (1 ≤ length t)
+    go true u q v e′ = (sym (some-pair _ _ _ _ e′ .1), present t 0 (eqb-true (getD t 0 0) 84 u) (omega arith))
+    go false u true v e′ = (sym (some-pair _ _ _ _ e′ .1), present t 0 (eqb-true (getD t 0 0) 70 v) (omega arith))
+    go false u false v e′ = let x : _≡_ {A = ℕ} 0 1 = cc in absurd (omega arith)
+
+scalar-of : (β : Base) {t : List ℕ} {z : ℤ} {k : ℕ} → Int z k ≡ scalarAt β t → Scalar β t z k
+scalar-of base.Int {t} {z} {k} e = go (readInt t) refl e
+  where
+    go : (o : Option (ℤ × ℕ)) → readInt t ≡ o → Int z k ≡ scalarRead base.Int o → Scalar base.Int t z k
+    go none h e′ = let x : _≡_ {A = ℕ} 0 1 = cc in absurd (omega arith)
+    go (some r) h e′ =
+        let p : r .0 ≡ z = cc in
+        let q : r .1 ≡ k = cc in
+        int-scalar (h ∙ (λ i. some (p i, q i)))
+scalar-of base.Bool {t} {z} {k} e = go (readBool t) refl e
+  where
+    go : (o : Option (Bool × ℕ)) → readBool t ≡ o → Int z k ≡ scalarRead base.Bool o → Scalar base.Bool t z k
+    go none h e′ = let x : _≡_ {A = ℕ} 0 1 = cc in absurd (omega arith)
+    go (some r) h e′ =
+        let p : bit (r .0) ≡ z = cc in
+        let q : r .1 ≡ k = cc in
+        let w = bool-byte t r h in
+        record {
+          value = r .0;
+          reads = h ∙ (λ i. some (r .0, q i));
+          is = sym p;
+          fits = subst (SFits w32) p (bit-fits (r .0));
+          some-bytes = omega (arith, w .0, q);
+          inside = omega (arith, w .0, w .1, q);
+        }
+
+no-scalar-of : (β : Base) (o : Option (Element β × ℕ)) → NoInt ≡ scalarRead β o → o ≡ none
+no-scalar-of β none e = refl
+no-scalar-of β (some r) e = let x : _≡_ {A = ℕ} 0 1 = cc in absurd (omega arith)
+
+-- an int is read as decimals reads it
+pub int-at : (t : List ℕ) → intAt t ≡ scalarAt base.Int t
+int-at t = go (readInt t)
+  where
+    go : (o : Option (ℤ × ℕ)) → intRead o ≡ scalarRead base.Int o
+    go none = refl
+    go (some r) = refl
+
+pub int-at-base : {β : Base} (t : List ℕ) → β ≡ base.Int → intAt t ≡ scalarAt β t
+int-at-base t p = subst (λ (β : Base). intAt t ≡ scalarAt β t) (sym p) (int-at t)
+
+pub bool-at-base : {β : Base} (t : List ℕ) → β ≡ base.Bool → boolAt t ≡ scalarAt β t
+bool-at-base t p = ap (λ (β : Base). scalarAt β t) (sym p)
+
+-- one byte tells a bool
+bool-as : (t : List ℕ) → boolAt t ≡ pick (eqb (getD t 0 0) 84) (Int (pos 1) 1) (pick (eqb (getD t 0 0) 70) (Int (pos 0) 1) NoInt)
+bool-as t = go (eqb (getD t 0 0) 84) (eqb (getD t 0 0) 70)
+  where
+    go : (p q : Bool)
+        → scalarRead base.Bool (elim p [ true ↦ some (true, 1) | false ↦ elim q [ true ↦ some (false, 1) | false ↦ none ] ])
+        ≡ pick p (Int (pos 1) 1) (pick q (Int (pos 0) 1) NoInt)
+    go true q = refl
+    go false true = refl
+    go false false = refl
+
+pub reads-T : (t : List ℕ) → getD t 0 0 ≡ 84 → Int (pos 1) 1 ≡ boolAt t
+reads-T t e = sym (bool-as t ∙ rw (eq-eqb (getD t 0 0) 84 e))
+
+pub reads-F : (t : List ℕ) → (getD t 0 0 ≡ 84 → ⊥) → getD t 0 0 ≡ 70 → Int (pos 0) 1 ≡ boolAt t
+reads-F t n e = sym (bool-as t ∙ rw (ne-eqb (getD t 0 0) 84 n, eq-eqb (getD t 0 0) 70 e))
+
+pub reads-neither : (t : List ℕ) → (getD t 0 0 ≡ 84 → ⊥) → (getD t 0 0 ≡ 70 → ⊥) → NoInt ≡ boolAt t
+reads-neither t n m = sym (bool-as t ∙ rw (ne-eqb (getD t 0 0) 84 n, ne-eqb (getD t 0 0) 70 m))
+
+-- what is told of a list of ints
+pub ints-in : {β : Base} (d : ℕ) → β ≡ base.Int → eqb d 1 ≡ intsIn β d
+ints-in d p = ap (λ (β : Base). intsIn β d) (sym p)
+
+pub bools-in : {β : Base} (d : ℕ) → β ≡ base.Bool → false ≡ intsIn β d
+bools-in d p = ap (λ (β : Base). intsIn β d) (sym p)
+
+pub ints-told : (β : Base) (d : ℕ) → intsIn β d ≡ true → (β ≡ base.Int) × (d ≡ 1)
+ints-told base.Int d e = (refl, eqb-true d 1 e)
+ints-told base.Bool d e = let x : _≡_ {A = ℕ} 0 1 = cc in absurd (omega arith)
+
+module _ {β : Base} {t : List ℕ} where
+  pub leaf-scalar : {b b′ : List ℤ} {cs cs′ : List ℕ} {z : ℤ} {k : ℕ} → Int z k ≡ scalarAt β t
+      → b′ ≡ set b (getD cs 0 0) (toZ w32 (ofZ w32 z)) → cs′ ≡ set cs 0 (getD cs 0 0 + 1) → ReadAs β 0 t b b′ cs cs′ (Bytes k)
+  unfolding readValue lay advance
+  leaf-scalar {b} {b′} {cs} {cs′} {z} {k} e p q =
+      let i : Scalar β t z k = scalar-of β e in
+      read-bytes
+      (record {
+        value = i .value;
+        reads = i .reads;
+        content =
+            p
+            ∙ ap (set b (getD cs 0 0)) (toZ-ofZ (i .fits) ∙ i .is)
+            ∙ ap (sets b (getD cs 0 0)) (sym (cells-one β (i .value)));
+        cursors = q;
+        inside = i .inside;
+        grown = λ j. omega (arith, grown-set cs 0 j, i .some-bytes, ap (λ (l : List ℕ). getD l j 0) q);
+      })
+
+  pub leaf-no : {b b′ : List ℤ} {cs cs′ : List ℕ} → NoInt ≡ scalarAt β t → ReadAs β 0 t b b′ cs cs′ No
+  unfolding readValue
+  leaf-no e = read-no (no-scalar-of β (readElement β t) e)
+
+  pub leaf-ready : {b : List ℤ} {cs : List ℕ} {z : ℤ} {k : ℕ} → Ready β 0 t b cs → Int z k ≡ scalarAt β t → (0 < length cs) × (getD cs 0 0 + 1 < 2 ^ 64)
+  leaf-ready {b} {cs} {z} {k} a e =
+      let i : Scalar β t z k = scalar-of β e in
+      (a .levels, omega (arith, a .counts 0 (omega arith), i .some-bytes, i .inside))
 
 -- ---- a list's opening
 
-module _ (d : ℕ) (t : List ℕ) where
-  pub opens-empty : Empty ≡ openingAt t → readValue (suc d) t ≡ some ([], 2)
+module _ (β : Base) (d : ℕ) (t : List ℕ) where
+  pub opens-empty : Empty ≡ openingAt t → readValue (typeOf β (suc d)) t ≡ some ([], 2)
   unfolding readValue
   opens-empty e = go (eqb (getD t 0 0) 123) (eqb (getD t 1 0) 125) e
     where
       go : (p q : Bool) → Empty ≡ pick p (pick q Empty Items) NoList
-          → _≡_ {A = Option (List (Val d) × ℕ)}
-          (elim p [ true ↦ elim q [ true ↦ some ([], 2) | false ↦ readItems (readValue d) (length t) t 1 ] | false ↦ none ]) (some ([], 2))
+          → _≡_ {A = Option (List (Val (typeOf β d)) × ℕ)}
+          (elim p [ true ↦ elim q [ true ↦ some ([], 2) | false ↦ readItems (readValue (typeOf β d)) (length t) t 1 ] | false ↦ none ]) (some ([], 2))
       go true true e′ = refl
       go true false e′ = let x : _≡_ {A = ℕ} 0 1 = cc in absurd (omega arith)
       go false q e′ = let x : _≡_ {A = ℕ} 0 1 = cc in absurd (omega arith)
 
-  pub opens-items : Items ≡ openingAt t → readValue (suc d) t ≡ readItems (readValue d) (length t) t 1
+  pub opens-items : Items ≡ openingAt t → readValue (typeOf β (suc d)) t ≡ readItems (readValue (typeOf β d)) (length t) t 1
   unfolding readValue
   opens-items e = go (eqb (getD t 0 0) 123) (eqb (getD t 1 0) 125) e
     where
       go : (p q : Bool) → Items ≡ pick p (pick q Empty Items) NoList
-          → _≡_ {A = Option (List (Val d) × ℕ)}
-          (elim p [ true ↦ elim q [ true ↦ some ([], 2) | false ↦ readItems (readValue d) (length t) t 1 ] | false ↦ none ])
-          (readItems (readValue d) (length t) t 1)
+          → _≡_ {A = Option (List (Val (typeOf β d)) × ℕ)}
+          (elim p [ true ↦ elim q [ true ↦ some ([], 2) | false ↦ readItems (readValue (typeOf β d)) (length t) t 1 ] | false ↦ none ])
+          (readItems (readValue (typeOf β d)) (length t) t 1)
       go true true e′ = let x : _≡_ {A = ℕ} 0 1 = cc in absurd (omega arith)
       go true false e′ = refl
       go false q e′ = let x : _≡_ {A = ℕ} 0 1 = cc in absurd (omega arith)
 
-  pub opens-no : NoList ≡ openingAt t → readValue (suc d) t ≡ none
+  pub opens-no : NoList ≡ openingAt t → readValue (typeOf β (suc d)) t ≡ none
   unfolding readValue
   opens-no e = go (eqb (getD t 0 0) 123) (eqb (getD t 1 0) 125) e
     where
       go : (p q : Bool) → NoList ≡ pick p (pick q Empty Items) NoList
-          → _≡_ {A = Option (List (Val d) × ℕ)}
-          (elim p [ true ↦ elim q [ true ↦ some ([], 2) | false ↦ readItems (readValue d) (length t) t 1 ] | false ↦ none ]) none
+          → _≡_ {A = Option (List (Val (typeOf β d)) × ℕ)}
+          (elim p [ true ↦ elim q [ true ↦ some ([], 2) | false ↦ readItems (readValue (typeOf β d)) (length t) t 1 ] | false ↦ none ]) none
       go true true e′ = let x : _≡_ {A = ℕ} 0 1 = cc in absurd (omega arith)
       go true false e′ = let x : _≡_ {A = ℕ} 0 1 = cc in absurd (omega arith)
       go false q e′ = refl
@@ -151,20 +256,20 @@ opens-one t e = go (eqb (getD t 0 0) 123) (eqb (getD t 1 0) 125) refl e
 
 -- ---- an empty list
 
-module _ {d : ℕ} {t : List ℕ} {b : List ℤ} {cs : List ℕ} (e : Empty ≡ openingAt t) where
-  pub empty-ready : Ready (suc d) t b cs → (suc d < length cs) × (getD cs (suc d) 0 + 1 < 2 ^ 64)
+module _ {β : Base} {d : ℕ} {t : List ℕ} {b : List ℤ} {cs : List ℕ} (e : Empty ≡ openingAt t) where
+  pub empty-ready : Ready β (suc d) t b cs → (suc d < length cs) × (getD cs (suc d) 0 + 1 < 2 ^ 64)
   empty-ready a = (a .levels, omega (arith, a .counts (suc d) (omega arith), opens-two t e))
 
   pub empty-list : {b′ : List ℤ} {cs′ : List ℕ} → b′ ≡ set b (getD cs (suc d) 0) (pos 1) → cs′ ≡ set cs (suc d) (getD cs (suc d) 0 + 1)
-      → ReadAs (suc d) t b b′ cs cs′ (Bytes 2)
+      → ReadAs β (suc d) t b b′ cs cs′ (Bytes 2)
   unfolding lay advance concat segments
   empty-list {b′} {cs′} p q =
       read-bytes
       (record {
         value = [];
-        reads = opens-empty d t e;
-        content = p ∙ ap (λ (l : List ℤ). set l (getD cs (suc d) 0) (pos 1)) (sym (lay-nothing d b cs));
-        cursors = q ∙ ap (λ (l : List ℕ). set l (suc d) (getD cs (suc d) 0 + 1)) (sym (advance-nothing d cs));
+        reads = opens-empty β d t e;
+        content = p ∙ ap (λ (l : List ℤ). set l (getD cs (suc d) 0) (pos 1)) (sym (lay-nothing β d b cs));
+        cursors = q ∙ ap (λ (l : List ℕ). set l (suc d) (getD cs (suc d) 0 + 1)) (sym (advance-nothing β d cs));
         inside = opens-two t e;
         grown = λ i. omega (arith, grown-set cs (suc d) i, ap (λ (l : List ℕ). getD l i 0) q);
       })
@@ -250,85 +355,85 @@ flags-of zero = refl
 flags-of (suc n) = ap (λ (l : List ℤ). pos 0 ∷ l) (flags-of n)
 
 -- The items vs are laid, each an F in the list's own flags, and the next one begins at k.
-pub record Listing (d : ℕ) (t : List ℕ) (b b′ : List ℤ) (cs cs′ : List ℕ) (k : ℕ) : Type 0 where
-  pub ready : Ready (suc d) t b cs
-  pub items : List (Val d)
+pub record Listing (β : Base) (d : ℕ) (t : List ℕ) (b b′ : List ℤ) (cs cs′ : List ℕ) (k : ℕ) : Type 0 where
+  pub ready : Ready β (suc d) t b cs
+  pub items : List (Val (typeOf β d))
   pub most : ℕ
   pub enough : length t < k + most
-  pub whole : readValue (suc d) t ≡ appended items (readItems (readValue d) most t k)
-  pub content : b′ ≡ sets (lay d b cs items) (getD cs (suc d) 0) (replicate (length items) (pos 0))
-  pub cursors : cs′ ≡ set (advance d cs items) (suc d) (getD cs (suc d) 0 + length items)
+  pub whole : readValue (typeOf β (suc d)) t ≡ appended items (readItems (readValue (typeOf β d)) most t k)
+  pub content : b′ ≡ sets (lay β d b cs items) (getD cs (suc d) 0) (replicate (length items) (pos 0))
+  pub cursors : cs′ ≡ set (advance β d cs items) (suc d) (getD cs (suc d) 0 + length items)
   pub grown : (i : ℕ) → getD cs′ i 0 + 1 ≤ getD cs i 0 + k
   pub inside : k ≤ length t
 
-pub listing-start : {d : ℕ} {t : List ℕ} {b : List ℤ} {cs : List ℕ} → Ready (suc d) t b cs → Items ≡ openingAt t → Listing d t b b cs cs 1
-listing-start {d} {t} {b} {cs} a e =
+pub listing-start : {β : Base} {d : ℕ} {t : List ℕ} {b : List ℤ} {cs : List ℕ} → Ready β (suc d) t b cs → Items ≡ openingAt t → Listing β d t b b cs cs 1
+listing-start {β} {d} {t} {b} {cs} a e =
     let z : getD cs (suc d) 0 + 0 ≡ getD cs (suc d) 0 = omega arith in
     record {
       ready = a;
       items = [];
       most = length t;
       enough = omega arith;
-      whole = opens-items d t e ∙ sym (appended-nil (readItems (readValue d) (length t) t 1));
-      content = sym (lay-nothing d b cs);
+      whole = opens-items β d t e ∙ sym (appended-nil (readItems (readValue (typeOf β d)) (length t) t 1));
+      content = sym (lay-nothing β d b cs);
       cursors =
           sym
-          (ap₂ (λ (l : List ℕ) (n : ℕ). set l (suc d) n) (advance-nothing d cs) z ∙ set-getD cs (suc d) 0);
+          (ap₂ (λ (l : List ℕ) (n : ℕ). set l (suc d) n) (advance-nothing β d cs) z ∙ set-getD cs (suc d) 0);
       grown = λ i. omega arith;
       inside = opens-one t e;
     }
 
 -- laying is clear for these items at the level below a list's flags
-Free : (d : ℕ) → List ℤ → List ℕ → List (Val d) → Type 0
-Free d b cs vs = (length b ≡ 0) ⊎ (Apart d cs vs × Under d cs vs (getD cs (suc d) 0))
+Free : (β : Base) (d : ℕ) → List ℤ → List ℕ → List (Val (typeOf β d)) → Type 0
+Free β d b cs vs = (length b ≡ 0) ⊎ (Apart β d cs vs × Under β d cs vs (getD cs (suc d) 0))
 
 nothing : {A : Type 0} (l : List A) → length l ≡ 0 → l ≡ []
 nothing [] e = refl
 nothing (x ∷ l) e = absurd (omega arith)
 
-free-front : (d : ℕ) (b : List ℤ) (cs : List ℕ) (vs ws : List (Val d)) → Free d b cs (vs ++ ws) → Free d b cs vs
+free-front : (β : Base) (d : ℕ) (b : List ℤ) (cs : List ℕ) (vs ws : List (Val (typeOf β d))) → Free β d b cs (vs ++ ws) → Free β d b cs vs
 unfolding Free
-free-front d b cs vs ws (inl e) = inl e
-free-front d b cs vs ws (inr p) = inr (apart-front d cs vs ws (p .0), under-front d cs vs ws (getD cs (suc d) 0) (p .1))
+free-front β d b cs vs ws (inl e) = inl e
+free-front β d b cs vs ws (inr p) = inr (apart-front β d cs vs ws (p .0), under-front β d cs vs ws (getD cs (suc d) 0) (p .1))
 
 -- one item more, under flags that are written already
-lay-item : (d : ℕ) (b : List ℤ) (cs : List ℕ) (vs : List (Val d)) (x : Val d) (s : List ℤ) (y : ℕ) → d < length cs → Free d b cs (vs ++ x ∷ [])
-    → lay d (sets (lay d b cs vs) (getD cs (suc d) 0) s) (set (advance d cs vs) (suc d) y) (x ∷ [])
-    ≡ sets (lay d b cs (vs ++ x ∷ [])) (getD cs (suc d) 0) s
+lay-item : (β : Base) (d : ℕ) (b : List ℤ) (cs : List ℕ) (vs : List (Val (typeOf β d))) (x : Val (typeOf β d)) (s : List ℤ) (y : ℕ) → d < length cs → Free β d b cs (vs ++ x ∷ [])
+    → lay β d (sets (lay β d b cs vs) (getD cs (suc d) 0) s) (set (advance β d cs vs) (suc d) y) (x ∷ [])
+    ≡ sets (lay β d b cs (vs ++ x ∷ [])) (getD cs (suc d) 0) s
 unfolding Free
-lay-item d b cs vs x s y h (inl e) =
+lay-item β d b cs vs x s y h (inl e) =
     let c : ℕ = getD cs (suc d) 0 in
     let n : b ≡ [] = nothing b e in
-    ap (λ (l : List ℤ). lay d (sets (lay d l cs vs) c s) (set (advance d cs vs) (suc d) y) (x ∷ [])) n
-    ∙ ap (λ (l : List ℤ). lay d (sets l c s) (set (advance d cs vs) (suc d) y) (x ∷ [])) (lay-none d cs vs)
-    ∙ ap (λ (l : List ℤ). lay d l (set (advance d cs vs) (suc d) y) (x ∷ [])) (sets-none c s)
-    ∙ lay-none d (set (advance d cs vs) (suc d) y) (x ∷ [])
+    ap (λ (l : List ℤ). lay β d (sets (lay β d l cs vs) c s) (set (advance β d cs vs) (suc d) y) (x ∷ [])) n
+    ∙ ap (λ (l : List ℤ). lay β d (sets l c s) (set (advance β d cs vs) (suc d) y) (x ∷ [])) (lay-none β d cs vs)
+    ∙ ap (λ (l : List ℤ). lay β d l (set (advance β d cs vs) (suc d) y) (x ∷ [])) (sets-none c s)
+    ∙ lay-none β d (set (advance β d cs vs) (suc d) y) (x ∷ [])
     ∙ sym (sets-none c s)
-    ∙ ap (λ (l : List ℤ). sets l c s) (sym (lay-none d cs (vs ++ x ∷ [])))
-    ∙ ap (λ (l : List ℤ). sets (lay d l cs (vs ++ x ∷ [])) c s) (sym n)
-lay-item d b cs vs x s y h (inr p) =
+    ∙ ap (λ (l : List ℤ). sets l c s) (sym (lay-none β d cs (vs ++ x ∷ [])))
+    ∙ ap (λ (l : List ℤ). sets (lay β d l cs (vs ++ x ∷ [])) c s) (sym n)
+lay-item β d b cs vs x s y h (inr p) =
     let c : ℕ = getD cs (suc d) 0 in
-    lay-set d (suc d) y (sets (lay d b cs vs) c s) (advance d cs vs) (x ∷ []) (omega arith)
-    ∙ lay-sets d (lay d b cs vs) (advance d cs vs) (x ∷ []) c s (under-back d cs vs (x ∷ []) c h (p .1))
-    ∙ ap (λ (l : List ℤ). sets l c s) (lay-append d b cs vs (x ∷ []) h (p .0))
+    lay-set β d (suc d) y (sets (lay β d b cs vs) c s) (advance β d cs vs) (x ∷ []) (omega arith)
+    ∙ lay-sets β d (lay β d b cs vs) (advance β d cs vs) (x ∷ []) c s (under-back β d cs vs (x ∷ []) c h (p .1))
+    ∙ ap (λ (l : List ℤ). sets l c s) (lay-append β d b cs vs (x ∷ []) h (p .0))
 
 -- the items of a list whose text was read before
-free-list : (d : ℕ) (t : List ℕ) (b : List ℤ) (cs : List ℕ) (vs : List (Val d)) (m k : ℕ) → Clear (suc d) t b cs
-    → readValue (suc d) t ≡ appended vs (readItems (readValue d) (suc m) t k)
-    → (length b ≡ 0) ⊎ ((x : Val d) × (n : ℕ) × (readValue d (drop k t) ≡ some (x, n)) × Free d b cs (vs ++ x ∷ []))
+free-list : (β : Base) (d : ℕ) (t : List ℕ) (b : List ℤ) (cs : List ℕ) (vs : List (Val (typeOf β d))) (m k : ℕ) → Clear β (suc d) t b cs
+    → readValue (typeOf β (suc d)) t ≡ appended vs (readItems (readValue (typeOf β d)) (suc m) t k)
+    → (length b ≡ 0) ⊎ ((x : Val (typeOf β d)) × (n : ℕ) × (readValue (typeOf β d) (drop k t) ≡ some (x, n)) × Free β d b cs (vs ++ x ∷ []))
 unfolding Free Apart concat
-free-list d t b cs vs m k (measuring e) w = inl e
-free-list d t b cs vs m k (filling {v = ws} {k = j} r p) w =
-    let (us, o, q) = unappended vs ws j (readItems (readValue d) (suc m) t k) (sym w ∙ r) in
-    let (x, n, rest, h, f) = first-item (readValue d) m t k us j o in
+free-list β d t b cs vs m k (measuring e) w = inl e
+free-list β d t b cs vs m k (filling {v = ws} {k = j} r p) w =
+    let (us, o, q) = unappended vs ws j (readItems (readValue (typeOf β d)) (suc m) t k) (sym w ∙ r) in
+    let (x, n, rest, h, f) = first-item (readValue (typeOf β d)) m t k us j o in
     let e : ws ++ [] ≡ (vs ++ x ∷ []) ++ rest =
-    append-nil ws ∙ q ∙ ap (λ (l : List (Val d)). vs ++ l) f ∙ sym (append-assoc vs (x ∷ []) rest) in
-    let g : Free d b cs ((vs ++ x ∷ []) ++ rest) =
-    inr (subst (Apart d cs) e (p .0), subst (λ (l : List (Val d)). Under d cs l (getD cs (suc d) 0)) e (p .1)) in
-    inr (x, n, h, free-front d b cs (vs ++ x ∷ []) rest g)
+    append-nil ws ∙ q ∙ ap (λ (l : List (Val (typeOf β d))). vs ++ l) f ∙ sym (append-assoc vs (x ∷ []) rest) in
+    let g : Free β d b cs ((vs ++ x ∷ []) ++ rest) =
+    inr (subst (Apart β d cs) e (p .0), subst (λ (l : List (Val (typeOf β d))). Under β d cs l (getD cs (suc d) 0)) e (p .1)) in
+    inr (x, n, h, free-front β d b cs (vs ++ x ∷ []) rest g)
 
 -- the text of an item is ready
-module _ {d : ℕ} {t : List ℕ} {b b′ : List ℤ} {cs cs′ : List ℕ} {k : ℕ} (a : Listing d t b b′ cs cs′ k) where
+module _ {β : Base} {d : ℕ} {t : List ℕ} {b b′ : List ℤ} {cs cs′ : List ℕ} {k : ℕ} (a : Listing β d t b b′ cs cs′ k) where
   fuel : (m : ℕ) × (a .most ≡ suc m)
   fuel = go (a .most) (a .enough)
     where
@@ -336,11 +441,11 @@ module _ {d : ℕ} {t : List ℕ} {b b′ : List ℤ} {cs cs′ : List ℕ} {k :
       go zero h = absurd (omega (arith, a .inside))
       go (suc m) h = (m, refl)
 
-  reads-on : readValue (suc d) t ≡ appended (a .items) (readItems (readValue d) (suc (fuel .0)) t k)
-  reads-on = a .whole ∙ ap (λ (m : ℕ). appended (a .items) (readItems (readValue d) m t k)) (fuel .1)
+  reads-on : readValue (typeOf β (suc d)) t ≡ appended (a .items) (readItems (readValue (typeOf β d)) (suc (fuel .0)) t k)
+  reads-on = a .whole ∙ ap (λ (m : ℕ). appended (a .items) (readItems (readValue (typeOf β d)) m t k)) (fuel .1)
 
-  free : (length b ≡ 0) ⊎ ((x : Val d) × (n : ℕ) × (readValue d (drop k t) ≡ some (x, n)) × Free d b cs (a .items ++ x ∷ []))
-  free = free-list d t b cs (a .items) (fuel .0) k (a .ready .clear) reads-on
+  free : (length b ≡ 0) ⊎ ((x : Val (typeOf β d)) × (n : ℕ) × (readValue (typeOf β d) (drop k t) ≡ some (x, n)) × Free β d b cs (a .items ++ x ∷ []))
+  free = free-list β d t b cs (a .items) (fuel .0) k (a .ready .clear) reads-on
 
   below : d < length cs
   below = omega (arith, a .ready .levels)
@@ -348,27 +453,27 @@ module _ {d : ℕ} {t : List ℕ} {b b′ : List ℤ} {cs cs′ : List ℕ} {k :
   pub listing-lengths : (length b′ ≡ length b) × (length cs′ ≡ length cs)
   listing-lengths = (
     ap length (a .content)
-        ∙ length-sets (lay d b cs (a .items)) (getD cs (suc d) 0) (replicate (length (a .items)) (pos 0))
-        ∙ length-lay d b cs (a .items),
+        ∙ length-sets (lay β d b cs (a .items)) (getD cs (suc d) 0) (replicate (length (a .items)) (pos 0))
+        ∙ length-lay β d b cs (a .items),
     ap length (a .cursors)
-        ∙ length-set (advance d cs (a .items)) (suc d) (getD cs (suc d) 0 + length (a .items))
-        ∙ length-advance d cs (a .items),
+        ∙ length-set (advance β d cs (a .items)) (suc d) (getD cs (suc d) 0 + length (a .items))
+        ∙ length-advance β d cs (a .items),
   )
 
-  item-clear : Clear d (drop k t) b′ cs′
+  item-clear : Clear β d (drop k t) b′ cs′
   unfolding Free
   item-clear = go free
     where
-      go : (length b ≡ 0) ⊎ ((x : Val d) × (n : ℕ) × (readValue d (drop k t) ≡ some (x, n)) × Free d b cs (a .items ++ x ∷ [])) → Clear d (drop k t) b′ cs′
+      go : (length b ≡ 0) ⊎ ((x : Val (typeOf β d)) × (n : ℕ) × (readValue (typeOf β d) (drop k t) ≡ some (x, n)) × Free β d b cs (a .items ++ x ∷ [])) → Clear β d (drop k t) b′ cs′
       go (inl e) = measuring (listing-lengths .0 ∙ e)
       go (inr (x, n, h, inl e)) = measuring (listing-lengths .0 ∙ e)
       go (inr (x, n, h, inr p)) =
           filling h
-          (subst (λ (l : List ℕ). Apart d l (x ∷ [])) (sym (a .cursors))
-          (apart-set d (suc d) (getD cs (suc d) 0 + length (a .items)) (advance d cs (a .items)) (x ∷ []) (omega arith)
-          (apart-back d cs (a .items) (x ∷ []) below (p .0))))
+          (subst (λ (l : List ℕ). Apart β d l (x ∷ [])) (sym (a .cursors))
+          (apart-set β d (suc d) (getD cs (suc d) 0 + length (a .items)) (advance β d cs (a .items)) (x ∷ []) (omega arith)
+          (apart-back β d cs (a .items) (x ∷ []) below (p .0))))
 
-  pub item-ready : Ready d (drop k t) b′ cs′
+  pub item-ready : Ready β d (drop k t) b′ cs′
   item-ready =
       record {
         levels = omega (arith, a .ready .levels, listing-lengths .1);
@@ -377,57 +482,57 @@ module _ {d : ℕ} {t : List ℕ} {b b′ : List ℤ} {cs cs′ : List ℕ} {k :
       }
 
 -- the item x at k, of n bytes, is laid too, and its F written
-pub record Item (d : ℕ) (t : List ℕ) (b b′ : List ℤ) (cs cs′ : List ℕ) (k n : ℕ) : Type 0 where
-  pub ready : Ready (suc d) t b cs
-  pub items : List (Val d)
-  pub item : Val d
+pub record Item (β : Base) (d : ℕ) (t : List ℕ) (b b′ : List ℤ) (cs cs′ : List ℕ) (k n : ℕ) : Type 0 where
+  pub ready : Ready β (suc d) t b cs
+  pub items : List (Val (typeOf β d))
+  pub item : Val (typeOf β d)
   pub most : ℕ
   pub enough : length t < k + suc most
-  pub whole : readValue (suc d) t ≡ appended items (readItems (readValue d) (suc most) t k)
-  pub reads : readValue d (drop k t) ≡ some (item, n)
-  pub content : b′ ≡ sets (lay d b cs (items ++ item ∷ [])) (getD cs (suc d) 0) (replicate (length (items ++ item ∷ [])) (pos 0))
-  pub cursors : cs′ ≡ set (advance d cs (items ++ item ∷ [])) (suc d) (getD cs (suc d) 0 + length (items ++ item ∷ []))
+  pub whole : readValue (typeOf β (suc d)) t ≡ appended items (readItems (readValue (typeOf β d)) (suc most) t k)
+  pub reads : readValue (typeOf β d) (drop k t) ≡ some (item, n)
+  pub content : b′ ≡ sets (lay β d b cs (items ++ item ∷ [])) (getD cs (suc d) 0) (replicate (length (items ++ item ∷ [])) (pos 0))
+  pub cursors : cs′ ≡ set (advance β d cs (items ++ item ∷ [])) (suc d) (getD cs (suc d) 0 + length (items ++ item ∷ []))
   pub grown : (i : ℕ) → getD cs′ i 0 + 1 ≤ getD cs i 0 + (k + n + 1)
   pub inside : k + n ≤ length t
 
-module _ {d : ℕ} {t : List ℕ} {b b′ : List ℤ} {cs cs′ : List ℕ} {k : ℕ} (a : Listing d t b b′ cs cs′ k) where
-  pub listing-no : {b₁ : List ℤ} {cs₁ : List ℕ} → readValue d (drop k t) ≡ none → ReadAs (suc d) t b b₁ cs cs₁ No
+module _ {β : Base} {d : ℕ} {t : List ℕ} {b b′ : List ℤ} {cs cs′ : List ℕ} {k : ℕ} (a : Listing β d t b b′ cs cs′ k) where
+  pub listing-no : {b₁ : List ℤ} {cs₁ : List ℕ} → readValue (typeOf β d) (drop k t) ≡ none → ReadAs β (suc d) t b b₁ cs cs₁ No
   listing-no e =
-      read-no (reads-on a ∙ ap (appended (a .items)) (items-none (readValue d) (fuel a .0) t k e))
+      read-no (reads-on a ∙ ap (appended (a .items)) (items-none (readValue (typeOf β d)) (fuel a .0) t k e))
 
-  free-of : {x : Val d} {n : ℕ} → readValue d (drop k t) ≡ some (x, n) → Free d b cs (a .items ++ x ∷ [])
+  free-of : {x : Val (typeOf β d)} {n : ℕ} → readValue (typeOf β d) (drop k t) ≡ some (x, n) → Free β d b cs (a .items ++ x ∷ [])
   unfolding Free
   free-of {x} {n} e = go (free a)
     where
-      go : (length b ≡ 0) ⊎ ((y : Val d) × (m : ℕ) × (readValue d (drop k t) ≡ some (y, m)) × Free d b cs (a .items ++ y ∷ []))
-          → Free d b cs (a .items ++ x ∷ [])
+      go : (length b ≡ 0) ⊎ ((y : Val (typeOf β d)) × (m : ℕ) × (readValue (typeOf β d) (drop k t) ≡ some (y, m)) × Free β d b cs (a .items ++ y ∷ []))
+          → Free β d b cs (a .items ++ x ∷ [])
       go (inl z) = inl z
-      go (inr (y, m, h, p)) = subst (λ (z : Val d). Free d b cs (a .items ++ z ∷ [])) (some-pair _ _ _ _ (sym h ∙ e) .0) p
+      go (inr (y, m, h, p)) = subst (λ (z : Val (typeOf β d)). Free β d b cs (a .items ++ z ∷ [])) (some-pair _ _ _ _ (sym h ∙ e) .0) p
 
-  module _ {b₁ : List ℤ} {cs₁ : List ℕ} {n : ℕ} (l : Laid d (drop k t) b′ b₁ cs′ cs₁ n) where
-    abbrev more : List (Val d)
+  module _ {b₁ : List ℤ} {cs₁ : List ℕ} {n : ℕ} (l : Laid β d (drop k t) b′ b₁ cs′ cs₁ n) where
+    abbrev more : List (Val (typeOf β d))
     more = a .items ++ l .value ∷ []
 
-    cursors-after : cs₁ ≡ set (advance d cs more) (suc d) ((getD cs (suc d) 0) + length (a .items))
+    cursors-after : cs₁ ≡ set (advance β d cs more) (suc d) ((getD cs (suc d) 0) + length (a .items))
     cursors-after =
         l .cursors
-        ∙ ap (λ (c : List ℕ). advance d c (l .value ∷ [])) (a .cursors)
-        ∙ advance-set d (suc d) ((getD cs (suc d) 0) + length (a .items)) (advance d cs (a .items)) (l .value ∷ []) (omega arith)
-        ∙ ap (λ (c : List ℕ). set c (suc d) ((getD cs (suc d) 0) + length (a .items))) (advance-append d cs (a .items) (l .value ∷ []) (below a))
+        ∙ ap (λ (c : List ℕ). advance β d c (l .value ∷ [])) (a .cursors)
+        ∙ advance-set β d (suc d) ((getD cs (suc d) 0) + length (a .items)) (advance β d cs (a .items)) (l .value ∷ []) (omega arith)
+        ∙ ap (λ (c : List ℕ). set c (suc d) ((getD cs (suc d) 0) + length (a .items))) (advance-append β d cs (a .items) (l .value ∷ []) (below a))
 
     own-after : getD cs₁ (suc d) 0 ≡ (getD cs (suc d) 0) + length (a .items)
     own-after =
         ap (λ (c : List ℕ). getD c (suc d) 0) cursors-after
-        ∙ getD-set-same (advance d cs more) (suc d) ((getD cs (suc d) 0) + length (a .items)) 0
-        (subst (λ (m : ℕ). suc d < m) (sym (length-advance d cs more)) (a .ready .levels))
+        ∙ getD-set-same (advance β d cs more) (suc d) ((getD cs (suc d) 0) + length (a .items)) 0
+        (subst (λ (m : ℕ). suc d < m) (sym (length-advance β d cs more)) (a .ready .levels))
 
     pub flag-ready : (suc d < length cs₁) × (getD cs₁ (suc d) 0 + 1 < 2 ^ 64)
     flag-ready = (
       omega (
         arith,
         ap length cursors-after,
-        length-set (advance d cs more) (suc d) ((getD cs (suc d) 0) + length (a .items)),
-        length-advance d cs more,
+        length-set (advance β d cs more) (suc d) ((getD cs (suc d) 0) + length (a .items)),
+        length-advance β d cs more,
         a .ready .levels,
       ),
       omega (
@@ -441,13 +546,13 @@ module _ {d : ℕ} {t : List ℕ} {b b′ : List ℤ} {cs cs′ : List ℕ} {k :
       ),
     )
 
-    content-after : b₁ ≡ sets (lay d b cs more) (getD cs (suc d) 0) (replicate (length (a .items)) (pos 0))
+    content-after : b₁ ≡ sets (lay β d b cs more) (getD cs (suc d) 0) (replicate (length (a .items)) (pos 0))
     content-after =
         l .content
-        ∙ ap₂ (λ (c : List ℤ) (e : List ℕ). lay d c e (l .value ∷ [])) (a .content) (a .cursors)
-        ∙ lay-item d b cs (a .items) (l .value) (replicate (length (a .items)) (pos 0)) ((getD cs (suc d) 0) + length (a .items)) (below a) (free-of (l .reads))
+        ∙ ap₂ (λ (c : List ℤ) (e : List ℕ). lay β d c e (l .value ∷ [])) (a .content) (a .cursors)
+        ∙ lay-item β d b cs (a .items) (l .value) (replicate (length (a .items)) (pos 0)) ((getD cs (suc d) 0) + length (a .items)) (below a) (free-of (l .reads))
 
-    pub listing-item : {b₂ : List ℤ} {cs₂ : List ℕ} → b₂ ≡ set b₁ (getD cs₁ (suc d) 0) (pos 0) → cs₂ ≡ set cs₁ (suc d) (getD cs₁ (suc d) 0 + 1) → Item d t b b₂ cs cs₂ k n
+    pub listing-item : {b₂ : List ℤ} {cs₂ : List ℕ} → b₂ ≡ set b₁ (getD cs₁ (suc d) 0) (pos 0) → cs₂ ≡ set cs₁ (suc d) (getD cs₁ (suc d) 0 + 1) → Item β d t b b₂ cs cs₂ k n
     listing-item {b₂} {cs₂} p q =
         let j : length more ≡ length (a .items) + 1 = length-append (a .items) (l .value ∷ []) in
         let r : (getD cs (suc d) 0) + length (a .items) + 1 ≡ (getD cs (suc d) 0) + length more = omega arith in
@@ -463,28 +568,28 @@ module _ {d : ℕ} {t : List ℕ} {b b′ : List ℤ} {cs cs′ : List ℕ} {k :
               p
               ∙ ap₂ (λ (x : List ℤ) (c : ℕ). set x c (pos 0)) content-after
               (own-after ∙ ap (λ (m : ℕ). (getD cs (suc d) 0) + m) (sym (length-replicate (length (a .items)) (pos 0))))
-              ∙ sets-append (lay d b cs more) (getD cs (suc d) 0) (replicate (length (a .items)) (pos 0)) (pos 0 ∷ [])
-              ∙ ap (sets (lay d b cs more) (getD cs (suc d) 0)) (zeros-more (length (a .items)) ∙ ap (λ (m : ℕ). replicate m (pos 0)) (sym j));
+              ∙ sets-append (lay β d b cs more) (getD cs (suc d) 0) (replicate (length (a .items)) (pos 0)) (pos 0 ∷ [])
+              ∙ ap (sets (lay β d b cs more) (getD cs (suc d) 0)) (zeros-more (length (a .items)) ∙ ap (λ (m : ℕ). replicate m (pos 0)) (sym j));
           cursors =
               q
               ∙ ap₂ (λ (c : List ℕ) (m : ℕ). set c (suc d) (m + 1)) cursors-after own-after
-              ∙ set-set (advance d cs more) (suc d) ((getD cs (suc d) 0) + length (a .items)) ((getD cs (suc d) 0) + length (a .items) + 1)
-              ∙ ap (set (advance d cs more) (suc d)) r;
+              ∙ set-set (advance β d cs more) (suc d) ((getD cs (suc d) 0) + length (a .items)) ((getD cs (suc d) 0) + length (a .items) + 1)
+              ∙ ap (set (advance β d cs more) (suc d)) r;
           grown = λ i. omega (arith, ap (λ (c : List ℕ). getD c i 0) q, grown-set cs₁ (suc d) i, l .grown i, a .grown i);
           inside = omega (arith, l .inside, length-drop k t, a .inside);
         }
 
-module _ {d : ℕ} {t : List ℕ} {b b′ : List ℤ} {cs cs′ : List ℕ} {k n : ℕ} (a : Item d t b b′ cs cs′ k n) where
-  read-so : readValue (suc d) t ≡ appended (a .items) (followed (afterAt t (k + n)) (a .item) (k + n + 1) (readItems (readValue d) (a .most) t (k + n + 1)))
-  read-so = a .whole ∙ ap (appended (a .items)) (items-some (readValue d) (a .most) t k (a .item) n (a .reads))
+module _ {β : Base} {d : ℕ} {t : List ℕ} {b b′ : List ℤ} {cs cs′ : List ℕ} {k n : ℕ} (a : Item β d t b b′ cs cs′ k n) where
+  read-so : readValue (typeOf β (suc d)) t ≡ appended (a .items) (followed (afterAt t (k + n)) (a .item) (k + n + 1) (readItems (readValue (typeOf β d)) (a .most) t (k + n + 1)))
+  read-so = a .whole ∙ ap (appended (a .items)) (items-some (readValue (typeOf β d)) (a .most) t k (a .item) n (a .reads))
 
   after-as : (f : After) → f ≡ afterAt t (k + n)
-      → readValue (suc d) t ≡ appended (a .items) (followed f (a .item) (k + n + 1) (readItems (readValue d) (a .most) t (k + n + 1)))
+      → readValue (typeOf β (suc d)) t ≡ appended (a .items) (followed f (a .item) (k + n + 1) (readItems (readValue (typeOf β d)) (a .most) t (k + n + 1)))
   after-as f e =
       read-so
-      ∙ ap (λ (g : After). appended (a .items) (followed g (a .item) (k + n + 1) (readItems (readValue d) (a .most) t (k + n + 1)))) (sym e)
+      ∙ ap (λ (g : After). appended (a .items) (followed g (a .item) (k + n + 1) (readItems (readValue (typeOf β d)) (a .most) t (k + n + 1)))) (sym e)
 
-  pub item-else : {b₁ : List ℤ} {cs₁ : List ℕ} → Else ≡ afterAt t (k + n) → ReadAs (suc d) t b b₁ cs cs₁ No
+  pub item-else : {b₁ : List ℤ} {cs₁ : List ℕ} → Else ≡ afterAt t (k + n) → ReadAs β (suc d) t b b₁ cs cs₁ No
   item-else e = read-no (after-as Else e)
 
   -- what stands there is a comma or a brace, and no end
@@ -503,14 +608,14 @@ module _ {d : ℕ} {t : List ℕ} {b b′ : List ℤ} {cs cs′ : List ℕ} {k n
   pub close-inside : Close ≡ afterAt t (k + n) → k + n < length t
   close-inside e = item-inside Close e (λ h. let z : _≡_ {A = ℕ} 0 1 = cc in omega arith)
 
-  pub item-comma : Comma ≡ afterAt t (k + n) → Listing d t b b′ cs cs′ (k + n + 1)
+  pub item-comma : Comma ≡ afterAt t (k + n) → Listing β d t b b′ cs cs′ (k + n + 1)
   item-comma e =
       record {
         ready = a .ready;
         items = a .items ++ a .item ∷ [];
         most = a .most;
         enough = omega (arith, a .enough);
-        whole = after-as Comma e ∙ appended-before (a .items) (a .item) (readItems (readValue d) (a .most) t (k + n + 1));
+        whole = after-as Comma e ∙ appended-before (a .items) (a .item) (readItems (readValue (typeOf β d)) (a .most) t (k + n + 1));
         content = a .content;
         cursors = a .cursors;
         grown = a .grown;
@@ -522,8 +627,8 @@ module _ {d : ℕ} {t : List ℕ} {b b′ : List ℤ} {cs cs′ : List ℕ} {k n
     omega (
       arith,
       ap length (a .cursors),
-      length-set (advance d cs (a .items ++ a .item ∷ [])) (suc d) (getD cs (suc d) 0 + length (a .items ++ a .item ∷ [])),
-      length-advance d cs (a .items ++ a .item ∷ []),
+      length-set (advance β d cs (a .items ++ a .item ∷ [])) (suc d) (getD cs (suc d) 0 + length (a .items ++ a .item ∷ [])),
+      length-advance β d cs (a .items ++ a .item ∷ []),
       a .ready .levels,
     ),
     omega (arith, a .grown (suc d), a .ready .counts (suc d) (omega arith), close-inside e),
@@ -531,15 +636,15 @@ module _ {d : ℕ} {t : List ℕ} {b b′ : List ℤ} {cs cs′ : List ℕ} {k n
 
   pub item-close : {b₁ : List ℤ} {cs₁ : List ℕ} → Close ≡ afterAt t (k + n)
       → b₁ ≡ set b′ (getD cs′ (suc d) 0) (pos 1) → cs₁ ≡ set cs′ (suc d) (getD cs′ (suc d) 0 + 1)
-      → ReadAs (suc d) t b b₁ cs cs₁ (Bytes (k + n + 1))
+      → ReadAs β (suc d) t b b₁ cs cs₁ (Bytes (k + n + 1))
   unfolding lay advance concat segments
   item-close {b₁} {cs₁} e p q =
-      let ws : List (Val d) = a .items ++ a .item ∷ [] in
+      let ws : List (Val (typeOf β d)) = a .items ++ a .item ∷ [] in
       let c : ℕ = getD cs (suc d) 0 in
       let g : getD cs′ (suc d) 0 ≡ c + length ws =
       ap (λ (x : List ℕ). getD x (suc d) 0) (a .cursors)
-      ∙ getD-set-same (advance d cs ws) (suc d) (c + length ws) 0
-      (subst (λ (m : ℕ). suc d < m) (sym (length-advance d cs ws)) (a .ready .levels)) in
+      ∙ getD-set-same (advance β d cs ws) (suc d) (c + length ws) 0
+      (subst (λ (m : ℕ). suc d < m) (sym (length-advance β d cs ws)) (a .ready .levels)) in
       let s : length (segments (ws ∷ [])) ≡ length ws + 1 =
       length-append (replicate (length ws) false) (true ∷ []) ∙ ap (λ (m : ℕ). m + 1) (length-replicate (length ws) false) in
       let y : c + length ws + 1 ≡ c + length (segments (ws ∷ [])) = omega (arith, s) in
@@ -551,13 +656,13 @@ module _ {d : ℕ} {t : List ℕ} {b b′ : List ℤ} {cs cs′ : List ℕ} {k n
             p
             ∙ ap₂ (λ (x : List ℤ) (m : ℕ). set x m (pos 1)) (a .content)
             (g ∙ ap (λ (m : ℕ). c + m) (sym (length-replicate (length ws) (pos 0))))
-            ∙ sets-append (lay d b cs ws) c (replicate (length ws) (pos 0)) (pos 1 ∷ [])
-            ∙ ap₂ (λ (x : List (Val d)) (f : List ℤ). sets (lay d b cs x) c f) (sym (append-nil ws)) (sym (flags-of (length ws)));
+            ∙ sets-append (lay β d b cs ws) c (replicate (length ws) (pos 0)) (pos 1 ∷ [])
+            ∙ ap₂ (λ (x : List (Val (typeOf β d))) (f : List ℤ). sets (lay β d b cs x) c f) (sym (append-nil ws)) (sym (flags-of (length ws)));
         cursors =
             q
             ∙ ap₂ (λ (x : List ℕ) (m : ℕ). set x (suc d) (m + 1)) (a .cursors) g
-            ∙ set-set (advance d cs ws) (suc d) (c + length ws) (c + length ws + 1)
-            ∙ ap₂ (λ (x : List (Val d)) (m : ℕ). set (advance d cs x) (suc d) m) (sym (append-nil ws)) y;
+            ∙ set-set (advance β d cs ws) (suc d) (c + length ws) (c + length ws + 1)
+            ∙ ap₂ (λ (x : List (Val (typeOf β d))) (m : ℕ). set (advance β d cs x) (suc d) m) (sym (append-nil ws)) y;
         inside = omega (arith, close-inside e);
         grown = λ i. omega (arith, ap (λ (x : List ℕ). getD x i 0) q, grown-set cs′ (suc d) i, a .grown i);
       })

@@ -4,10 +4,11 @@ use decimals::numbers::ReadInt;
 use decimals::numbers::byte_at;
 use decimals::numbers::quick_int;
 use decimals::numbers::read_int;
+use snesl::code::Base;
 ghost use Prim.Native.Nat.{_+_, _<_, _^_};
 ghost use mathlib.Core.Path.{_≡_};
 ghost use lib.ListN.{length, getD, set};
-ghost use Rattle.valuetext.specs.Reading.{openingAt, afterAt, Ready, ReadAs};
+ghost use Rattle.valuetext.specs.Reading.{openingAt, afterAt, scalarAt, boolAt, intsIn, Ready, ReadAs};
 
 // What a reader took of the text, from its first byte on.
 pub enum Taken {
@@ -74,11 +75,35 @@ fn what_follows(text: &[u8], at: usize) -> After
     After::Else
 }
 
-fn read_leaf(text: &[u8], elements: &mut [i32], cursors: &mut [usize]) -> Taken
-    requires { ⌜ Ready 0 (now text) (now elements) (now cursors) ⌝ }
-    ensures { λ r. ⌜ ReadAs 0 (now (text .entry)) (now (elements .entry)) (now (elements .exit)) (now (cursors .entry)) (now (cursors .exit)) r ⌝ }
+// T as 1 and F as 0.
+fn read_bool(text: &[u8]) -> ReadInt
+    ensures { λ r. ⌜ r ≡ boolAt (now (text .entry)) ⌝ }
 {
-    match read_int(text) {
+    let b = byte_at(text, 0);
+    if b == b'T' {
+        return ReadInt::Int(1, 1);
+    }
+    if b == b'F' {
+        return ReadInt::Int(0, 1);
+    }
+    ReadInt::No
+}
+
+// A scalar as the element that it becomes.
+fn read_scalar(text: &[u8], base: Base) -> ReadInt
+    ensures { λ r. ⌜ r ≡ scalarAt base (now (text .entry)) ⌝ }
+{
+    match base {
+        Base::Int => read_int(text),
+        Base::Bool => read_bool(text),
+    }
+}
+
+fn read_leaf(text: &[u8], base: Base, elements: &mut [i32], cursors: &mut [usize]) -> Taken
+    requires { ⌜ Ready base 0 (now text) (now elements) (now cursors) ⌝ }
+    ensures { λ r. ⌜ ReadAs base 0 (now (text .entry)) (now (elements .entry)) (now (elements .exit)) (now (cursors .entry)) (now (cursors .exit)) r ⌝ }
+{
+    match read_scalar(text, base) {
         ReadInt::Int(z, k) => {
             append(elements, cursors, 0, z);
             Taken::Bytes(k)
@@ -89,9 +114,9 @@ fn read_leaf(text: &[u8], elements: &mut [i32], cursors: &mut [usize]) -> Taken
 
 // The ints of a list, behind its brace, up to and with its closing one. Most of a text is such lists, so the cursors of the data and of the flags stay in locals.
 fn read_ints(text: &[u8], elements: &mut [i32], cursors: &mut [usize]) -> Taken
-    requires { ⌜ Ready 1 (now text) (now elements) (now cursors) ⌝ }
+    requires { ⌜ Ready Base.Int 1 (now text) (now elements) (now cursors) ⌝ }
     requires { ⌜ Opening.Items ≡ openingAt (now text) ⌝ }
-    ensures { λ r. ⌜ ReadAs 1 (now (text .entry)) (now (elements .entry)) (now (elements .exit)) (now (cursors .entry)) (now (cursors .exit)) r ⌝ }
+    ensures { λ r. ⌜ ReadAs Base.Int 1 (now (text .entry)) (now (elements .entry)) (now (elements .exit)) (now (cursors .entry)) (now (cursors .exit)) r ⌝ }
 {
     let mut data = cursors[0];
     let mut flags = cursors[1];
@@ -125,18 +150,29 @@ fn read_ints(text: &[u8], elements: &mut [i32], cursors: &mut [usize]) -> Taken
     }
 }
 
-// An item, from the text's first byte on: an int, or a list.
+// Whether a list's items are ints.
+fn of_ints(base: Base, depth: u8) -> bool
+    ensures { λ r. ⌜ r ≡ intsIn base depth ⌝ }
+{
+    match base {
+        Base::Int => depth == 1,
+        Base::Bool => false,
+    }
+}
+
+// An item, from the text's first byte on: a scalar, or a list.
 pub(crate) fn read_item(
     text: &[u8],
+    base: Base,
     depth: u8,
     elements: &mut [i32],
     cursors: &mut [usize],
 ) -> Taken
-    requires { ⌜ Ready depth (now text) (now elements) (now cursors) ⌝ }
-    ensures { λ r. ⌜ ReadAs depth (now (text .entry)) (now (elements .entry)) (now (elements .exit)) (now (cursors .entry)) (now (cursors .exit)) r ⌝ }
+    requires { ⌜ Ready base depth (now text) (now elements) (now cursors) ⌝ }
+    ensures { λ r. ⌜ ReadAs base depth (now (text .entry)) (now (elements .entry)) (now (elements .exit)) (now (cursors .entry)) (now (cursors .exit)) r ⌝ }
 {
     if depth == 0 {
-        return read_leaf(text, elements, cursors);
+        return read_leaf(text, base, elements, cursors);
     }
     match opening_of(text) {
         Opening::Empty => {
@@ -145,24 +181,30 @@ pub(crate) fn read_item(
             Taken::Bytes(2)
         }
         Opening::Items => {
-            if depth == 1 {
+            if of_ints(base, depth) {
                 return read_ints(text, elements, cursors);
             }
-            read_list(text, depth, elements, cursors)
+            read_list(text, base, depth, elements, cursors)
         }
         Opening::No => Taken::No,
     }
 }
 
 // A list's items, behind its brace, up to and with its closing one. Each is F in the list's flags, and the end is T.
-fn read_list(text: &[u8], depth: u8, elements: &mut [i32], cursors: &mut [usize]) -> Taken
-    requires { ⌜ Ready depth (now text) (now elements) (now cursors) ⌝ }
+fn read_list(
+    text: &[u8],
+    base: Base,
+    depth: u8,
+    elements: &mut [i32],
+    cursors: &mut [usize],
+) -> Taken
+    requires { ⌜ Ready base depth (now text) (now elements) (now cursors) ⌝ }
     requires { ⌜ (0 < depth) × (Opening.Items ≡ openingAt (now text)) ⌝ }
-    ensures { λ r. ⌜ ReadAs depth (now (text .entry)) (now (elements .entry)) (now (elements .exit)) (now (cursors .entry)) (now (cursors .exit)) r ⌝ }
+    ensures { λ r. ⌜ ReadAs base depth (now (text .entry)) (now (elements .entry)) (now (elements .exit)) (now (cursors .entry)) (now (cursors .exit)) r ⌝ }
 {
     let mut k: usize = 1;
     loop {
-        match read_item(&text[k..], depth - 1, elements, cursors) {
+        match read_item(&text[k..], base, depth - 1, elements, cursors) {
             Taken::Bytes(n) => {
                 append(elements, cursors, depth as usize, 0);
                 match what_follows(text, k + n) {

@@ -20,7 +20,10 @@ slice-aggregate-read-item : tie.Need-slice-aggregate-read-item
 slice-aggregate-read-item c = search needs
 
 read-item-requires : tie.Need-read-item-requires
-read-item-requires c κs = fill-ready (c .before .before .before .before .before .before .before .pre) (c .before .before .before .starts .last .1 .1 .1 .0) (c .before .before .before .starts .ensures .0) (c .before .before .before .starts .kept .1 .1 .1 .0) (omega (arith, c .before .before .before .before .before .before .before .good .0 .1)) (omega (arith, c .before .before .before .before .before .before .before .good .1 .1 .1 .1 .0 .1))
+read-item-requires c κs =
+    let at-starts = c .before .before .before in
+    let at-start = at-starts .before .before .before .before in
+    fill-ready (at-start .pre) (at-starts .starts .last .1 .1 .1 .0) (at-starts .starts .ensures .0) (at-starts .starts .kept .1 .1 .1 .0) (omega (arith, at-start .good .0 .1)) (omega (arith, at-start .good .1 .1 .1 .1 .0 .1))
 
 same-length : tie.Need-same-length
 same-length c = search needs

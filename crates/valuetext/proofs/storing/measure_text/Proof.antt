@@ -19,7 +19,7 @@ slice-aggregate-read-item-2 : tie.Need-slice-aggregate-read-item-2
 slice-aggregate-read-item-2 c = search needs
 
 read-item-requires : tie.Need-read-item-requires
-read-item-requires c κs = measure-ready (c .before .before .before .before .args .depth) (c .before .before .before .before .args .text .now) (c .before .before .before .before .pre .0) (c .before .before .before .before .good .0 .0)
+read-item-requires c κs = measure-ready (c .before .before .before .before .args .base) (c .before .before .before .before .args .depth) (c .before .before .before .before .args .text .now) (c .before .before .before .before .pre .0) (c .before .before .before .before .good .0 .0)
 
 enum-known-n : tie.Need-enum-known-n
 enum-known-n c = search needs
@@ -30,8 +30,8 @@ returns c =
     let at-read-item = at-n .before .before .before .before in
     let at-start = at-read-item .before .before .before .before .before in
     let laid = laid-of (at-read-item .read-item .ensures) (at-n .n .given .1) in
-    measured-none (at-start .args .depth) (at-start .args .text .now) (at-start .args .counts .now)
-    (value-short (at-start .args .depth) (at-start .args .text .now) (laid .value) (at-n .n .given .0 .0) (laid .reads) (c .if1 .taken))
+    measured-none (at-start .args .base) (at-start .args .depth) (at-start .args .text .now) (at-start .args .counts .now)
+    (value-short (at-start .args .base) (at-start .args .depth) (at-start .args .text .now) (laid .value) (at-n .n .given .0 .0) (laid .reads) (c .if1 .taken))
 
 add-levels : tie.Need-add-levels
 add-levels c = search needs
@@ -49,7 +49,7 @@ slice-aggregate-add-up : tie.Need-slice-aggregate-add-up
 slice-aggregate-add-up c =
     let at-read-item = c .before .before .before .before .before .before .before .before .before .before .before .before in
     let at-start = at-read-item .before .before .before .before .before in
-    sym (length-take-le (at-start .args .depth + 1) (at-read-item .read-item .last .1 .1 .1 .0) (omega (arith, at-start .pre .0, at-read-item .read-item .kept .1 .1 .1 .0)))
+    sym (length-take-le (at-start .args .depth + 1) (at-read-item .read-item .last .1 .1 .1 .1 .0) (omega (arith, at-start .pre .0, at-read-item .read-item .kept .1 .1 .1 .1 .0)))
 
 add-up-requires : tie.Need-add-up-requires
 add-up-requires c κs = search needs
@@ -75,7 +75,7 @@ returns-2 c =
     let at-n = at-if1 .before .before in
     let at-read-item = at-n .before .before .before .before in
     let at-start = at-read-item .before .before .before .before .before in
-    measured-of (at-start .args .depth) (at-start .args .text .now) (at-start .args .counts .now) (laid-of (at-read-item .read-item .ensures) (at-n .n .given .1)) (at-start .pre .0) (at-if1 .if1 .left) (at-copy .copy .ensures)
+    measured-of (at-start .args .base) (at-start .args .depth) (at-start .args .text .now) (at-start .args .counts .now) (laid-of (at-read-item .read-item .ensures) (at-n .n .given .1)) (at-start .pre .0) (at-if1 .if1 .left) (at-copy .copy .ensures)
     (sym (at-sum .sum .given .1) ∙ at-add-up .add-up .ensures)
 
 same-length-2 : tie.Need-same-length-2
@@ -89,15 +89,15 @@ returns-3 c =
     let at-n = at-if1 .before .before in
     let at-read-item = at-n .before .before .before .before in
     let at-start = at-read-item .before .before .before .before .before in
-    measured-over (at-start .args .depth) (at-start .args .text .now) (at-start .args .counts .now) (laid-of (at-read-item .read-item .ensures) (at-n .n .given .1)) (at-start .pre .0) (at-if1 .if1 .left) (at-copy .copy .ensures)
+    measured-over (at-start .args .base) (at-start .args .depth) (at-start .args .text .now) (at-start .args .counts .now) (laid-of (at-read-item .read-item .ensures) (at-n .n .given .1)) (at-start .pre .0) (at-if1 .if1 .left) (at-copy .copy .ensures)
     (sym (c .enum-told .given .1) ∙ at-add-up .add-up .ensures)
 
 returns-4 : tie.Need-returns-4
 returns-4 c =
     let at-read-item = c .before .before .before .before in
     let at-start = at-read-item .before .before .before .before .before in
-    measured-none (at-start .args .depth) (at-start .args .text .now) (at-start .args .counts .now)
-    (value-none (at-start .args .depth) (at-start .args .text .now) (none-of (at-read-item .read-item .ensures) (c .enum-told2 .given .1)))
+    measured-none (at-start .args .base) (at-start .args .depth) (at-start .args .text .now) (at-start .args .counts .now)
+    (value-none (at-start .args .base) (at-start .args .depth) (at-start .args .text .now) (none-of (at-read-item .read-item .ensures) (c .enum-told2 .given .1)))
 
 pub measure-text-spec : {M : Type 1} → statement M
 measure-text-spec =
