@@ -1,4 +1,4 @@
--- Streams with one item for each unit: what `fit::lengths` answered, and the turns of the two transducers that ask it.
+-- Streams with one item for each unit: what `fit::lengths` answered, and the turns of the transducers that ask it.
 use Prim.Native.Nat.{ℕ, zero, suc, _+_, min}
 use mathlib.Core.Bool.{Bool, true, false, _&&_}
 use mathlib.Core.List.{List, [], _∷_, _++_, map}
@@ -13,7 +13,8 @@ use lib.ListN.{length, replicate}
 use lib.Signed.{ltZ, nonNeg}
 use Rattle.laws.proofs.Never.{never}
 use Rattle.snesl.specs.Streams.{bit}
-use Rattle.snesl.specs.Transducers.{lengthMisfit, pluses, unary, firstNegative}
+use Rattle.snesl.specs.Charges.{countTrue}
+use Rattle.snesl.specs.Transducers.{lengthMisfit, pluses, pairwise, kept, unary, firstNegative}
 use Rattle.streams.specs.Walks.{told}
 use Rattle.streams.proofs.Ending.{told-nowhere, told-at}
 use Rattle.streams.specs.declared.fit.Misfit.{Misfit}
@@ -53,6 +54,60 @@ pluses-long n k (x ∷ xs) [] p q = q
 pluses-long n k (x ∷ xs) (y ∷ ys) p q =
     let e : length xs ≡ length ys = omega arith in
     ap suc (pluses-long (length xs) (suc k) xs ys refl (sym e)) ∙ p
+
+-- ---- comparisons
+
+module _ (f : ℤ → ℤ → Bool) where
+  pub tests-next : (x y : ℤ) (xs ys : List ℤ) → map bit (pairwise f (x ∷ xs) (y ∷ ys)) ≡ bit (f x y) ∷ map bit (pairwise f xs ys)
+  unfolding pairwise
+  tests-next x y xs ys = refl
+
+  pub tests-end : (ys : List ℤ) → map bit (pairwise f [] ys) ≡ []
+  unfolding pairwise
+  tests-end ys = refl
+
+  pub tests-long : (n : ℕ) (xs ys : List ℤ) → length xs ≡ n → length ys ≡ n → length (pairwise f xs ys) ≡ n
+  unfolding pairwise
+  tests-long n [] ys p q = p
+  tests-long n (x ∷ xs) [] p q = q
+  tests-long n (x ∷ xs) (y ∷ ys) p q =
+      let e : length xs ≡ length ys = omega arith in
+      ap suc (tests-long (length xs) xs ys refl (sym e)) ∙ p
+
+-- ---- Pack
+
+module _ (x : ℤ) (cs : List Bool) (xs : List ℤ) {c : Bool} where
+  pub kept-not : c ≡ false → kept (c ∷ cs) (x ∷ xs) ≡ kept cs xs
+  unfolding kept
+  kept-not e = rw e
+
+  pub kept-here : c ≡ true → kept (c ∷ cs) (x ∷ xs) ≡ x ∷ kept cs xs
+  unfolding kept
+  kept-here e = rw e
+
+pub kept-end : (xs : List ℤ) → kept [] xs ≡ []
+unfolding kept
+kept-end xs = refl
+
+module _ (cs : List Bool) {c : Bool} where
+  pub count-not : c ≡ false → countTrue (c ∷ cs) ≡ countTrue cs
+  unfolding countTrue
+  count-not e = rw e
+
+  pub count-here : c ≡ true → countTrue (c ∷ cs) ≡ countTrue cs + 1
+  unfolding countTrue
+  count-here e = rw e
+
+pub count-end : countTrue [] ≡ 0
+unfolding countTrue
+count-end = refl
+
+pub kept-long : (cs : List Bool) (xs : List ℤ) → length cs ≡ length xs → length (kept cs xs) ≡ countTrue cs
+unfolding kept countTrue
+kept-long [] xs e = refl
+kept-long (c ∷ cs) [] e = absurd (omega arith)
+kept-long (false ∷ cs) (x ∷ xs) e = kept-long cs xs (omega arith)
+kept-long (true ∷ cs) (x ∷ xs) e = ap suc (kept-long cs xs (omega arith)) ∙ omega arith
 
 -- ---- ToFlags
 

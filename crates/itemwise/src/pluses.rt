@@ -3,6 +3,7 @@ ghost use mathlib.Core.Path.{_≡_};
 ghost use Prim.Native.Nat.{_+_, _≤_};
 ghost use lib.ListN.{drop, length};
 ghost use Rattle.laws.specs.Parts.{part};
+ghost use Rattle.snesl.specs.declared.code.Operation.the-variants.{Plus};
 ghost use Rattle.snesl.specs.Transducers as snesl;
 ghost use Rattle.snesl.specs.Transducers.{firstOutside, pluses};
 ghost use Rattle.streams.specs.Answers.{Answers};
@@ -24,7 +25,7 @@ pub fn map_two_plus(
     len2: usize,
 ) -> Output
     requires { ⌜ (at1 + len1 ≤ out) × (at2 + len2 ≤ out) × (out ≤ length (now buf)) ⌝ }
-    ensures { λ r. ⌜ Answers out (now (buf .entry)) (snesl.mapTwoPlus n (part at1 len1 (now (buf .entry))) (part at2 len2 (now (buf .entry)))) r (now (buf .exit)) ⌝ }
+    ensures { λ r. ⌜ Answers out (now (buf .entry)) (snesl.mapTwo Plus n (part at1 len1 (now (buf .entry))) (part at2 len2 (now (buf .entry)))) r (now (buf .exit)) ⌝ }
     ensures { λ _. ⌜ drop (out + n) (now (buf .exit)) ≡ drop (out + n) (now (buf .entry)) ⌝ }
 {
     let misfit = lengths(n, len1, len2);

@@ -1,13 +1,17 @@
 -- Flags that are read by another name: snesl's transducers read a stream of Bools by `some`, and these walks read a buffer's 0 and 1 by `flagOf`. What they say of
--- `map g bs` is what they say of bs, wherever g's image reads as bs does. Stated once over g; `bit` is the one that is used.
-use Prim.Native.Nat.{ℕ, zero, suc}
+-- `map g bs` is what they say of bs, wherever g's image reads as bs does. Stated once over g; `bit` is the one that is used. And how a bool is read.
+use Prim.Native.Nat.{ℕ, zero, suc, _<_, _^_}
 use mathlib.Core.Bool.{Bool, true, false}
 use mathlib.Core.List.{List, [], _∷_, map, tail}
 use mathlib.Core.Option.{Option, some, none}
-use mathlib.Core.Path.{_≡_, refl, _∙_, ap, fun-ext}
-use lib.IntN.{ℤ, pos, _+ℤ_}
+use mathlib.Core.Path.{_≡_, refl, sym, _∙_, ap, fun-ext}
+use lib.IntN.{ℤ, pos, negsuc, _+ℤ_}
+use lib.Signed.{mag}
+use mir.Syntax.{w32}
+use mir.Val.{toZ, ofZ}
+use Rattle.laws.proofs.Whole.{read}
 use Rattle.snesl.specs.Streams.{bit}
-use Rattle.snesl.specs.Transducers.{Feed, takes, fed, first, flagOf, misfit, countF, spread, scans, sums, onlyIf, keptSegments}
+use Rattle.snesl.specs.Transducers.{Feed, takes, fed, first, boolOf, flagOf, misfit, countF, spread, scans, sums, onlyIf, keptSegments}
 
 -- all that a transducer asks of a flag stream
 pub record Same {A B : Type 0} (flag : A → Option Bool) (us : List A) (flag′ : B → Option Bool) (bs : List B) : Type 1 where
@@ -100,3 +104,18 @@ bit-reads true = refl
 
 pub on-bits : (bs : List Bool) → Same flagOf (map bit bs) some bs
 on-bits bs = same flagOf bit some bs bit-reads
+
+-- ---- a bool in a buffer: 0 is F, and all else is T
+
+pub zero-bool : (z : ℤ) → mag z < 2 ^ 31 → ofZ w32 z ≡ 0 → boolOf z ≡ false
+zero-bool z h e = ap boolOf (sym (read z h) ∙ ap (toZ w32) e)
+
+pub other-bool : (z : ℤ) → (ofZ w32 z ≡ 0 → ⊥) → boolOf z ≡ true
+other-bool (pos zero) f = absurd (f refl)
+other-bool (pos (suc n)) f = refl
+other-bool (negsuc n) f = refl
+
+-- a bool that is stored
+pub bit-read : (c : Bool) → toZ w32 (ofZ w32 (bit c)) ≡ bit c
+bit-read false = refl
+bit-read true = refl

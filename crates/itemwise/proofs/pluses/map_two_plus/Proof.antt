@@ -11,8 +11,9 @@ use lib.ListN.{length, take, drop, length-map}
 use lib.Seq.{sets}
 use Rattle.laws.specs.Parts.{part}
 use Rattle.laws.proofs.Parts.{length-part, same-part}
+use Rattle.snesl.specs.declared.code.Operation.the-variants.{Plus}
 use Rattle.snesl.specs.Streams.{ints}
-use Rattle.snesl.specs.Transducers.{lengthMisfit, firstOutside, outside, pluses, mapTwoPlus}
+use Rattle.snesl.specs.Transducers.{lengthMisfit, firstOutside, outside, pluses, mapTwo}
 use Rattle.streams.specs.Answers.{Answers}
 use Rattle.streams.specs.Fills.{Fills}
 use Rattle.streams.specs.Walks.{told, toldOutside}
@@ -50,7 +51,7 @@ module _ {old : List ℤ} {out n at1 len1 at2 len2 : ℕ} {r : Misfit} (c : Call
       let l2 : length (part at2 len2 old) ≡ len2 = length-part at2 len2 old (omega (arith, c .second, c .room)) in
       λ i. lengthMisfit n (l1 i) (l2 i)
 
-  unfit : (k : ℕ) → r ≡ At k → Answers out old (mapTwoPlus n (part at1 len1 old) (part at2 len2 old)) (Unfit k) old
+  unfit : (k : ℕ) → r ≡ At k → Answers out old (mapTwo Plus n (part at1 len1 old) (part at2 len2 old)) (Unfit k) old
   unfit k e = unfits mis (firstOutside results) outside (ints (values results)) out old k (same-mis ∙ L.uneven n len1 len2 (c .tells) k e)
 
   module _ (e : r ≡ Nowhere) where
@@ -76,19 +77,19 @@ module _ {old : List ℤ} {out n at1 len1 at2 len2 : ℕ} {r : Misfit} (c : Call
         (length-part at2 len2 old (omega (arith, c .second, c .room)) ∙ even .1)
 
     full : length old - out < n → {o : Output} → o ≡ toldOutside (firstOutside (pluses 0 (part at1 n old) (part at2 n old))) →
-        Answers out old (mapTwoPlus n (part at1 len1 old) (part at2 len2 old)) o old
+        Answers out old (mapTwo Plus n (part at1 len1 old) (part at2 len2 old)) o old
     full h p =
         too-long mis (firstOutside results) (ints (values results)) out old fit (omega (arith, long results-long)) (p ∙ ap (λ l. toldOutside (firstOutside l)) these)
 
     module _ {b : Bool} {new : List ℤ} (f : Fills (pluses 0 (part at1 n old) (part at2 n old)) out n old b new) where
-      made : n ≤ length old - out → b ≡ true → Answers out old (mapTwoPlus n (part at1 len1 old) (part at2 len2 old)) (Made n) new
+      made : n ≤ length old - out → b ≡ true → Answers out old (mapTwo Plus n (part at1 len1 old) (part at2 len2 old)) (Made n) new
       made h q =
           makes mis (firstOutside results) outside (ints (values results)) out old n fit
           (ap firstOutside (sym these) ∙ none-outside (pluses 0 (part at1 n old) (part at2 n old)) (sym (f .says) ∙ q)) (long results-long) (long results-long)
           (omega (arith, c .room)) (f .wrote q ∙ ap (λ l. sets old out (values l)) these)
 
       refuses : b ≡ false → {o : Output} → o ≡ toldOutside (firstOutside (pluses 0 (part at1 n new) (part at2 n new))) →
-          Answers out old (mapTwoPlus n (part at1 len1 old) (part at2 len2 old)) o new
+          Answers out old (mapTwo Plus n (part at1 len1 old) (part at2 len2 old)) o new
       refuses q p =
           let first = some-outside (pluses 0 (part at1 n old) (part at2 n old)) (sym (f .says) ∙ q) in
           let same1 : part at1 n new ≡ part at1 n old = same-part out new old at1 n (f .before) (omega (arith, inside)) in
