@@ -8,7 +8,7 @@ use lib.IntN.{ℤ}
 use lib.ListN.{length, take, drop, set}
 use lib.Seq.{sets}
 use Rattle.laws.specs.Parts.{part}
-use Rattle.snesl.specs.Transducers.{Feed, eachF, eachT, firstOutside, flagOf, misfit, spread}
+use Rattle.snesl.specs.Transducers.{Feed, eachF, eachT, firstOutside, boolOf, flagOf, misfit, spread, keptSegments}
 use Rattle.flags.specs.Segments.{running}
 use Rattle.streams.specs.Answers.{widestBuffer}
 use Rattle.streams.specs.Walks.{allInside, told}
@@ -31,6 +31,11 @@ pub record Fitting (buf : List ℤ) (out n fat flen at len : ℕ) : Type 0 where
 pub record Spreads (buf : List ℤ) (out n fat flen at len : ℕ) : Type 0 where
   pub operands : Operands eachT buf out n fat flen at len
   pub free : out + length (spread flagOf (part fat flen buf) (part at len buf)) ≤ length buf
+
+-- a bool for each segment, and room for the segments that are kept
+pub record Keeps (buf : List ℤ) (out n fat flen at len : ℕ) : Type 0 where
+  pub operands : Operands eachT buf out n fat flen at len
+  pub free : out + length (keptSegments flagOf (map boolOf (part at len buf)) (part fat flen buf)) ≤ length buf
 
 -- ---- ScanPlus, which writes or only looks
 

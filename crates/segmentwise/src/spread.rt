@@ -1,9 +1,10 @@
-// Distr (002, 1.2.3): a segment's item at each of its F's.
+// Distr (002, 1.2.3): a segment's item at each of its F's. What an item is does not matter to it.
 ghost use mathlib.Core.Path.{_≡_};
 ghost use Prim.Native.Nat.{ℕ, _+_, _≤_};
 ghost use lib.ListN.{length};
 ghost use lib.Seq.{sets};
 ghost use Rattle.laws.specs.Parts.{part};
+ghost use Rattle.snesl.specs.declared.code.Base.the-variants.{Int};
 ghost use Rattle.snesl.specs.Transducers as snesl;
 ghost use Rattle.snesl.specs.Transducers.{flagOf, spread};
 ghost use Rattle.streams.specs.Answers.{Answers};
@@ -24,7 +25,7 @@ pub fn distr(
     len: usize,
 ) -> Output
     requires { ⌜ («flags_at» + «flags_len» ≤ out) × (at + len ≤ out) × (out ≤ length (now buf)) ⌝ }
-    ensures { λ r. ⌜ Answers out (now (buf .entry)) (snesl.distr flagOf n (part «flags_at» «flags_len» (now (buf .entry))) (part at len (now (buf .entry)))) r (now (buf .exit)) ⌝ }
+    ensures { λ r. ⌜ Answers out (now (buf .entry)) (snesl.distr flagOf n (part «flags_at» «flags_len» (now (buf .entry))) Int (part at len (now (buf .entry)))) r (now (buf .exit)) ⌝ }
 {
     let misfit = fits(buf, n, flags_at, flags_len, len, false, true);
     if let Misfit::At(k) = misfit {

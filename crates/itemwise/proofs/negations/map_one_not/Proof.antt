@@ -56,7 +56,7 @@ enum-known-misfit : tie.Need-enum-known-misfit
 enum-known-misfit c = search needs
 
 returns : tie.Need-returns
-returns c = uneven (call (c .before .before .before .before .args .buf .now) (c .before .before .before .before .args .out) (c .before .before .before .before .args .n) (c .before .before .before .before .args .at) (c .before .before .before .before .args .len) (c .before .before .before .before .args .at) (c .before .before .before .before .args .len) (c .before .before .before .before .pre .0, c .before .before .before .before .pre .0, c .before .before .before .before .pre .1) (c .before .before .before .lengths .ensures)) _ (c .before .misfit .given .1)
+returns c = let s = c .before .before .before .before .args in let p = c .before .before .before .before .pre in let k = call (s .buf .now) (s .out) (s .n) (s .at) (s .len) (s .at) (s .len) (p .0, p .0, p .1) (c .before .before .before .lengths .ensures) in uneven k _ (c .before .misfit .given .1)
 
 enum-told : tie.Need-enum-told
 enum-told c = search needs
@@ -65,16 +65,28 @@ sub-if1 : tie.Need-sub-if1
 sub-if1 c = search needs
 
 returns-2 : tie.Need-returns-2
-returns-2 c = no-room (call (c .before .before .before .before .args .buf .now) (c .before .before .before .before .args .out) (c .before .before .before .before .args .n) (c .before .before .before .before .args .at) (c .before .before .before .before .args .len) (c .before .before .before .before .args .at) (c .before .before .before .before .args .len) (c .before .before .before .before .pre .0, c .before .before .before .before .pre .0, c .before .before .before .before .pre .1) (c .before .before .before .lengths .ensures)) (c .before .enum-told .given .1) (c .if1 .taken)
+returns-2 c =
+    let s = c .before .before .before .before .args in
+    let p = c .before .before .before .before .pre in
+    let k = call (s .buf .now) (s .out) (s .n) (s .at) (s .len) (s .at) (s .len) (p .0, p .0, p .1) (c .before .before .before .lengths .ensures) in
+    no-room k (c .before .enum-told .given .1) (c .if1 .taken)
 
 negate-requires : tie.Need-negate-requires
-negate-requires c κs = writable (call (c .before .before .before .before .before .args .buf .now) (c .before .before .before .before .before .args .out) (c .before .before .before .before .before .args .n) (c .before .before .before .before .before .args .at) (c .before .before .before .before .before .args .len) (c .before .before .before .before .before .args .at) (c .before .before .before .before .before .args .len) (c .before .before .before .before .before .pre .0, c .before .before .before .before .before .pre .0, c .before .before .before .before .before .pre .1) (c .before .before .before .before .lengths .ensures)) (c .before .before .enum-told .given .1) (c .before .if1 .left)
+negate-requires c κs =
+    let s = c .before .before .before .before .before .args in
+    let p = c .before .before .before .before .before .pre in
+    let k = call (s .buf .now) (s .out) (s .n) (s .at) (s .len) (s .at) (s .len) (p .0, p .0, p .1) (c .before .before .before .before .lengths .ensures) in
+    writable k (c .before .before .enum-told .given .1) (c .before .if1 .left)
 
 same-length : tie.Need-same-length
 same-length c = search needs
 
 returns-3 : tie.Need-returns-3
-returns-3 c = wrote (call (c .before .before .before .before .before .before .before .args .buf .now) (c .before .before .before .before .before .before .before .args .out) (c .before .before .before .before .before .before .before .args .n) (c .before .before .before .before .before .before .before .args .at) (c .before .before .before .before .before .before .before .args .len) (c .before .before .before .before .before .before .before .args .at) (c .before .before .before .before .before .before .before .args .len) (c .before .before .before .before .before .before .before .pre .0, c .before .before .before .before .before .before .before .pre .0, c .before .before .before .before .before .before .before .pre .1) (c .before .before .before .before .before .before .lengths .ensures)) (c .before .before .before .before .enum-told .given .1) (c .before .before .before .if1 .left) (c .before .negate .ensures)
+returns-3 c =
+    let s = c .before .before .before .before .before .before .before .args in
+    let p = c .before .before .before .before .before .before .before .pre in
+    let k = call (s .buf .now) (s .out) (s .n) (s .at) (s .len) (s .at) (s .len) (p .0, p .0, p .1) (c .before .before .before .before .before .before .lengths .ensures) in
+    wrote k (c .before .before .before .before .enum-told .given .1) (c .before .before .before .if1 .left) (c .before .negate .ensures)
 
 pub map-one-not-spec : {M : Type 1} → statement M
 map-one-not-spec =

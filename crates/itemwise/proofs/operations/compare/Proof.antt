@@ -70,7 +70,7 @@ enum-known-misfit : tie.Need-enum-known-misfit
 enum-known-misfit c = search needs
 
 returns : tie.Need-returns
-returns c = uneven (c .before .before .before .before .args .equal) (call (c .before .before .before .before .args .buf .now) (c .before .before .before .before .args .out) (c .before .before .before .before .args .n) (c .before .before .before .before .args .at1) (c .before .before .before .before .args .len1) (c .before .before .before .before .args .at2) (c .before .before .before .before .args .len2) (c .before .before .before .before .pre) (c .before .before .before .lengths .ensures)) _ (c .before .misfit .given .1)
+returns c = let s = c .before .before .before .before .args in let k = call (s .buf .now) (s .out) (s .n) (s .at1) (s .len1) (s .at2) (s .len2) (c .before .before .before .before .pre) (c .before .before .before .lengths .ensures) in uneven (s .equal) k _ (c .before .misfit .given .1)
 
 enum-told : tie.Need-enum-told
 enum-told c = search needs
@@ -79,16 +79,25 @@ sub-if1 : tie.Need-sub-if1
 sub-if1 c = search needs
 
 returns-2 : tie.Need-returns-2
-returns-2 c = no-room (c .before .before .before .before .args .equal) (call (c .before .before .before .before .args .buf .now) (c .before .before .before .before .args .out) (c .before .before .before .before .args .n) (c .before .before .before .before .args .at1) (c .before .before .before .before .args .len1) (c .before .before .before .before .args .at2) (c .before .before .before .before .args .len2) (c .before .before .before .before .pre) (c .before .before .before .lengths .ensures)) (c .before .enum-told .given .1) (c .if1 .taken)
+returns-2 c =
+    let s = c .before .before .before .before .args in
+    let k = call (s .buf .now) (s .out) (s .n) (s .at1) (s .len1) (s .at2) (s .len2) (c .before .before .before .before .pre) (c .before .before .before .lengths .ensures) in
+    no-room (s .equal) k (c .before .enum-told .given .1) (c .if1 .taken)
 
 write-tests-requires : tie.Need-write-tests-requires
-write-tests-requires c κs = writable (c .before .before .before .before .before .args .equal) (call (c .before .before .before .before .before .args .buf .now) (c .before .before .before .before .before .args .out) (c .before .before .before .before .before .args .n) (c .before .before .before .before .before .args .at1) (c .before .before .before .before .before .args .len1) (c .before .before .before .before .before .args .at2) (c .before .before .before .before .before .args .len2) (c .before .before .before .before .before .pre) (c .before .before .before .before .lengths .ensures)) (c .before .before .enum-told .given .1) (c .before .if1 .left)
+write-tests-requires c κs =
+    let s = c .before .before .before .before .before .args in
+    let k = call (s .buf .now) (s .out) (s .n) (s .at1) (s .len1) (s .at2) (s .len2) (c .before .before .before .before .before .pre) (c .before .before .before .before .lengths .ensures) in
+    writable (s .equal) k (c .before .before .enum-told .given .1) (c .before .if1 .left)
 
 same-length : tie.Need-same-length
 same-length c = search needs
 
 returns-3 : tie.Need-returns-3
-returns-3 c = wrote (c .before .before .before .before .before .before .before .args .equal) (call (c .before .before .before .before .before .before .before .args .buf .now) (c .before .before .before .before .before .before .before .args .out) (c .before .before .before .before .before .before .before .args .n) (c .before .before .before .before .before .before .before .args .at1) (c .before .before .before .before .before .before .before .args .len1) (c .before .before .before .before .before .before .before .args .at2) (c .before .before .before .before .before .before .before .args .len2) (c .before .before .before .before .before .before .before .pre) (c .before .before .before .before .before .before .lengths .ensures)) (c .before .before .before .before .enum-told .given .1) (c .before .before .before .if1 .left) (c .before .write-tests .ensures)
+returns-3 c =
+    let s = c .before .before .before .before .before .before .before .args in
+    let k = call (s .buf .now) (s .out) (s .n) (s .at1) (s .len1) (s .at2) (s .len2) (c .before .before .before .before .before .before .before .pre) (c .before .before .before .before .before .before .lengths .ensures) in
+    wrote (s .equal) k (c .before .before .before .before .enum-told .given .1) (c .before .before .before .if1 .left) (c .before .write-tests .ensures)
 
 pub compare-spec : {M : Type 1} → statement M
 compare-spec =

@@ -69,13 +69,13 @@ enum-known-misfit : tie.Need-enum-known-misfit
 enum-known-misfit c = search needs
 
 returns : tie.Need-returns
-returns c = uneven (call (c .before .before .before .before .args .buf .now) (c .before .before .before .before .args .out) (c .before .before .before .before .args .n) (c .before .before .before .before .args .bools-at) (c .before .before .before .before .args .bools-len) (c .before .before .before .before .args .at) (c .before .before .before .before .args .len) (c .before .before .before .before .pre) (c .before .before .before .lengths .ensures)) _ (c .before .misfit .given .1)
+returns c = let s = c .before .before .before .before .args in let k = call (s .buf .now) (s .out) (s .n) (s .bools-at) (s .bools-len) (s .at) (s .len) (c .before .before .before .before .pre) (c .before .before .before .lengths .ensures) in uneven k _ (c .before .misfit .given .1)
 
 enum-told : tie.Need-enum-told
 enum-told c = search needs
 
 trues-requires : tie.Need-trues-requires
-trues-requires c κs = countable (call (c .before .before .before .before .args .buf .now) (c .before .before .before .before .args .out) (c .before .before .before .before .args .n) (c .before .before .before .before .args .bools-at) (c .before .before .before .before .args .bools-len) (c .before .before .before .before .args .at) (c .before .before .before .before .args .len) (c .before .before .before .before .pre) (c .before .before .before .lengths .ensures)) (c .before .enum-told .given .1)
+trues-requires c κs = let s = c .before .before .before .before .args in let k = call (s .buf .now) (s .out) (s .n) (s .bools-at) (s .bools-len) (s .at) (s .len) (c .before .before .before .before .pre) (c .before .before .before .lengths .ensures) in countable k (c .before .enum-told .given .1)
 
 sub-if1 : tie.Need-sub-if1
 sub-if1 c = search needs
@@ -84,16 +84,25 @@ same-length : tie.Need-same-length
 same-length c = search needs
 
 returns-2 : tie.Need-returns-2
-returns-2 c = no-room (call (c .before .before .before .before .before .before .args .buf .now) (c .before .before .before .before .before .before .args .out) (c .before .before .before .before .before .before .args .n) (c .before .before .before .before .before .before .args .bools-at) (c .before .before .before .before .before .before .args .bools-len) (c .before .before .before .before .before .before .args .at) (c .before .before .before .before .before .before .args .len) (c .before .before .before .before .before .before .pre) (c .before .before .before .before .before .lengths .ensures)) (c .before .before .before .enum-told .given .1) (c .before .trues .ensures) (c .if1 .taken)
+returns-2 c =
+    let s = c .before .before .before .before .before .before .args in
+    let k = call (s .buf .now) (s .out) (s .n) (s .bools-at) (s .bools-len) (s .at) (s .len) (c .before .before .before .before .before .before .pre) (c .before .before .before .before .before .lengths .ensures) in
+    no-room k (c .before .before .before .enum-told .given .1) (c .before .trues .ensures) (c .if1 .taken)
 
 keep-requires : tie.Need-keep-requires
-keep-requires c κs = writable (call (c .before .before .before .before .before .before .before .args .buf .now) (c .before .before .before .before .before .before .before .args .out) (c .before .before .before .before .before .before .before .args .n) (c .before .before .before .before .before .before .before .args .bools-at) (c .before .before .before .before .before .before .before .args .bools-len) (c .before .before .before .before .before .before .before .args .at) (c .before .before .before .before .before .before .before .args .len) (c .before .before .before .before .before .before .before .pre) (c .before .before .before .before .before .before .lengths .ensures)) (c .before .before .before .before .enum-told .given .1) (c .before .before .trues .ensures) (c .before .if1 .left)
+keep-requires c κs =
+    let s = c .before .before .before .before .before .before .before .args in
+    let k = call (s .buf .now) (s .out) (s .n) (s .bools-at) (s .bools-len) (s .at) (s .len) (c .before .before .before .before .before .before .before .pre) (c .before .before .before .before .before .before .lengths .ensures) in
+    writable k (c .before .before .before .before .enum-told .given .1) (c .before .before .trues .ensures) (c .before .if1 .left)
 
 same-length-2 : tie.Need-same-length-2
 same-length-2 c = search needs
 
 returns-3 : tie.Need-returns-3
-returns-3 c = wrote (call (c .before .before .before .before .before .before .before .before .before .args .buf .now) (c .before .before .before .before .before .before .before .before .before .args .out) (c .before .before .before .before .before .before .before .before .before .args .n) (c .before .before .before .before .before .before .before .before .before .args .bools-at) (c .before .before .before .before .before .before .before .before .before .args .bools-len) (c .before .before .before .before .before .before .before .before .before .args .at) (c .before .before .before .before .before .before .before .before .before .args .len) (c .before .before .before .before .before .before .before .before .before .pre) (c .before .before .before .before .before .before .before .before .lengths .ensures)) (c .before .before .before .before .before .before .enum-told .given .1) (c .before .before .before .before .trues .ensures) (c .before .before .before .if1 .left) (c .before .keep .ensures)
+returns-3 c =
+    let s = c .before .before .before .before .before .before .before .before .before .args in
+    let k = call (s .buf .now) (s .out) (s .n) (s .bools-at) (s .bools-len) (s .at) (s .len) (c .before .before .before .before .before .before .before .before .before .pre) (c .before .before .before .before .before .before .before .before .lengths .ensures) in
+    wrote k (c .before .before .before .before .before .before .enum-told .given .1) (c .before .before .before .before .trues .ensures) (c .before .before .before .if1 .left) (c .before .keep .ensures)
 
 pub pack-spec : {M : Type 1} → statement M
 pack-spec =

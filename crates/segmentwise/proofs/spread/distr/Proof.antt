@@ -10,6 +10,7 @@ use lib.ListN.{length}
 use lib.Seq.{sets}
 use Rattle.laws.specs.Parts.{part}
 use Rattle.laws.proofs.Parts.{length-part}
+use Rattle.snesl.specs.declared.code.Base.the-variants.{Int}
 use Rattle.snesl.specs.Streams.{Stream, ints}
 use Rattle.snesl.specs.Transducers.{eachT, takes, flagOf, misfit, outside, spread, distr, Feed}
 use Rattle.streams.specs.Answers.{Answers}
@@ -42,7 +43,7 @@ module _ {old : List ℤ} {out n fat flen at len : ℕ} {r : Misfit} (c : Call o
   abbrev output : Stream
   output = ints (spread flagOf (part fat flen old) (part at len old))
 
-  unfit : (k : ℕ) → r ≡ At k → Answers out old (distr flagOf n (part fat flen old) (part at len old)) (Unfit k) old
+  unfit : (k : ℕ) → r ≡ At k → Answers out old (distr flagOf n (part fat flen old) Int (part at len old)) (Unfit k) old
   unfit k e = unfits mis none outside output out old k (told-at mis k (c .tells) e)
 
   module _ (e : r ≡ Nowhere) where
@@ -55,7 +56,7 @@ module _ {old : List ℤ} {out n fat flen at len : ℕ} {r : Misfit} (c : Call o
     fewer : n ≤ flen
     fewer = omega (arith, long)
 
-    full : length old - out < flen - n → Answers out old (distr flagOf n (part fat flen old) (part at len old)) NoRoom old
+    full : length old - out < flen - n → Answers out old (distr flagOf n (part fat flen old) Int (part at len old)) NoRoom old
     full h = lacks-room mis none outside output out old fit refl (omega (arith, long))
 
     module _ (h : flen - n ≤ length old - out) where
@@ -63,7 +64,7 @@ module _ {old : List ℤ} {out n fat flen at len : ℕ} {r : Misfit} (c : Call o
       spreads = record { operands = record { flags = c .flags; items = c .items; room = c .room; fits = fit }; free = omega (arith, long, c .room) }
 
       made : {new : List ℤ} → new ≡ sets old out (spread flagOf (part fat flen old) (part at len old)) →
-          Answers out old (distr flagOf n (part fat flen old) (part at len old)) (Made (flen - n)) new
+          Answers out old (distr flagOf n (part fat flen old) Int (part at len old)) (Made (flen - n)) new
       made w =
           let l : length (spread flagOf (part fat flen old) (part at len old)) ≡ flen - n = omega (arith, long) in
           makes mis none outside output out old (flen - n) fit refl l l (omega (arith, c .room)) w
