@@ -23,11 +23,13 @@ use Rattle.checking.specs.declared.check.Judging.the-variants as judging
 use Rattle.formula.specs.declared.read.FormulaRead.the-variants as formula
 use Rattle.formula.specs.declared.read.JobRead.the-variants as job
 use Rattle.formula.specs.Reading.{formulaOf, jobOf}
+use Rattle.scopes.specs.declared.types.ValueType.{ValueType}
+use Rattle.scopes.specs.TypeWords.{toldBy}
 use Rattle.scopes.specs.Scopes.{scope}
-use Rattle.checking.specs.Checks.{checkFront, judgeFront, Entry, again, entered, enterIn, enteredBy, Declares, Top, Enters, judge, judgingOf, mostPushed, Judgeable, Judges}
+use Rattle.checking.specs.Checks.{checkFront, judgeFront, Entry, again, entered, enterIn, enteredBy, Declares, Top, Enters, Judgement, refuses, gives, judge, judgingOf, mostPushed, Judgeable, Judges}
 use Rattle.checking.proofs.Entering.{few, whole}
 use Rattle.checking.proofs.Walks.{was-refused, was-found}
-use Rattle.checking.proofs.Judging.{entryThen, formula-is, depthOf, depth-of-front}
+use Rattle.checking.proofs.Judging.{entryThen, toldOf, formula-told, typeOnly, type-of-front}
 
 -- the parts of a formula that was read
 record Parts (t : List ℕ) (f : Formula) : Type 0 where
@@ -87,14 +89,14 @@ module _ (t : List ℕ) (f : Formula) (p : formula.Found f ≡ formulaOf (frontO
   few-inputs = omega (arith, parts .count, few t (f .expression) mostInputs 0 (parts .inputs) (parts .declares))
 
   -- the whole check is the entry of the inputs and then the expression's
-  judged-whole : entryThen (enteredBy (inputsAt mostInputs t 0)) (λ w. judge w (parts .expression)) ≡ judgeFront (frontOf t)
+  judged-whole : toldOf (entryThen (enteredBy (inputsAt mostInputs t 0)) (λ w. judge w (parts .expression))) ≡ judgeFront (frontOf t)
   judged-whole =
-      ap (λ z. entryThen (enteredBy z) (λ w. judge w (parts .expression))) (parts .declares)
-      ∙ (formula-is (parts .inputs) (parts .expression) ∙ ap judgeFront (sym (parts .read)))
+      ap (λ z. toldOf (entryThen (enteredBy z) (λ w. judge w (parts .expression)))) (parts .declares)
+      ∙ (formula-told (parts .inputs) (parts .expression) ∙ ap judgeFront (sym (parts .read)))
 
   pub entry-refused :
       (env : List ℕ) (r : Refusal) → Enters (enteredBy (inputsAt mostInputs t 0)) (f .inputs) env (opened.Refused r) → Refused r ≡ judgeFront (frontOf t)
-  entry-refused env r h = ap Refused (h .2) ∙ (ap (λ z. entryThen z (λ w. judge w (parts .expression))) (sym (h .1)) ∙ judged-whole)
+  entry-refused env r h = ap Refused (h .2) ∙ (ap (λ z. toldOf (entryThen z (λ w. judge w (parts .expression)))) (sym (h .1)) ∙ judged-whole)
 
   module _ {env : List ℕ} {sp : ℕ} (h : Top (enteredBy (inputsAt mostInputs t 0)) (f .inputs) env sp) (l : length env ≡ 2 * (mostInputs + mostNesting * (1 + mostListed))) where
     pub walk-asked : Judgeable t (f .expression) (suc mostNesting) env sp (2 * (mostInputs + mostNesting * (1 + mostListed)))
@@ -118,14 +120,14 @@ module _ (t : List ℕ) (f : Formula) (p : formula.Found f ≡ formulaOf (frontO
       unfolding walk-asked
       answered = v .answer walk-asked ∙ ap (λ z. judgingOf (f .end) (judge z (parts .expression))) (whole sp env _ l)
 
-      is-checked : (c : Judged) → judge (drop sp env) (parts .expression) ≡ c → c ≡ judgeFront (frontOf t)
-      is-checked c e = sym e ∙ (ap (λ z. entryThen z (λ w. judge w (parts .expression))) (sym (h .pairs)) ∙ judged-whole)
+      is-checked : (c : Judgement) → judge (drop sp env) (parts .expression) ≡ c → toldOf c ≡ judgeFront (frontOf t)
+      is-checked c e = ap toldOf (sym e) ∙ (ap (λ z. toldOf (entryThen z (λ w. judge w (parts .expression)))) (sym (h .pairs)) ∙ judged-whole)
 
       pub walk-refused : (q : Refusal) → r ≡ judging.Refused q → Refused q ≡ judgeFront (frontOf t)
-      walk-refused q e = is-checked (Refused q) (was-refused (f .end) (judge (drop sp env) (parts .expression)) (sym e ∙ answered))
+      walk-refused q e = is-checked (refuses q) (was-refused (f .end) (judge (drop sp env) (parts .expression)) (sym e ∙ answered))
 
-      pub walk-found : (m d n : ℕ) → r ≡ judging.Found m d n → Typed d n ≡ judgeFront (frontOf t)
-      walk-found m d n e = is-checked (Typed d n) (was-found (f .end) (judge (drop sp env) (parts .expression)) (sym e ∙ answered) .1)
+      pub walk-found : (m d n : ℕ) → r ≡ judging.Found m d n → {u : ValueType} → u ≡ toldBy d → Typed u n ≡ judgeFront (frontOf t)
+      walk-found m d n e q = ap (λ z. Typed z n) q ∙ is-checked (gives d n) (was-found (f .end) (judge (drop sp env) (parts .expression)) (sym e ∙ answered) .1)
 
 -- a formula that is read as a whole is the front of its bytes
 module _ (t : List ℕ) where
@@ -143,8 +145,8 @@ module _ (t : List ℕ) where
           last true q = (q, refl)
           last false q = let z : _≡_ {A = ℕ} 0 1 = cc in absurd (omega arith)
 
-  pub front-checked : (f : Formula) → formula.Found f ≡ formulaOf (readFormula t) → {r : Judged} → r ≡ judgeFront (frontOf t) → depthOf r ≡ checkFront (readFormula t)
-  front-checked f e q = ap depthOf q ∙ (depth-of-front (frontOf t) ∙ front-read f e .1)
+  pub front-checked : (f : Formula) → formula.Found f ≡ formulaOf (readFormula t) → {r : Judged} → r ≡ judgeFront (frontOf t) → typeOnly r ≡ checkFront (readFormula t)
+  front-checked f e q = ap typeOnly q ∙ (type-of-front (frontOf t) ∙ front-read f e .1)
 
   pub refused-read : (r : Refusal) → formula.Refused r ≡ formulaOf (readFormula t) → checked.Refused r ≡ checkFront (readFormula t)
   refused-read r e = go (readFormula t) e

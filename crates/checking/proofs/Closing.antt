@@ -1,5 +1,5 @@
 -- A let and a comprehension when the last expression inside is done: the two functions' answers, and how many words they can come to.
-use Prim.Native.Nat.{ℕ, _+_, _*_, _≤_, _<_}
+use Prim.Native.Nat.{ℕ, _+_, _*_, _/_, _≤_, _<_}
 use mathlib.Core.Bool.{Bool, true, false}
 use mathlib.Core.Path.{_≡_, refl, sym, ap, _∙_}
 use native.Mathlib.Nat.{max-le, max-eq-left, max-eq-right}
@@ -9,45 +9,43 @@ use borrow.Author.Tests.{lt-ltb, le-ltb}
 use Rattle.snesl.specs.declared.refusal.Refusal.{Refusal}
 use Rattle.snesl.specs.declared.refusal.Refusal.the-variants.{WrongType}
 use Rattle.snesl.specs.Limits.{mostListed, mostDepth}
-use Rattle.checking.specs.declared.check.Judged.{Judged}
-use Rattle.checking.specs.declared.check.Judged.the-variants.{Typed, Refused}
 use Rattle.checking.specs.declared.check.Judging.{Judging}
 use Rattle.checking.specs.declared.check.Judging.the-variants as judging
 use Rattle.environment.specs.Needs.{bindingSize, bodySize}
-use Rattle.checking.specs.Checks.{thenTyped, bound, closed, judgingOf, boundIn, closedIn, wordsOf, nestingBound}
+use Rattle.checking.specs.Checks.{Judgement, refuses, gives, thenTyped, bound, closed, judgingOf, boundIn, closedIn, wordsOf, nestingBound}
 
 -- ---- the answers
 
-pub bound-of : (m c n : ℕ) (a : Judged) → boundIn c n (judgingOf m a) ≡ judgingOf m (thenTyped a (bound c n))
-bound-of m c n (Refused r) = refl
-bound-of m c n (Typed d k) = refl
+pub bound-of : (m c n : ℕ) (a : Judgement) → boundIn c n (judgingOf m a) ≡ judgingOf m (thenTyped a (bound c n))
+bound-of m c n (refuses r) = refl
+bound-of m c n (gives d k) = refl
 
-pub closed-of : (m p c j : ℕ) (a : Judged) → closedIn p c j (judgingOf m a) ≡ judgingOf m (thenTyped a (closed p c j))
-closed-of m p c j (Refused r) = refl
-closed-of m p c j (Typed d n) = refl
+pub closed-of : (m p c j : ℕ) (a : Judgement) → closedIn p c j (judgingOf m a) ≡ judgingOf m (thenTyped a (closed p c j))
+closed-of m p c j (refuses r) = refl
+closed-of m p c j (gives d n) = refl
 
 module _ (c n : ℕ) {r : Judging} {m d k : ℕ} (e : r ≡ judging.Found m d k) where
-  pub second-more : n < 3 * c + 5 + k → judging.Found m d (3 * c + 5 + k) ≡ boundIn c n r
+  pub second-more : n < 3 * (c / 2) + 5 + k → judging.Found m d (3 * (c / 2) + 5 + k) ≡ boundIn c n r
   second-more h =
-      let same : 3 * c + 5 + k ≡ bindingSize c + k = omega arith in
+      let same : 3 * (c / 2) + 5 + k ≡ bindingSize (c / 2) + k = omega arith in
       ap (judging.Found m d) (same ∙ sym (max-eq-right (omega arith))) ∙ ap (boundIn c n) (sym e)
 
-  pub first-more : 3 * c + 5 + k ≤ n → judging.Found m d n ≡ boundIn c n r
+  pub first-more : 3 * (c / 2) + 5 + k ≤ n → judging.Found m d n ≡ boundIn c n r
   first-more h = ap (judging.Found m d) (sym (max-eq-left (omega arith))) ∙ ap (boundIn c n) (sym e)
 
 module _ (p c j : ℕ) {r : Judging} {m d k : ℕ} (e : r ≡ judging.Found m d k) where
-  by-depth : {b : Bool} → ltb d mostDepth ≡ b → judgingOf m (elim b [ true ↦ Typed (d + 1) (bodySize c j + k) | false ↦ Refused (WrongType p) ]) ≡ closedIn p c j r
+  by-depth : {b : Bool} → ltb (d / 2) mostDepth ≡ b → judgingOf m (elim b [ true ↦ gives (d + 2) (bodySize (c / 2) j + k) | false ↦ refuses (WrongType p) ]) ≡ closedIn p c j r
   by-depth q =
-      sym (ap (λ (b : Bool). judgingOf m (elim b as (λ z. Judged) [ true ↦ Typed (d + 1) (bodySize c j + k) | false ↦ Refused (WrongType p) ])) q)
+      sym (ap (λ (b : Bool). judgingOf m (elim b as (λ z. Judgement) [ true ↦ gives (d + 2) (bodySize (c / 2) j + k) | false ↦ refuses (WrongType p) ])) q)
       ∙ ap (closedIn p c j) (sym e)
 
-  pub one-deeper : d < mostDepth → judging.Found m (d + 1) (3 + (5 * j + (3 * c + 5)) + k) ≡ closedIn p c j r
+  pub one-deeper : d / 2 < mostDepth → judging.Found m (d + 2) (3 + (5 * j + (3 * (c / 2) + 5)) + k) ≡ closedIn p c j r
   one-deeper h =
-      let same : 3 + (5 * j + (3 * c + 5)) + k ≡ bodySize c j + k = omega arith in
-      ap (judging.Found m (d + 1)) same ∙ by-depth (lt-ltb d mostDepth h)
+      let same : 3 + (5 * j + (3 * (c / 2) + 5)) + k ≡ bodySize (c / 2) j + k = omega arith in
+      ap (judging.Found m (d + 2)) same ∙ by-depth (lt-ltb (d / 2) mostDepth h)
 
-  pub too-deep : mostDepth ≤ d → judging.Refused (WrongType p) ≡ closedIn p c j r
-  too-deep h = by-depth (le-ltb d mostDepth h)
+  pub too-deep : mostDepth ≤ d / 2 → judging.Refused (WrongType p) ≡ closedIn p c j r
+  too-deep h = by-depth (le-ltb (d / 2) mostDepth h)
 
 -- ---- no more words than so many for each nesting
 
@@ -57,8 +55,8 @@ bound-few c n (judging.Found m d k) h i l = max-le (omega arith) (omega arith)
 
 pub closed-few : (p c j : ℕ) {b : ℕ} (r : Judging) → c < 256 → j ≤ mostListed → wordsOf r ≤ b → wordsOf (closedIn p c j r) ≤ nestingBound + b
 closed-few p c j (judging.Refused f) h i l = omega arith
-closed-few p c j {b} (judging.Found m d n) h i l = go (ltb d mostDepth)
+closed-few p c j {b} (judging.Found m d n) h i l = go (ltb (d / 2) mostDepth)
   where
-    go : (a : Bool) → wordsOf (judgingOf m (elim a [ true ↦ Typed (d + 1) (bodySize c j + n) | false ↦ Refused (WrongType p) ])) ≤ nestingBound + b
+    go : (a : Bool) → wordsOf (judgingOf m (elim a [ true ↦ gives (d + 2) (bodySize (c / 2) j + n) | false ↦ refuses (WrongType p) ])) ≤ nestingBound + b
     go true = omega arith
     go false = omega arith

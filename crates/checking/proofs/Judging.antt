@@ -1,298 +1,360 @@
--- Checking over scopes of pairs is snesl's check: `judge` answers the depth of the typed expression and the words of its walk, or the same refusal.
-use Prim.Native.Nat.{ℕ, zero, suc, _+_, _-_}
+-- Checking over scopes of pairs is snesl's check: `judge` answers the type of the typed expression and the words of its walk, or the same refusal.
+use Prim.Native.Nat.{ℕ, zero, suc, _+_, _-_, _<_, max}
 use mathlib.Core.Bool.{Bool, true, false, _&&_, _||_, not}
 use mathlib.Core.List.{List, [], _∷_}
 use mathlib.Core.Option.{Option, some, none}
 use mathlib.Core.Path.{_≡_, refl, sym, ap, ap₂, subst, _∙_}
-use native.Mathlib.Numerals.{add-one}
 use native.Mathlib.Omega.{arith}
-use lib.Dec.{eqb, ltb, eqb·suc-zero, eqb·suc-suc}
+use lib.Dec.{eqb, ltb, leb}
 use lib.ListN.{length}
-use borrow.Author.Tests.{lt-ltb}
+use borrow.Author.Tests.{le-leb, le-ltb, ne-eqb}
+use Rattle.snesl.specs.declared.code.Base.{Base}
+use Rattle.snesl.specs.declared.code.Base.the-variants as base
 use Rattle.snesl.specs.declared.code.Variable.{Variable}
 use Rattle.snesl.specs.declared.refusal.Refusal.the-variants.{Unbound, WrongType}
 use Rattle.snesl.specs.Limits.{mostDepth}
+use Rattle.snesl.specs.Values.{ValueType, scalar, braces, int, depthOf}
 use Rattle.snesl.specs.Terms as terms
-use Rattle.snesl.specs.Terms.{_∋_, here, Term, listedTypes, All, ∅, _▹_}
+use Rattle.snesl.specs.Terms.{_∋_, here, Term, Scalars, anyType, listedTypes, All, ∅, _▹_}
 use Rattle.snesl.specs.Records as records
 use Rattle.snesl.specs.Records.{Raw, Input}
 use Rattle.snesl.specs.Checking as checking
-use Rattle.snesl.specs.Checking.{Name, same, Found, missing, found, later, find, isBound, asInt, Sequence, asSequence, asInts, names, usable, listedFirst, listedInts, pointers, listedNames, Typed, refused, typed, demand, typedIf, typedSequence, typedThen, turned, inputNames, repeated, checkInputs}
+use Rattle.snesl.specs.Checking.{Name, same, Found, missing, found, later, find, isBound, asScalar, asInt, asSequence, asInts, names, usable, NamedScalars, listedFirst, listedScalars, pointers, listedNames, Typed, refused, typed, demand, typedIf, typedSequence, typedThen, turned, inputType, inputNames, repeated, checkInputs}
 use Rattle.scopes.specs.declared.scope.Kind.{Kind}
 use Rattle.scopes.specs.declared.scope.Kind.the-variants as kind
 use Rattle.checking.specs.declared.check.Checked.{Checked}
-use Rattle.checking.specs.declared.check.Checked.the-variants.{Depth, Refused}
+use Rattle.checking.specs.declared.check.Checked.the-variants as checked
+use Rattle.checking.specs.declared.check.Single.{Single}
+use Rattle.checking.specs.declared.check.Single.the-variants.{Word, Refused}
 use Rattle.checking.specs.declared.check.Judged.{Judged}
 use Rattle.checking.specs.declared.check.Judged.the-variants as judged
-use Rattle.scopes.specs.Scopes.{depthIn}
-use Rattle.scopes.specs.UsingLists.{isBoundIn, isIntIn, firstUsable, usableIn, intsIn, listedWords, Body, stop, inside, sequenceIn, eachIn}
-use Rattle.environment.specs.Needs.{bodySize, words}
-use Rattle.checking.specs.Checks.{checkedOf, checkFront, judgedOf, judgeFront, varIn, wantIn, plusIn, sized, thenTyped, bodyThen, bound, closed, newest, judge, Entry, again, entered, enterFirst, enterIn}
+use Rattle.scopes.specs.TypeWords.{wordOf, told, toldBy}
+use Rattle.scopes.specs.Scopes.{wordIn}
+use Rattle.scopes.specs.UsingLists.{isBoundIn, isScalarIn, firstUsable, usableIn, scalarsIn, wordFound, listedWords, Body, stop, inside, sequenceIn, eachIn}
+use Rattle.environment.specs.Words.{treeSize}
+use Rattle.environment.specs.Needs.{bindingSize, bodySize, words}
+use Rattle.scopes.proofs.TypeWords.{half-is, told-is}
+use Rattle.checking.specs.Checks.{checkedOf, checkFront, judgedOf, judgeFront, Judgement, refuses, gives, varIn, wantIn, plusIn, sized, thenTyped, bodyThen, bound, closed, newest, judge, Entry, again, entered, enterFirst, enterIn}
 
 -- the pairs of a scope
-unfoldable pub spelled : {Γ : List ℕ} → All Name Γ → List ℕ
+unfoldable pub spelled : {Γ : List ValueType} → All Name Γ → List ℕ
 spelled ∅ = []
-spelled (_▹_ {d = d} x scope) = x .0 ∷ d ∷ spelled scope
+spelled (_▹_ {τ = τ} x scope) = x .0 ∷ wordOf τ ∷ spelled scope
 
-abbrev kindOf : {Γ : List ℕ} → Found Γ → Kind
+abbrev kindOf : {Γ : List ValueType} → Found Γ → Kind
 kindOf missing = kind.Missing
-kindOf (found d x) = kind.Depth d
+kindOf (found τ x) = kind.Word (wordOf τ)
 
-later-kind : {Γ : List ℕ} (c : ℕ) (f : Found Γ) → kindOf f ≡ kindOf (later {c = c} f)
-later-kind c missing = refl
-later-kind c (found d x) = refl
+later-kind : {Γ : List ValueType} (υ : ValueType) (f : Found Γ) → kindOf f ≡ kindOf (later {υ = υ} f)
+later-kind υ missing = refl
+later-kind υ (found τ x) = refl
 
-pub depth-is : (x : Variable) {Γ : List ℕ} (scope : All Name Γ) → depthIn (x .0) (spelled scope) ≡ kindOf (find x scope)
-unfolding depthIn spelled find
-depth-is x ∅ = refl
-depth-is x (_▹_ {d = d} {Γ = Δ} y scope) = go (eqb (x .0) (y .0)) (depth-is x scope)
+pub word-is : (x : Variable) {Γ : List ValueType} (scope : All Name Γ) → wordIn (x .0) (spelled scope) ≡ kindOf (find x scope)
+unfolding wordIn spelled find
+word-is x ∅ = refl
+word-is x (_▹_ {τ = τ} {Γ = Δ} y scope) = go (eqb (x .0) (y .0)) (word-is x scope)
   where
     go :
-        (b : Bool) → depthIn (x .0) (spelled scope) ≡ kindOf (find x scope)
-        → elim b [ true ↦ kind.Depth d | false ↦ depthIn (x .0) (spelled scope) ]
-        ≡ kindOf {Γ = d ∷ Δ} (elim b [ true ↦ found d here | false ↦ later (find x scope) ])
+        (b : Bool) → wordIn (x .0) (spelled scope) ≡ kindOf (find x scope)
+        → elim b [ true ↦ kind.Word (wordOf τ) | false ↦ wordIn (x .0) (spelled scope) ]
+        ≡ kindOf {Γ = τ ∷ Δ} (elim b [ true ↦ found τ here | false ↦ later (find x scope) ])
     go true h = refl
-    go false h = h ∙ later-kind d (find x scope)
+    go false h = h ∙ later-kind τ (find x scope)
+
+-- a typed expression's type and words, or its refusal
+abbrev pub judgementOf : {Γ : List ValueType} → Typed Γ → Judgement
+judgementOf (refused r) = refuses r
+judgementOf (typed τ e) = gives (wordOf τ) (words e)
 
 -- ---- records without expressions inside
 
--- an int, or a refused type
-abbrev int-if : (place : ℕ) → Bool → Judged
-int-if p b = sized (elim b [ true ↦ Depth 0 | false ↦ Refused (WrongType p) ])
+-- braces are no scalar's, and those round braces no sequence of scalars
+braces-scalar : (τ : ValueType) (n : ℕ) → n < 2 → eqb (wordOf τ + 2) n ≡ false
+braces-scalar τ n h = ne-eqb (wordOf τ + 2) n (λ q. omega arith)
 
-module _ {Γ : List ℕ} (p : ℕ) where
-  var-is : (f : Found Γ) → sized (varIn p (kindOf f)) ≡ judgedOf {Γ = Γ} (elim f [ missing ↦ refused (Unbound p) | found d v ↦ typed d (terms.var v) ])
+braces-braces : (τ : ValueType) → eqb (wordOf τ + 2 + 2) 2 ≡ false
+braces-braces τ = ne-eqb (wordOf τ + 2 + 2) 2 (λ q. omega arith)
+
+-- a type, or a refused one
+abbrev word-if : (place result : ℕ) → Bool → Judgement
+word-if p n b = sized (elim b [ true ↦ Word n | false ↦ Refused (WrongType p) ])
+
+module _ {Γ : List ValueType} (p : ℕ) where
+  var-is : (f : Found Γ) → sized (varIn p (kindOf f)) ≡ judgementOf {Γ = Γ} (elim f [ missing ↦ refused (Unbound p) | found τ v ↦ typed τ (terms.var v) ])
   unfolding words
   var-is missing = refl
-  var-is (found d v) = refl
+  var-is (found τ v) = ap (λ d. gives (wordOf τ) (treeSize d)) (half-is τ)
 
-  iota-is : (f : Found Γ) → sized (wantIn p 0 1 (kindOf f)) ≡ judgedOf (demand (isBound f) (Unbound p) (typedIf p (asInt f) (λ v. typed 1 (terms.iota v))))
+  iota-is :
+      (f : Found Γ)
+      → sized (wantIn p 0 2 (kindOf f)) ≡ judgementOf (demand (isBound f) (Unbound p) (typedIf p (asInt (asScalar f)) (λ v. typed (braces int) (terms.iota v))))
   unfolding words
   iota-is missing = refl
-  iota-is (found zero v) = refl
-  iota-is (found (suc d) v) = ap (λ (b : Bool). sized (elim b as (λ z. Checked) [ true ↦ Depth 1 | false ↦ Refused (WrongType p) ])) (eqb·suc-zero d)
+  iota-is (found (scalar base.Int) v) = refl
+  iota-is (found (scalar base.Bool) v) = refl
+  iota-is (found (braces τ) v) = ap (word-if p 2) (braces-scalar τ 0 (omega arith))
 
   sum-is :
       (f : Found Γ)
-      → sized (wantIn p 1 0 (kindOf f)) ≡ judgedOf (demand (isBound f) (Unbound p) (typedIf p (asInts (asSequence f)) (λ v. typed 0 (terms.sum v))))
+      → sized (wantIn p 2 0 (kindOf f)) ≡ judgementOf (demand (isBound f) (Unbound p) (typedIf p (asInts (asSequence f)) (λ v. typed int (terms.sum v))))
   unfolding words
   sum-is missing = refl
-  sum-is (found zero v) = refl
-  sum-is (found (suc zero) v) = refl
-  sum-is (found (suc (suc d)) v) = ap (int-if p) (eqb·suc-suc (suc d) 0 ∙ eqb·suc-zero d)
+  sum-is (found (scalar base.Int) v) = refl
+  sum-is (found (scalar base.Bool) v) = refl
+  sum-is (found (braces (scalar base.Int)) v) = refl
+  sum-is (found (braces (scalar base.Bool)) v) = refl
+  sum-is (found (braces (braces τ)) v) = ap (word-if p 0) (braces-braces τ)
 
   plus-is :
       (f g : Found Γ)
       → sized (plusIn p (kindOf f) (kindOf g))
-      ≡ judgedOf
+      ≡ judgementOf
       (demand (isBound f && isBound g) (Unbound p)
-      (typedIf p (asInt f) (λ v. typedIf p (asInt g) (λ w. typed 0 (terms.plus v w)))))
+      (typedIf p (asInt (asScalar f)) (λ v. typedIf p (asInt (asScalar g)) (λ w. typed int (terms.plus v w)))))
   unfolding words
   plus-is missing g = refl
-  plus-is (found d v) missing = refl
-  plus-is (found zero v) (found zero w) = refl
-  plus-is (found zero v) (found (suc c) w) = ap (int-if p) (eqb·suc-zero c)
-  plus-is (found (suc d) v) (found c w) = ap (λ b. int-if p (b && eqb c 0)) (eqb·suc-zero d)
+  plus-is (found τ v) missing = refl
+  plus-is (found (scalar base.Int) v) (found (scalar base.Int) w) = refl
+  plus-is (found (scalar base.Int) v) (found (scalar base.Bool) w) = refl
+  plus-is (found (scalar base.Int) v) (found (braces υ) w) = ap (word-if p 0) (braces-scalar υ 0 (omega arith))
+  plus-is (found (scalar base.Bool) v) (found υ w) = refl
+  plus-is (found (braces τ) v) (found υ w) = ap (λ b. word-if p 0 (b && eqb (wordOf υ) 0)) (braces-scalar τ 0 (omega arith))
 
 -- ---- a using list
 
-bound-is : {Γ : List ℕ} (f : Found Γ) → isBoundIn (kindOf f) ≡ isBound f
+bound-is : {Γ : List ValueType} (f : Found Γ) → isBoundIn (kindOf f) ≡ isBound f
 bound-is missing = refl
-bound-is (found d v) = refl
+bound-is (found τ v) = refl
 
 and-assoc : (a b c : Bool) → ((a && b) && c) ≡ (a && (b && c))
 and-assoc true b c = refl
 and-assoc false b c = refl
 
-module _ {Γ : List ℕ} (scope : All Name Γ) where
+-- a scalar's number is below 2
+scalar-below : (b : Base) → ltb (wordOf (scalar b)) 2 ≡ true
+scalar-below base.Int = refl
+scalar-below base.Bool = refl
+
+module _ {Γ : List ValueType} (scope : All Name Γ) where
   usable-is : (x : Variable) (us : List Variable) → usableIn (spelled scope) x us ≡ usable scope x us
   unfolding usableIn usable
   usable-is x [] = refl
   usable-is x (u ∷ us) =
-      and-assoc (isBoundIn (depthIn (u .0) (spelled scope))) (not (same x u) && not (names u us)) (usableIn (spelled scope) x us)
-      ∙ (ap (λ b. isBoundIn (depthIn (u .0) (spelled scope)) && b) (and-assoc (not (same x u)) (not (names u us)) (usableIn (spelled scope) x us))
-      ∙ ap₂ (λ a b. a && (not (same x u) && (not (names u us) && b))) (ap isBoundIn (depth-is u scope) ∙ bound-is (find u scope)) (usable-is x us))
+      and-assoc (isBoundIn (wordIn (u .0) (spelled scope))) (not (same x u) && not (names u us)) (usableIn (spelled scope) x us)
+      ∙ (ap (λ b. isBoundIn (wordIn (u .0) (spelled scope)) && b) (and-assoc (not (same x u)) (not (names u us)) (usableIn (spelled scope) x us))
+      ∙ ap₂ (λ a b. a && (not (same x u) && (not (names u us) && b))) (ap isBoundIn (word-is u scope) ∙ bound-is (find u scope)) (usable-is x us))
 
-  -- the listed variables are all ints, and then their scope is theirs, and they are as many
-  abbrev Ints : List Variable → Option (List (Variable × (Γ ∋ 0))) → Type 0
-  Ints us none = intsIn (spelled scope) us ≡ false
-  Ints us (some l) = (intsIn (spelled scope) us ≡ true) × (spelled (listedNames l) ≡ listedWords us) × (length us ≡ length (pointers l))
+  -- the listed variables are all scalars, and then their scope is theirs, and they are as many
+  abbrev Ints : List Variable → Option (NamedScalars Γ) → Type 0
+  Ints us none = scalarsIn (spelled scope) us ≡ false
+  Ints us (some l) =
+      (scalarsIn (spelled scope) us ≡ true) × (spelled (listedNames l) ≡ listedWords (spelled scope) us) × (length us ≡ length (pointers l))
+
+  abbrev scalarFirst : List Variable → Kind → Bool
+  scalarFirst us k = isScalarIn k && scalarsIn (spelled scope) us
 
   first-is :
-      (u : Variable) (us : List Variable) (f : Found Γ) (o : Option (List (Variable × (Γ ∋ 0)))) → depthIn (u .0) (spelled scope) ≡ kindOf f
-      → Ints us o → Ints (u ∷ us) (listedFirst u (asInt f) o)
-  unfolding intsIn listedWords listedNames spelled
-  first-is u us missing o e h = ap (λ k. isIntIn k && intsIn (spelled scope) us) e
-  first-is u us (found zero v) none e h = ap (λ k. isIntIn k && intsIn (spelled scope) us) e ∙ h
-  first-is u us (found zero v) (some l) e h =
-      (ap (λ k. isIntIn k && intsIn (spelled scope) us) e ∙ h .0, ap (λ z. u .0 ∷ 0 ∷ z) (h .1), ap suc (h .2))
-  first-is u us (found (suc d) v) o e h =
-      ap (λ k. isIntIn k && intsIn (spelled scope) us) e ∙ ap (λ b. b && intsIn (spelled scope) us) (eqb·suc-zero d)
+      (u : Variable) (us : List Variable) (f : Found Γ) (o : Option (NamedScalars Γ)) → wordIn (u .0) (spelled scope) ≡ kindOf f
+      → Ints us o → Ints (u ∷ us) (listedFirst u (asScalar f) o)
+  unfolding scalarsIn listedWords listedNames spelled
+  first-is u us missing o e h = ap (scalarFirst us) e
+  first-is u us (found (scalar b) v) none e h =
+      ap (scalarFirst us) e ∙ (ap (λ c. c && scalarsIn (spelled scope) us) (scalar-below b) ∙ h)
+  first-is u us (found (scalar b) v) (some l) e h = (
+    ap (scalarFirst us) e ∙ (ap (λ c. c && scalarsIn (spelled scope) us) (scalar-below b) ∙ h .0),
+    ap₂ (λ d z. u .0 ∷ d ∷ z) (sym (ap wordFound e)) (h .1),
+    ap suc (h .2),
+  )
+  first-is u us (found (braces τ) v) o e h =
+      ap (scalarFirst us) e ∙ ap (λ b. b && scalarsIn (spelled scope) us) (le-ltb (wordOf τ + 2) 2 (omega arith))
 
-  ints-are : (us : List Variable) → Ints us (listedInts scope us)
-  unfolding intsIn listedInts listedWords listedNames spelled
+  ints-are : (us : List Variable) → Ints us (listedScalars scope us)
+  unfolding scalarsIn listedScalars listedWords listedNames spelled
   ints-are [] = (refl, refl, refl)
-  ints-are (u ∷ us) = first-is u us (find u scope) (listedInts scope us) (depth-is u scope) (ints-are us)
+  ints-are (u ∷ us) = first-is u us (find u scope) (listedScalars scope us) (word-is u scope) (ints-are us)
 
 -- ---- expressions inside
 
 bind-is :
-    {Γ Δ : List ℕ} (T : Typed Γ) (f : ℕ → ℕ → Judged) (F : (d : ℕ) → Term Γ d → Typed Δ) → ((d : ℕ) (t : Term Γ d) → f d (words t) ≡ judgedOf (F d t))
-    → thenTyped (judgedOf T) f ≡ judgedOf (typedThen T F)
+    {Γ Δ : List ValueType} (T : Typed Γ) (f : ℕ → ℕ → Judgement) (F : (τ : ValueType) → Term Γ τ → Typed Δ)
+    → ((τ : ValueType) (t : Term Γ τ) → f (wordOf τ) (words t) ≡ judgementOf (F τ t))
+    → thenTyped (judgementOf T) f ≡ judgementOf (typedThen T F)
 bind-is (refused r) f F h = refl
-bind-is (typed d t) f F h = h d t
+bind-is (typed τ t) f F h = h τ t
 
 closed-is :
-    (p : ℕ) {Γ : List ℕ} {c : ℕ} (v : Γ ∋ suc c) (us : List (Γ ∋ 0)) (d : ℕ) (e : Term (c ∷ listedTypes us) d)
-    → closed p c (length us) d (words e) ≡ judgedOf (demand (ltb d mostDepth) (WrongType p) (typed (suc d) (terms.each v us e)))
+    (p : ℕ) {Γ : List ValueType} {υ : ValueType} (v : Γ ∋ braces υ) (us : Scalars Γ) (τ : ValueType) (e : Term (υ ∷ listedTypes (anyType us)) τ)
+    → closed p (wordOf υ) (length us) (wordOf τ) (words e)
+    ≡ judgementOf (demand (ltb (depthOf τ) mostDepth) (WrongType p) (typed (braces τ) (terms.each v us e)))
 unfolding words
-closed-is p {c = c} v us d e = go (ltb d mostDepth)
+closed-is p {υ = υ} v us τ e =
+    ap₂ (λ (c d : ℕ). elim (ltb d mostDepth) as (λ z. Judgement) [ true ↦ gives (wordOf τ + 2) (bodySize c (length us) + words e) | false ↦ refuses (WrongType p) ])
+    (half-is υ) (half-is τ)
+    ∙ go (ltb (depthOf τ) mostDepth)
   where
     go :
         (b : Bool)
-        → elim b [ true ↦ judged.Typed (d + 1) (bodySize c (length us) + words e) | false ↦ judged.Refused (WrongType p) ]
-        ≡ judgedOf (demand b (WrongType p) (typed (suc d) (terms.each v us e)))
-    go true = ap (λ n. judged.Typed n (bodySize c (length us) + words e)) (add-one d)
+        → elim b [ true ↦ gives (wordOf τ + 2) (bodySize (depthOf υ) (length us) + words e) | false ↦ refuses (WrongType p) ]
+        ≡ judgementOf (demand b (WrongType p) (typed (braces τ) (terms.each v us e)))
+    go true = refl
     go false = refl
 
 module _
-    {Γ : List ℕ} (scope : All Name Γ) (p : ℕ) (x y : Variable) (us : List Variable) (e : Raw)
-    (inner : (Δ : List ℕ) (names : All Name Δ) → judge (spelled names) e ≡ judgedOf (checking.check names e)) where
-  abbrev within : {c : ℕ} → Γ ∋ suc c → List (Variable × (Γ ∋ 0)) → Typed Γ
-  within {c} v l =
-      typedThen (checking.check (_▹_ {d = c} x (listedNames l)) e)
-      (λ d t. demand (ltb d mostDepth) (WrongType p) (typed (suc d) (terms.each v (pointers l) t)))
+    {Γ : List ValueType} (scope : All Name Γ) (p : ℕ) (x y : Variable) (us : List Variable) (e : Raw)
+    (inner : (Δ : List ValueType) (names : All Name Δ) → judge (spelled names) e ≡ judgementOf (checking.check names e)) where
+  abbrev within : {υ : ValueType} → Γ ∋ braces υ → NamedScalars Γ → Typed Γ
+  within {υ} v l =
+      typedThen (checking.check (_▹_ {τ = υ} x (listedNames l)) e)
+      (λ τ t. demand (ltb (depthOf τ) mostDepth) (WrongType p) (typed (braces τ) (terms.each v (pointers l) t)))
 
-  abbrev body : List ℕ → Judged
+  abbrev body : List ℕ → Judgement
   body w = thenTyped (judge w e) (closed p (newest w) (length us))
 
   body-is :
-      (c : ℕ) (v : Γ ∋ suc c) (l : List (Variable × (Γ ∋ 0))) → length us ≡ length (pointers l)
-      → body (x .0 ∷ c ∷ spelled (listedNames l)) ≡ judgedOf (within v l)
+      (υ : ValueType) (v : Γ ∋ braces υ) (l : NamedScalars Γ) → length us ≡ length (pointers l)
+      → body (x .0 ∷ wordOf υ ∷ spelled (listedNames l)) ≡ judgementOf (within v l)
   unfolding spelled
-  body-is c v l n =
-      ap₂ (λ z j. thenTyped z (closed p c j)) (inner (c ∷ listedTypes (pointers l)) (x ▹ listedNames l)) n
-      ∙ bind-is (checking.check (x ▹ listedNames l) e) (closed p c (length (pointers l)))
-      (λ d t. demand (ltb d mostDepth) (WrongType p) (typed (suc d) (terms.each v (pointers l) t)))
-      (λ d t. closed-is p v (pointers l) d t)
+  body-is υ v l n =
+      ap₂ (λ z j. thenTyped z (closed p (wordOf υ) j)) (inner (υ ∷ listedTypes (anyType (pointers l))) (x ▹ listedNames l)) n
+      ∙ bind-is (checking.check (x ▹ listedNames l) e) (closed p (wordOf υ) (length (pointers l)))
+      (λ τ t. demand (ltb (depthOf τ) mostDepth) (WrongType p) (typed (braces τ) (terms.each v (pointers l) t)))
+      (λ τ t. closed-is p v (pointers l) τ t)
+
+  abbrev sequence-if : (word : ℕ) → Bool → Bool → Judgement
+  sequence-if d a b =
+      bodyThen (elim (a && b) as (λ z. Body) [ true ↦ inside (x .0 ∷ (d - 2) ∷ listedWords (spelled scope) us) | false ↦ stop (WrongType p) ]) body
 
   each-is :
       bodyThen (eachIn (spelled scope) p x y us) body
-      ≡ judgedOf
+      ≡ judgementOf
       (demand (isBound (find y scope) && usable scope x us) (Unbound p)
-      (typedSequence p (asSequence (find y scope)) (λ c v. typedIf p (listedInts scope us) (within v))))
+      (typedSequence p (asSequence (find y scope)) (λ υ v. typedIf p (listedScalars scope us) (within v))))
   unfolding eachIn
   each-is =
       ap₂ (λ k u. bodyThen (elim (isBoundIn k && u) as (λ z. Body) [ true ↦ sequenceIn (spelled scope) p x us k | false ↦ stop (Unbound p) ]) body)
-      (depth-is y scope) (usable-is scope x us)
+      (word-is y scope) (usable-is scope x us)
       ∙ go (find y scope) (usable scope x us)
     where
       last :
-          (c : ℕ) (v : Γ ∋ suc c) (o : Option (List (Variable × (Γ ∋ 0)))) → Ints scope us o
-          → bodyThen (sequenceIn (spelled scope) p x us (kind.Depth (suc c))) body ≡ judgedOf (typedIf p o (within v))
-      last c v none h =
-          ap₂ (λ (a b : Bool). bodyThen (elim (a && b) as (λ z. Body) [ true ↦ inside (x .0 ∷ (suc c - 1) ∷ listedWords us) | false ↦ stop (WrongType p) ]) body)
-          (lt-ltb 0 (suc c) (omega arith)) h
-      last c v (some l) h =
-          let down : suc c - 1 ≡ c = omega arith in
-          ap₂ (λ (a b : Bool). bodyThen (elim (a && b) as (λ z. Body) [ true ↦ inside (x .0 ∷ (suc c - 1) ∷ listedWords us) | false ↦ stop (WrongType p) ]) body)
-          (lt-ltb 0 (suc c) (omega arith)) (h .0)
-          ∙ (ap₂ (λ d w. body (x .0 ∷ d ∷ w)) down (sym (h .1)) ∙ body-is c v l (h .2))
+          (υ : ValueType) (v : Γ ∋ braces υ) (o : Option (NamedScalars Γ)) → Ints scope us o
+          → bodyThen (sequenceIn (spelled scope) p x us (kind.Word (wordOf (braces υ)))) body ≡ judgementOf (typedIf p o (within v))
+      last υ v none h = ap₂ (sequence-if (wordOf υ + 2)) (le-leb 2 (wordOf υ + 2) (omega arith)) h
+      last υ v (some l) h =
+          let down : wordOf υ + 2 - 2 ≡ wordOf υ = omega arith in
+          ap₂ (sequence-if (wordOf υ + 2)) (le-leb 2 (wordOf υ + 2) (omega arith)) (h .0)
+          ∙ (ap₂ (λ d w. body (x .0 ∷ d ∷ w)) down (sym (h .1)) ∙ body-is υ v l (h .2))
+
+      none-in : (b : Base) → sequence-if (wordOf (scalar b)) (leb 2 (wordOf (scalar b))) (scalarsIn (spelled scope) us) ≡ refuses (WrongType p)
+      none-in base.Int = refl
+      none-in base.Bool = refl
 
       go :
           (f : Found Γ) (b : Bool)
           → bodyThen (elim (isBoundIn (kindOf f) && b) as (λ z. Body) [ true ↦ sequenceIn (spelled scope) p x us (kindOf f) | false ↦ stop (Unbound p) ]) body
-          ≡ judgedOf
-          (demand (isBound f && b) (Unbound p) (typedSequence p (asSequence f) (λ c v. typedIf p (listedInts scope us) (within v))))
+          ≡ judgementOf
+          (demand (isBound f && b) (Unbound p) (typedSequence p (asSequence f) (λ υ v. typedIf p (listedScalars scope us) (within v))))
       go missing b = refl
-      go (found d v) false = refl
-      go (found zero v) true = refl
-      go (found (suc c) v) true = last c v (listedInts scope us) (ints-are scope us)
+      go (found τ v) false = refl
+      go (found (scalar b) v) true = none-in b
+      go (found (braces υ) v) true = last υ v (listedScalars scope us) (ints-are scope us)
 
-pub judge-is : {Γ : List ℕ} (scope : All Name Γ) (e : Raw) → judge (spelled scope) e ≡ judgedOf (checking.check scope e)
+pub judge-is : {Γ : List ValueType} (scope : All Name Γ) (e : Raw) → judge (spelled scope) e ≡ judgementOf (checking.check scope e)
 unfolding judge checking.check spelled words
-judge-is scope (records.var p x) = ap (λ k. sized (varIn p k)) (depth-is x scope) ∙ var-is p (find x scope)
+judge-is scope (records.var p x) = ap (λ k. sized (varIn p k)) (word-is x scope) ∙ var-is p (find x scope)
 judge-is {Γ} scope (records.bind p x e₁ e₂) =
     ap (λ z. thenTyped z (λ c n. thenTyped (judge (x .0 ∷ c ∷ spelled scope) e₂) (bound c n))) (judge-is scope e₁)
     ∙ bind-is (checking.check scope e₁) (λ c n. thenTyped (judge (x .0 ∷ c ∷ spelled scope) e₂) (bound c n))
-    (λ c t₁. typedThen (checking.check (x ▹ scope) e₂) (λ d t₂. typed d (terms.bind t₁ t₂)))
-    (λ c t₁.
-    ap (λ z. thenTyped z (bound c (words t₁))) (judge-is (_▹_ {d = c} x scope) e₂)
-    ∙ bind-is (checking.check (_▹_ {d = c} x scope) e₂) (bound c (words t₁)) (λ d t₂. typed d (terms.bind t₁ t₂)) (λ d t₂. refl))
+    (λ υ t₁. typedThen (checking.check (x ▹ scope) e₂) (λ τ t₂. typed τ (terms.bind t₁ t₂)))
+    (λ υ t₁.
+    ap (λ z. thenTyped z (bound (wordOf υ) (words t₁))) (judge-is (_▹_ {τ = υ} x scope) e₂)
+    ∙ bind-is (checking.check (_▹_ {τ = υ} x scope) e₂) (bound (wordOf υ) (words t₁)) (λ τ t₂. typed τ (terms.bind t₁ t₂))
+    (λ τ t₂. ap (λ c. gives (wordOf τ) (max (words t₁) (bindingSize c + words t₂))) (half-is υ)))
 judge-is scope (records.const p z) = refl
-judge-is scope (records.iota p x) = ap (λ k. sized (wantIn p 0 1 k)) (depth-is x scope) ∙ iota-is p (find x scope)
-judge-is scope (records.plus p x y) = ap₂ (λ k l. sized (plusIn p k l)) (depth-is x scope) (depth-is y scope) ∙ plus-is p (find x scope) (find y scope)
-judge-is scope (records.sum p x) = ap (λ k. sized (wantIn p 1 0 k)) (depth-is x scope) ∙ sum-is p (find x scope)
+judge-is scope (records.iota p x) = ap (λ k. sized (wantIn p 0 2 k)) (word-is x scope) ∙ iota-is p (find x scope)
+judge-is scope (records.plus p x y) = ap₂ (λ k l. sized (plusIn p k l)) (word-is x scope) (word-is y scope) ∙ plus-is p (find x scope) (find y scope)
+judge-is scope (records.sum p x) = ap (λ k. sized (wantIn p 2 0 k)) (word-is x scope) ∙ sum-is p (find x scope)
 judge-is scope (records.each p x y us e) = each-is scope p x y us e (λ Δ names. judge-is names e)
 
 -- ---- the inputs
 
 -- a scope has the names that were seen
-pub record Agree (seen : List Variable) {Γ : List ℕ} (scope : All Name Γ) : Type 0 where
+pub record Agree (seen : List Variable) {Γ : List ValueType} (scope : All Name Γ) : Type 0 where
   pub has : (x : Variable) → names x seen ≡ isBound (find x scope)
 
 none-seen : Agree [] ∅
 unfolding names find
 none-seen = record { has = λ x. refl }
 
-one-seen : (y : Variable) (d : ℕ) {seen : List Variable} {Γ : List ℕ} {scope : All Name Γ} → Agree seen scope → Agree (y ∷ seen) (_▹_ {d = d} y scope)
+one-seen : (y : Variable) (τ : ValueType) {seen : List Variable} {Γ : List ValueType} {scope : All Name Γ} → Agree seen scope → Agree (y ∷ seen) (_▹_ {τ = τ} y scope)
 unfolding names find
-one-seen y d {seen} {Γ} {scope} a = record { has = λ x. go x (same x y) (find x scope) (a .has x) }
+one-seen y τ {seen} {Γ} {scope} a = record { has = λ x. go x (same x y) (find x scope) (a .has x) }
   where
     go :
         (x : Variable) (b : Bool) (f : Found Γ) → names x seen ≡ isBound f
-        → (b || names x seen) ≡ isBound {Γ = d ∷ Γ} (elim b [ true ↦ found d here | false ↦ later f ])
+        → (b || names x seen) ≡ isBound {Γ = τ ∷ Γ} (elim b [ true ↦ found τ here | false ↦ later f ])
     go x true f h = refl
     go x false missing h = h
-    go x false (found c v) h = h
+    go x false (found υ v) h = h
 
 -- the inputs by whether one of them repeats a name
-abbrev Entering : {Γ : List ℕ} → All Name Γ → List Input → Option ℕ → Type 0
+abbrev Entering : {Γ : List ValueType} → All Name Γ → List Input → Option ℕ → Type 0
 Entering scope is none = enterIn (spelled scope) is ≡ entered (spelled (turned scope (inputNames is)))
 Entering scope is (some p) = enterIn (spelled scope) is ≡ again p
 
-enter-is : (seen : List Variable) {Γ : List ℕ} (scope : All Name Γ) (is : List Input) → Agree seen scope → Entering scope is (repeated seen is)
+enter-is : (seen : List Variable) {Γ : List ValueType} (scope : All Name Γ) (is : List Input) → Agree seen scope → Entering scope is (repeated seen is)
 unfolding enterIn repeated turned inputNames spelled
 enter-is seen scope [] a = refl
 enter-is seen {Γ} scope (i ∷ is) a =
-    go (names (i .name) seen) (find (i .name) scope) (depth-is (i .name) scope) (a .has (i .name))
-    (enter-is (i .name ∷ seen) (_▹_ {d = i .depth} (i .name) scope) is (one-seen (i .name) (i .depth) a))
+    go (names (i .name) seen) (find (i .name) scope) (word-is (i .name) scope) (a .has (i .name))
+    (enter-is (i .name ∷ seen) (_▹_ {τ = inputType i} (i .name) scope) is (one-seen (i .name) (inputType i) a))
   where
-    on : (o : Option ℕ) → depthIn (i .name .0) (spelled scope) ≡ kind.Missing → Entering (_▹_ {d = i .depth} (i .name) scope) is o → Entering scope (i ∷ is) o
-    on none e h = ap (λ k. enterFirst k (i .place) (enterIn (i .name .0 ∷ i .depth ∷ spelled scope) is)) e ∙ h
-    on (some p) e h = ap (λ k. enterFirst k (i .place) (enterIn (i .name .0 ∷ i .depth ∷ spelled scope) is)) e ∙ h
+    on : (o : Option ℕ) → wordIn (i .name .0) (spelled scope) ≡ kind.Missing → Entering (_▹_ {τ = inputType i} (i .name) scope) is o → Entering scope (i ∷ is) o
+    on none e h = ap (λ k. enterFirst k (i .place) (enterIn (i .name .0 ∷ wordOf (inputType i) ∷ spelled scope) is)) e ∙ h
+    on (some p) e h = ap (λ k. enterFirst k (i .place) (enterIn (i .name .0 ∷ wordOf (inputType i) ∷ spelled scope) is)) e ∙ h
 
     go :
-        (b : Bool) (f : Found Γ) → depthIn (i .name .0) (spelled scope) ≡ kindOf f → b ≡ isBound f
-        → Entering (_▹_ {d = i .depth} (i .name) scope) is (repeated (i .name ∷ seen) is)
+        (b : Bool) (f : Found Γ) → wordIn (i .name .0) (spelled scope) ≡ kindOf f → b ≡ isBound f
+        → Entering (_▹_ {τ = inputType i} (i .name) scope) is (repeated (i .name ∷ seen) is)
         → Entering scope (i ∷ is) (elim b [ true ↦ some (i .place) | false ↦ repeated (i .name ∷ seen) is ])
     go true missing e h r = let z : _≡_ {A = ℕ} 0 1 = cc in absurd (omega arith)
-    go true (found d v) e h r = ap (λ k. enterFirst k (i .place) (enterIn (i .name .0 ∷ i .depth ∷ spelled scope) is)) e
+    go true (found τ v) e h r = ap (λ k. enterFirst k (i .place) (enterIn (i .name .0 ∷ wordOf (inputType i) ∷ spelled scope) is)) e
     go false missing e h r = on (repeated (i .name ∷ seen) is) e r
-    go false (found d v) e h r = let z : _≡_ {A = ℕ} 0 1 = cc in absurd (omega arith)
+    go false (found τ v) e h r = let z : _≡_ {A = ℕ} 0 1 = cc in absurd (omega arith)
 
 -- the whole check of a formula over pairs: a repeated input is told before the expression is walked
-abbrev pub entryThen : Entry → (List ℕ → Judged) → Judged
-entryThen (again p) f = judged.Refused (Unbound p)
+abbrev pub entryThen : Entry → (List ℕ → Judgement) → Judgement
+entryThen (again p) f = refuses (Unbound p)
 entryThen (entered w) f = f w
 
-pub formula-is : (is : List Input) (e : Raw) → entryThen (enterIn [] is) (λ w. judge w e) ≡ judgedOf (checking.checkFormula is e)
+formula-is : (is : List Input) (e : Raw) → entryThen (enterIn [] is) (λ w. judge w e) ≡ judgementOf (checking.checkFormula is e)
 unfolding spelled
 formula-is is e = go (repeated [] is) (enter-is [] ∅ is none-seen)
   where
-    go : (o : Option ℕ) → Entering ∅ is o → entryThen (enterIn [] is) (λ w. judge w e) ≡ judgedOf (checkInputs o (checking.check (turned ∅ (inputNames is)) e))
+    go : (o : Option ℕ) → Entering ∅ is o → entryThen (enterIn [] is) (λ w. judge w e) ≡ judgementOf (checkInputs o (checking.check (turned ∅ (inputNames is)) e))
     go none h = ap (λ z. entryThen z (λ w. judge w e)) h ∙ judge-is (turned ∅ (inputNames is)) e
     go (some p) h = ap (λ z. entryThen z (λ w. judge w e)) h
 
--- what a caller that asks for the type alone reads of the answer
-abbrev pub depthOf : Judged → Checked
-depthOf (judged.Refused r) = Refused r
-depthOf (judged.Typed d n) = Depth d
+-- what is told of an answer
+abbrev pub toldOf : Judgement → Judged
+toldOf (refuses r) = judged.Refused r
+toldOf (gives w n) = judged.Typed (toldBy w) n
 
-pub depth-of-front : (f : records.Front) → depthOf (judgeFront f) ≡ checkFront f
-depth-of-front (records.refused r) = refl
-depth-of-front (records.front is k e next) = go (checking.checkFormula is e)
+told-of : {Γ : List ValueType} (T : Typed Γ) → toldOf (judgementOf T) ≡ judgedOf T
+told-of (refused r) = refl
+told-of (typed τ e) = ap (λ t. judged.Typed t (words e)) (told-is τ)
+
+pub formula-told : (is : List Input) (e : Raw) → toldOf (entryThen (enterIn [] is) (λ w. judge w e)) ≡ judgedOf (checking.checkFormula is e)
+formula-told is e = ap toldOf (formula-is is e) ∙ told-of (checking.checkFormula is e)
+
+-- what a caller that asks for the type alone reads of the answer
+abbrev pub typeOnly : Judged → Checked
+typeOnly (judged.Refused r) = checked.Refused r
+typeOnly (judged.Typed t n) = checked.Typed t
+
+pub type-of-front : (f : records.Front) → typeOnly (judgeFront f) ≡ checkFront f
+type-of-front (records.refused r) = refl
+type-of-front (records.front is k e next) = go (checking.checkFormula is e)
   where
-    go : {Γ : List ℕ} (T : Typed Γ) → depthOf (judgedOf T) ≡ checkedOf T
+    go : {Γ : List ValueType} (T : Typed Γ) → typeOnly (judgedOf T) ≡ checkedOf T
     go (refused r) = refl
-    go (typed d t) = refl
+    go (typed τ t) = refl

@@ -12,15 +12,14 @@ use Rattle.snesl.specs.declared.refusal.Refusal.the-variants.{NoRecord, OverLim
 use Rattle.snesl.specs.Limits.{mostListed, mostRecords}
 use Rattle.snesl.specs.Records as records
 use Rattle.snesl.specs.Records.{Raw, bind, each, Scanned, refused, scanned, absent, over, single, letting, eaching, headAt, variableAt, variablesAt, scan, thenScan, tooDeep, counted}
-use Rattle.checking.specs.declared.check.Checked.{Checked}
-use Rattle.checking.specs.declared.check.Checked.the-variants.{Depth, Refused}
-use Rattle.checking.specs.declared.check.Judged.the-variants as judged
+use Rattle.checking.specs.declared.check.Single.{Single}
+use Rattle.checking.specs.declared.check.Single.the-variants.{Word, Refused}
 use Rattle.checking.specs.declared.check.Turn.{Turn}
 use Rattle.checking.specs.declared.check.Turn.the-variants as turn
 use Rattle.records.specs.declared.head.Shape.{Shape}
 use Rattle.records.specs.Heads.{headOf}
-use Rattle.scopes.specs.Scopes.{scope, depthIn}
-use Rattle.checking.specs.Checks.{varIn, wantIn, plusIn, sized, judge, leafIn, turnIn}
+use Rattle.scopes.specs.Scopes.{scope, wordIn}
+use Rattle.checking.specs.Checks.{refuses, varIn, wantIn, plusIn, sized, judge, leafIn, turnIn}
 use Rattle.records.proofs.Variables.{length-variables}
 use Rattle.records.proofs.Heads.{Reading, none, beyond, aVar, aLet, aConst, anIota, aPlus, aSum, anEach, reading}
 
@@ -75,14 +74,14 @@ two l h = omega arith
 module _ (t : List ℕ) (k : ℕ) (w : List ℕ) (count : ℕ) (e : Raw) (next after : ℕ) where
   -- what is known where the record at k asks this
   abbrev pub Turned : (levels : ℕ) → Turn → Type 0
-  Turned levels (turn.Refused r) = judge w e ≡ judged.Refused r
-  Turned levels (turn.Found m d) = (judge w e ≡ sized (Depth d)) × (m ≡ next)
+  Turned levels (turn.Refused r) = judge w e ≡ refuses r
+  Turned levels (turn.Found m d) = (judge w e ≡ sized (Word d)) × (m ≡ next)
   Turned levels (turn.Let x) = Lets t k levels count e next after x
   Turned levels (turn.Each x y j) = Eaches t k levels count e next after x y j
 
-  leaf-turned : (levels m : ℕ) (c : Checked) → judge w e ≡ sized c → m ≡ next → Turned levels (leafIn m c)
+  leaf-turned : (levels m : ℕ) (c : Single) → judge w e ≡ sized c → m ≡ next → Turned levels (leafIn m c)
   leaf-turned levels m (Refused r) p q = p
-  leaf-turned levels m (Depth d) p q = (p, q)
+  leaf-turned levels m (Word d) p q = (p, q)
 
   leaf-read : (f : Raw) (b : ℕ) → counted k count (scanned f (k + b) (count + 1)) ≡ scanned e next after → (e ≡ f) × (k + b ≡ next)
   leaf-read f b q = let r = counted-in k count (scanned f (k + b) (count + 1)) q in (cc, cc)
@@ -149,20 +148,20 @@ module _ (t : List ℕ) (k : ℕ) (w : List ℕ) (count : ℕ) (e : Raw) (next a
     turned-by beyond q = let z : _≡_ {A = ℕ} 0 1 = cc in absurd (omega arith)
     turned-by (aVar _ h) q =
         let r = leaf-read _ 3 q in
-        leaf-turned (suc l) (k + 3) (varIn k (depthIn (variableAt t (k + 2) .0) w)) (ap (judge w) (r .0)) (r .1)
+        leaf-turned (suc l) (k + 3) (varIn k (wordIn (variableAt t (k + 2) .0) w)) (ap (judge w) (r .0)) (r .1)
     turned-by (aLet _ h) q = let-read _ h (scan l t (k + 3) (count + 1)) refl (counted-in k count _ q)
     turned-by (aConst _ h) q =
         let r = leaf-read _ 6 q in
         (ap (judge w) (r .0), r .1)
     turned-by (anIota _ h) q =
         let r = leaf-read _ 3 q in
-        leaf-turned (suc l) (k + 3) (wantIn k 0 1 (depthIn (variableAt t (k + 2) .0) w)) (ap (judge w) (r .0)) (r .1)
+        leaf-turned (suc l) (k + 3) (wantIn k 0 2 (wordIn (variableAt t (k + 2) .0) w)) (ap (judge w) (r .0)) (r .1)
     turned-by (aPlus _ h) q =
         let r = leaf-read _ 4 q in
-        leaf-turned (suc l) (k + 4) (plusIn k (depthIn (variableAt t (k + 2) .0) w) (depthIn (variableAt t (k + 3) .0) w)) (ap (judge w) (r .0)) (r .1)
+        leaf-turned (suc l) (k + 4) (plusIn k (wordIn (variableAt t (k + 2) .0) w) (wordIn (variableAt t (k + 3) .0) w)) (ap (judge w) (r .0)) (r .1)
     turned-by (aSum _ h) q =
         let r = leaf-read _ 3 q in
-        leaf-turned (suc l) (k + 3) (wantIn k 1 0 (depthIn (variableAt t (k + 2) .0) w)) (ap (judge w) (r .0)) (r .1)
+        leaf-turned (suc l) (k + 3) (wantIn k 2 0 (wordIn (variableAt t (k + 2) .0) w)) (ap (judge w) (r .0)) (r .1)
     turned-by (anEach _ j _ h f) q =
         subst (λ n. Turned (suc l) (turn.Each (variableAt t (k + 2)) (variableAt t (k + 3)) n)) (sym (length-variables t (k + 5) j))
         (each-read _ _ j h f (scan l t (k + (5 + j)) (count + 1)) refl (counted-in k count _ q))

@@ -1,10 +1,10 @@
 -- The walk's ways out, each from the contracts of what it called: the answer is the expression's, and the stack from sp on is as it was.
-use Prim.Native.Nat.{ℕ, zero, suc, _+_, _-_, _*_, _≤_, _<_}
+use Prim.Native.Nat.{ℕ, zero, suc, _+_, _-_, _*_, _/_, _≤_, _<_}
 use mathlib.Core.Bool.{Bool, true, false, _&&_}
 use mathlib.Core.List.{List, [], _∷_, _++_}
 use mathlib.Core.Path.{_≡_, refl, sym, ap, ap₂, subst, _∙_}
 use native.Mathlib.Omega.{arith}
-use lib.Dec.{ltb}
+use lib.Dec.{leb}
 use lib.ListN.{length, getD, take, drop, List·getD-append}
 use lib.Seq.{drop-drop, take-at, drop-at, getD-drop}
 use Rattle.snesl.specs.declared.code.Variable.{Variable}
@@ -12,8 +12,6 @@ use Rattle.snesl.specs.declared.refusal.Refusal.{Refusal}
 use Rattle.snesl.specs.declared.refusal.Refusal.the-variants.{Unbound, WrongType}
 use Rattle.snesl.specs.Limits.{mostListed, mostDepth}
 use Rattle.snesl.specs.Records.{Raw, scanned, scan, headAt, variablesAt}
-use Rattle.checking.specs.declared.check.Judged.{Judged}
-use Rattle.checking.specs.declared.check.Judged.the-variants.{Typed, Refused}
 use Rattle.checking.specs.declared.check.Turn.{Turn}
 use Rattle.checking.specs.declared.check.Turn.the-variants as turn
 use Rattle.checking.specs.declared.check.Judging.{Judging}
@@ -22,10 +20,10 @@ use Rattle.scopes.specs.declared.listed.Prepared.{Prepared}
 use Rattle.scopes.specs.declared.scope.Kind.{Kind}
 use Rattle.scopes.specs.declared.scope.Kind.the-variants as kind
 use Rattle.records.specs.Heads.{headOf}
-use Rattle.scopes.specs.Scopes.{scope, depthIn, Pushed}
-use Rattle.scopes.specs.UsingLists.{Body, stop, inside, isBoundIn, usableIn, intsIn, listedWords, sequenceIn, eachIn, Inside, Stopped, Prepares}
+use Rattle.scopes.specs.Scopes.{scope, wordIn, Pushed}
+use Rattle.scopes.specs.UsingLists.{Body, stop, inside, isBoundIn, usableIn, scalarsIn, listedWords, sequenceIn, eachIn, Inside, Stopped, Prepares}
 use Rattle.environment.specs.Words.{treeSize}
-use Rattle.checking.specs.Checks.{thenTyped, bodyThen, bound, closed, newest, judge, turnIn, judgingOf, boundIn, closedIn, wordsOf, nestingBound, wordsBound, mostPushed, Judgeable, Judges}
+use Rattle.checking.specs.Checks.{Judgement, refuses, gives, thenTyped, bodyThen, bound, closed, newest, judge, turnIn, judgingOf, boundIn, closedIn, wordsOf, nestingBound, wordsBound, mostPushed, Judgeable, Judges}
 use Rattle.records.proofs.Variables.{length-variables}
 use Rattle.scopes.proofs.Listing.{length-words}
 use Rattle.checking.proofs.Closing.{bound-of, closed-of, bound-few, closed-few}
@@ -70,29 +68,29 @@ module _ {b : Body} {old new : List ℕ} {sp r : ℕ} (p : Inside b sp old new r
 -- a body's scope is x and the listed variables
 inside-length : (w : List ℕ) (k : ℕ) (x y : Variable) (us : List Variable) (v : List ℕ) → eachIn w k x y us ≡ inside v → length v ≡ 2 * (1 + length us)
 unfolding eachIn
-inside-length w k x y us v e = go (isBoundIn (depthIn (y .0) w) && usableIn w x us) (depthIn (y .0) w) e
+inside-length w k x y us v e = go (isBoundIn (wordIn (y .0) w) && usableIn w x us) (wordIn (y .0) w) e
   where
-    last : (d : ℕ) (b : Bool) → elim b [ true ↦ inside (x .0 ∷ (d - 1) ∷ listedWords us) | false ↦ stop (WrongType k) ] ≡ inside v → length v ≡ 2 * (1 + length us)
+    last : (d : ℕ) (b : Bool) → elim b [ true ↦ inside (x .0 ∷ (d - 2) ∷ listedWords w us) | false ↦ stop (WrongType k) ] ≡ inside v → length v ≡ 2 * (1 + length us)
     last d true e =
-        let q : x .0 ∷ (d - 1) ∷ listedWords us ≡ v = cc in
+        let q : x .0 ∷ (d - 2) ∷ listedWords w us ≡ v = cc in
         let n = ap length (sym q) in
-        omega (arith, length-words us)
+        omega (arith, length-words w us)
     last d false e = let z : _≡_ {A = ℕ} 0 1 = cc in absurd (omega arith)
 
     go : (b : Bool) (c : Kind) → elim b [ true ↦ sequenceIn w k x us c | false ↦ stop (Unbound k) ] ≡ inside v → length v ≡ 2 * (1 + length us)
     go true kind.Missing e = let z : _≡_ {A = ℕ} 0 1 = cc in absurd (omega arith)
-    go true (kind.Depth d) e = last d (ltb 0 d && intsIn w us) e
+    go true (kind.Word d) e = last d (leb 2 d && scalarsIn w us) e
     go false c e = let z : _≡_ {A = ℕ} 0 1 = cc in absurd (omega arith)
 
 -- ---- answers
 
-pub was-refused : (m : ℕ) (c : Judged) {f : Refusal} → judging.Refused f ≡ judgingOf m c → c ≡ Refused f
-was-refused m (Refused r) e = cc
-was-refused m (Typed d n) e = cc
+pub was-refused : (m : ℕ) (c : Judgement) {f : Refusal} → judging.Refused f ≡ judgingOf m c → c ≡ refuses f
+was-refused m (refuses r) e = cc
+was-refused m (gives d n) e = cc
 
-pub was-found : (m : ℕ) (c : Judged) {k d n : ℕ} → judging.Found k d n ≡ judgingOf m c → (m ≡ k) × (c ≡ Typed d n)
-was-found m (Refused r) e = (cc, cc)
-was-found m (Typed d n) e = (cc, cc)
+pub was-found : (m : ℕ) (c : Judgement) {k d n : ℕ} → judging.Found k d n ≡ judgingOf m c → (m ≡ k) × (c ≡ gives d n)
+was-found m (refuses r) e = (cc, cc)
+was-found m (gives d n) e = (cc, cc)
 
 pub judges-at :
     {t : List ℕ} {k levels : ℕ} {old : List ℕ} {sp floor : ℕ} {new : List ℕ} {r s : Judging}
@@ -114,12 +112,12 @@ module _ {t : List ℕ} {k levels : ℕ} {env : List ℕ} {sp floor : ℕ} (here
 
   pub leaf-found :
       (m d : ℕ) → turn.Found m d ≡ turnIn (scope sp floor env) k (headOf (headAt t k)) → d < 256
-      → Judges t k levels env sp floor env (judging.Found m d (treeSize d))
+      → Judges t k levels env sp floor env (judging.Found m d (treeSize (d / 2)))
   leaf-found m d p h =
       record {
         above = refl;
         few = omega (arith, h, own-level levels t k (here .count) (here .read));
-        answer = λ g. ap (λ z. judging.Found z d (treeSize d)) (of-turn p g .1) ∙ ap (judgingOf (g .next)) (sym (of-turn p g .0));
+        answer = λ g. ap (λ z. judging.Found z d (treeSize (d / 2))) (of-turn p g .1) ∙ ap (judgingOf (g .next)) (sym (of-turn p g .0));
       }
 
   -- what an answer of an expression inside takes
@@ -148,7 +146,7 @@ module _ {t : List ℕ} {k levels : ℕ} {env : List ℕ} {sp floor : ℕ} (here
           high = g .high;
         }
 
-    abbrev rest : Raw → ℕ → ℕ → Judged
+    abbrev rest : Raw → ℕ → ℕ → Judgement
     rest e c n = thenTyped (judge (x .0 ∷ c ∷ scope sp floor env) e) (bound c n)
 
     judged : (g : Judgeable t k levels env sp floor) → judge (scope sp floor env) (g .expression) ≡ thenTyped (judge (scope sp floor env) (lets g .first)) (rest (lets g .second))
@@ -171,7 +169,7 @@ module _ {t : List ℕ} {k levels : ℕ} {env : List ℕ} {sp floor : ℕ} (here
     module _
         {mid new : List ℕ} {m d n inner : ℕ} (s : Judges t (k + 3) (levels - 1) env sp floor mid (judging.Found m d n))
         (u : Pushed mid sp (x .0) d new inner) (l : length new ≡ length env) where
-      first-found : (g : Judgeable t k levels env sp floor) → (lets g .middle ≡ m) × (judge (scope sp floor env) (lets g .first) ≡ Typed d n)
+      first-found : (g : Judgeable t k levels env sp floor) → (lets g .middle ≡ m) × (judge (scope sp floor env) (lets g .first) ≡ gives d n)
       unfolding lets let-first
       first-found g = was-found (lets g .middle) (judge (scope sp floor env) (lets g .first)) (s .answer (let-first g))
 
@@ -213,7 +211,7 @@ module _ {t : List ℕ} {k levels : ℕ} {env : List ℕ} {sp floor : ℕ} (here
     pub each-fits : (k + (5 + j) ≤ length t) × (2 ≤ levels) × (2 * (1 + j) ≤ sp) × (j ≤ mostListed)
     each-fits = (eaches here .fits, eaches here .deep, omega (arith, eaches here .deep, eaches here .few, here .room), eaches here .few)
 
-    abbrev inBody : Raw → List ℕ → Judged
+    abbrev inBody : Raw → List ℕ → Judgement
     inBody e v = thenTyped (judge v e) (closed k (newest v) (length (variablesAt t (k + 5) j)))
 
     parted :

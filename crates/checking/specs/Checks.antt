@@ -1,5 +1,5 @@
 -- Checking a whole expression over scopes as the code holds them, and the walk's part in it.
-use Prim.Native.Nat.{ℕ, zero, suc, _+_, _-_, _*_, _≤_, max}
+use Prim.Native.Nat.{ℕ, zero, suc, _+_, _-_, _*_, _/_, _≤_, max}
 use mathlib.Core.Bool.{Bool, true, false, _&&_}
 use mathlib.Core.List.{List, [], _∷_}
 use mathlib.Core.Path.{_≡_}
@@ -9,13 +9,16 @@ use Rattle.snesl.specs.declared.refusal.Refusal.{Refusal}
 use Rattle.snesl.specs.declared.refusal.Refusal.the-variants.{NoRecord, OverLimit, Unbound, WrongType}
 use Rattle.snesl.specs.Limits.{mostDepth, mostListed, mostNesting, mostInputs}
 use Rattle.snesl.specs.Records as records
+use Rattle.snesl.specs.Values.{ValueType}
 use Rattle.snesl.specs.Checking as checking
 use Rattle.scopes.specs.declared.scope.Kind.{Kind}
 use Rattle.scopes.specs.declared.scope.Kind.the-variants as kind
 use Rattle.records.specs.declared.head.Head.{Head}
 use Rattle.records.specs.declared.head.Head.the-variants as head
 use Rattle.checking.specs.declared.check.Checked.{Checked}
-use Rattle.checking.specs.declared.check.Checked.the-variants.{Depth, Refused}
+use Rattle.checking.specs.declared.check.Checked.the-variants as checked
+use Rattle.checking.specs.declared.check.Single.{Single}
+use Rattle.checking.specs.declared.check.Single.the-variants.{Word, Refused}
 use Rattle.checking.specs.declared.check.Turn.{Turn}
 use Rattle.checking.specs.declared.check.Turn.the-variants as turn
 use Rattle.checking.specs.declared.check.Judged.{Judged}
@@ -24,97 +27,105 @@ use Rattle.checking.specs.declared.check.Judging.{Judging}
 use Rattle.checking.specs.declared.check.Judging.the-variants as judging
 use Rattle.checking.specs.declared.check.Opened.{Opened}
 use Rattle.checking.specs.declared.check.Opened.the-variants as opened
-use Rattle.scopes.specs.Scopes.{scope, depthIn}
+use Rattle.scopes.specs.TypeWords.{wordOf, told}
+use Rattle.scopes.specs.Scopes.{scope, wordIn}
 use Rattle.scopes.specs.UsingLists.{Body, stop, inside, eachIn}
 use Rattle.environment.specs.Words.{treeSize}
 use Rattle.environment.specs.Needs.{bindingSize, bodySize, words}
 
 -- what the public functions answer of snesl's check
-abbrev pub checkedOf : {Γ : List ℕ} → checking.Typed Γ → Checked
-checkedOf (checking.refused r) = Refused r
-checkedOf (checking.typed d e) = Depth d
+abbrev pub checkedOf : {Γ : List ValueType} → checking.Typed Γ → Checked
+checkedOf (checking.refused r) = checked.Refused r
+checkedOf (checking.typed τ e) = checked.Typed (told τ)
 
 -- refusals 1 to 6 of a formula that is read
 abbrev pub checkFront : records.Front → Checked
-checkFront (records.refused r) = Refused r
+checkFront (records.refused r) = checked.Refused r
 checkFront (records.front is k e next) = checkedOf (checking.checkFormula is e)
 
 -- the same with the words that the walk of the typed expression takes
-abbrev pub judgedOf : {Γ : List ℕ} → checking.Typed Γ → Judged
+abbrev pub judgedOf : {Γ : List ValueType} → checking.Typed Γ → Judged
 judgedOf (checking.refused r) = judged.Refused r
-judgedOf (checking.typed d e) = judged.Typed d (words e)
+judgedOf (checking.typed τ e) = judged.Typed (told τ) (words e)
 
 abbrev pub judgeFront : records.Front → Judged
 judgeFront (records.refused r) = judged.Refused r
 judgeFront (records.front is k e next) = judgedOf (checking.checkFormula is e)
 
+-- ---- the check over scopes, where a type is one number (scopes' TypeWords)
+
+-- a refusal, or an expression's type and the words of its walk
+pub data Judgement : Type 0 where
+  refuses : Refusal → Judgement
+  gives : (word words : ℕ) → Judgement
+
 -- one record without the expressions inside it
-abbrev pub varIn : (place : ℕ) → Kind → Checked
+abbrev pub varIn : (place : ℕ) → Kind → Single
 varIn p kind.Missing = Refused (Unbound p)
-varIn p (kind.Depth d) = Depth d
+varIn p (kind.Word d) = Word d
 
-abbrev pub wantIn : (place wanted gives : ℕ) → Kind → Checked
-wantIn p wanted gives kind.Missing = Refused (Unbound p)
-wantIn p wanted gives (kind.Depth d) = elim (eqb d wanted) [ true ↦ Depth gives | false ↦ Refused (WrongType p) ]
+abbrev pub wantIn : (place wanted result : ℕ) → Kind → Single
+wantIn p wanted result kind.Missing = Refused (Unbound p)
+wantIn p wanted result (kind.Word d) = elim (eqb d wanted) [ true ↦ Word result | false ↦ Refused (WrongType p) ]
 
-abbrev pub plusIn : (place : ℕ) → Kind → Kind → Checked
+abbrev pub plusIn : (place : ℕ) → Kind → Kind → Single
 plusIn p kind.Missing l = Refused (Unbound p)
-plusIn p (kind.Depth a) kind.Missing = Refused (Unbound p)
-plusIn p (kind.Depth a) (kind.Depth b) = elim (eqb a 0 && eqb b 0) [ true ↦ Depth 0 | false ↦ Refused (WrongType p) ]
+plusIn p (kind.Word a) kind.Missing = Refused (Unbound p)
+plusIn p (kind.Word a) (kind.Word b) = elim (eqb a 0 && eqb b 0) [ true ↦ Word 0 | false ↦ Refused (WrongType p) ]
 
 -- its walk takes the tree of its result
-abbrev pub sized : Checked → Judged
-sized (Refused r) = judged.Refused r
-sized (Depth d) = judged.Typed d (treeSize d)
+abbrev pub sized : Single → Judgement
+sized (Refused r) = refuses r
+sized (Word d) = gives d (treeSize (d / 2))
 
-abbrev pub thenTyped : Judged → (ℕ → ℕ → Judged) → Judged
-thenTyped (judged.Refused r) f = judged.Refused r
-thenTyped (judged.Typed d n) f = f d n
+abbrev pub thenTyped : Judgement → (ℕ → ℕ → Judgement) → Judgement
+thenTyped (refuses r) f = refuses r
+thenTyped (gives d n) f = f d n
 
-abbrev pub bodyThen : Body → (List ℕ → Judged) → Judged
-bodyThen (stop r) f = judged.Refused r
+abbrev pub bodyThen : Body → (List ℕ → Judgement) → Judgement
+bodyThen (stop r) f = refuses r
 bodyThen (inside w) f = f w
 
--- a let of a first expression of depth c, when its second one is done
-abbrev pub bound : (c first : ℕ) → (d second : ℕ) → Judged
-bound c n d m = judged.Typed d (max n (bindingSize c + m))
+-- a let of a first expression of type c, when its second one is done
+abbrev pub bound : (c first : ℕ) → (d second : ℕ) → Judgement
+bound c n d m = gives d (max n (bindingSize (c / 2) + m))
 
--- a comprehension over elements of depth c, when its body is done
-abbrev pub closed : (place c listed : ℕ) → (d words : ℕ) → Judged
-closed p c j d n = elim (ltb d mostDepth) [ true ↦ judged.Typed (d + 1) (bodySize c j + n) | false ↦ judged.Refused (WrongType p) ]
+-- a comprehension over elements of type c, when its body is done
+abbrev pub closed : (place c listed : ℕ) → (d words : ℕ) → Judgement
+closed p c j d n = elim (ltb (d / 2) mostDepth) [ true ↦ gives (d + 2) (bodySize (c / 2) j + n) | false ↦ refuses (WrongType p) ]
 
--- the depth of a scope's newest variable
+-- the type of a scope's newest variable
 abbrev pub newest : List ℕ → ℕ
 newest w = getD w 1 0
 
-unfoldable pub judge : List ℕ → records.Raw → Judged
-judge w (records.var p x) = sized (varIn p (depthIn (x .0) w))
+unfoldable pub judge : List ℕ → records.Raw → Judgement
+judge w (records.var p x) = sized (varIn p (wordIn (x .0) w))
 judge w (records.bind p x e₁ e₂) = thenTyped (judge w e₁) (λ c n. thenTyped (judge (x .0 ∷ c ∷ w) e₂) (bound c n))
-judge w (records.const p z) = sized (Depth 0)
-judge w (records.iota p x) = sized (wantIn p 0 1 (depthIn (x .0) w))
-judge w (records.plus p x y) = sized (plusIn p (depthIn (x .0) w) (depthIn (y .0) w))
-judge w (records.sum p x) = sized (wantIn p 1 0 (depthIn (x .0) w))
+judge w (records.const p z) = sized (Word 0)
+judge w (records.iota p x) = sized (wantIn p 0 2 (wordIn (x .0) w))
+judge w (records.plus p x y) = sized (plusIn p (wordIn (x .0) w) (wordIn (y .0) w))
+judge w (records.sum p x) = sized (wantIn p 2 0 (wordIn (x .0) w))
 judge w (records.each p x y us e) = bodyThen (eachIn w p x y us) (λ v. thenTyped (judge v e) (closed p (newest v) (length us)))
 
-abbrev pub leafIn : (next : ℕ) → Checked → Turn
+abbrev pub leafIn : (next : ℕ) → Single → Turn
 leafIn next (Refused r) = turn.Refused r
-leafIn next (Depth d) = turn.Found next d
+leafIn next (Word d) = turn.Found next d
 
 -- the record at k by its head
 abbrev pub turnIn : List ℕ → (k : ℕ) → Head → Turn
 turnIn w k head.Absent = turn.Refused (NoRecord k)
 turnIn w k head.Over = turn.Refused (OverLimit k)
-turnIn w k (head.Var x) = leafIn (k + 3) (varIn k (depthIn (x .0) w))
+turnIn w k (head.Var x) = leafIn (k + 3) (varIn k (wordIn (x .0) w))
 turnIn w k (head.Let x) = turn.Let x
 turnIn w k (head.Const z) = turn.Found (k + 6) 0
-turnIn w k (head.Iota x) = leafIn (k + 3) (wantIn k 0 1 (depthIn (x .0) w))
-turnIn w k (head.Plus x y) = leafIn (k + 4) (plusIn k (depthIn (x .0) w) (depthIn (y .0) w))
-turnIn w k (head.Sum x) = leafIn (k + 3) (wantIn k 1 0 (depthIn (x .0) w))
+turnIn w k (head.Iota x) = leafIn (k + 3) (wantIn k 0 2 (wordIn (x .0) w))
+turnIn w k (head.Plus x y) = leafIn (k + 4) (plusIn k (wordIn (x .0) w) (wordIn (y .0) w))
+turnIn w k (head.Sum x) = leafIn (k + 3) (wantIn k 2 0 (wordIn (x .0) w))
 turnIn w k (head.Each x y j) = turn.Each x y j
 
-abbrev pub judgingOf : (next : ℕ) → Judged → Judging
-judgingOf next (judged.Refused r) = judging.Refused r
-judgingOf next (judged.Typed d n) = judging.Found next d n
+abbrev pub judgingOf : (next : ℕ) → Judgement → Judging
+judgingOf next (refuses r) = judging.Refused r
+judgingOf next (gives d n) = judging.Found next d n
 
 -- a let's answer from its second expression's, and a comprehension's from its body's
 abbrev pub boundIn : (c first : ℕ) → Judging → Judging
@@ -129,7 +140,7 @@ abbrev pub wordsOf : Judging → ℕ
 wordsOf (judging.Refused r) = 0
 wordsOf (judging.Found next d n) = n
 
--- words that one nesting takes at most, where all that is known of a depth is that it is a byte: enough to see that no sum of them is too large
+-- words that one nesting takes at most, where all that is known of a type is that it is a byte: enough to see that no sum of them is too large
 abbrev pub nestingBound : ℕ
 nestingBound = bodySize 255 mostListed
 
@@ -165,11 +176,11 @@ pub data Entry : Type 0 where
 
 abbrev pub enterFirst : Kind → (place : ℕ) → Entry → Entry
 enterFirst kind.Missing p e = e
-enterFirst (kind.Depth d) p e = again p
+enterFirst (kind.Word d) p e = again p
 
 unfoldable pub enterIn : List ℕ → List records.Input → Entry
 enterIn w [] = entered w
-enterIn w (i ∷ is) = enterFirst (depthIn (i .name .0) w) (i .place) (enterIn (i .name .0 ∷ i .depth ∷ w) is)
+enterIn w (i ∷ is) = enterFirst (wordIn (i .name .0) w) (i .place) (enterIn (i .name .0 ∷ wordOf (checking.inputType i) ∷ w) is)
 
 abbrev pub enteredBy : records.Declared → Entry
 enteredBy (records.refused r) = again 0

@@ -1,4 +1,4 @@
-// Checking (document 01, refusals 5 and 6): the depth of a formula's type, or why it has none, in one walk over its records.
+// Checking (document 01, refusals 5 and 6): a formula's type, or why it has none, in one walk over its records.
 use formula::inputs::declared;
 use formula::read::FormulaRead;
 use formula::read::read_formula;
@@ -9,6 +9,12 @@ use scopes::listed::prepare;
 use scopes::scope::Kind;
 use scopes::scope::look;
 use scopes::scope::push;
+use scopes::types::BRACES;
+use scopes::types::INT;
+use scopes::types::INTS;
+use scopes::types::ValueType;
+use scopes::types::type_of;
+use scopes::types::word_of;
 use snesl::code::Variable;
 use snesl::limits::Formula;
 use snesl::refusal::Refusal;
@@ -24,13 +30,19 @@ ghost use Rattle.checking.specs.Checks.{varIn, wantIn, plusIn, leafIn, t
 
 // What checking answers.
 pub enum Checked {
-    Depth(u8),
+    Typed(ValueType),
     Refused(Refusal),
 }
 
-// What the check of a formula that was read answers: its type's depth, and how many words the walk of its expression takes.
+// What the check of a formula that was read answers: its type, and how many words the walk of its expression takes.
 pub enum Judged {
-    Typed(u8, usize),
+    Typed(ValueType, usize),
+    Refused(Refusal),
+}
+
+// What a record without expressions inside answers: its type as one byte, as scopes has it.
+enum Single {
+    Word(u8),
     Refused(Refusal),
 }
 
@@ -42,7 +54,7 @@ enum Turn {
     Each(Variable, Variable, usize),
 }
 
-// The position behind an expression, its depth, and the words of its walk.
+// The position behind an expression, its type, and the words of its walk.
 enum Judging {
     Refused(Refusal),
     Found(usize, u8, usize),
@@ -58,57 +70,57 @@ enum Opened {
 const STACK: usize = 2 * (Formula::INPUTS + Formula::NESTING * (1 + Formula::LISTED));
 
 // A variable as an expression.
-fn variable(kind: Kind, k: usize) -> Checked
+fn variable(kind: Kind, k: usize) -> Single
     ensures { λ r. ⌜ r ≡ varIn k kind ⌝ }
 {
     match kind {
-        Kind::Missing => Checked::Refused(Refusal::Unbound(k)),
-        Kind::Depth(depth) => Checked::Depth(depth),
+        Kind::Missing => Single::Refused(Refusal::Unbound(k)),
+        Kind::Word(word) => Single::Word(word),
     }
 }
 
-// One operand of the depth that is wanted.
-fn want(kind: Kind, k: usize, wanted: u8, gives: u8) -> Checked
+// One operand of the type that is wanted.
+fn want(kind: Kind, k: usize, wanted: u8, gives: u8) -> Single
     ensures { λ r. ⌜ r ≡ wantIn k wanted gives kind ⌝ }
 {
     match kind {
-        Kind::Missing => Checked::Refused(Refusal::Unbound(k)),
-        Kind::Depth(depth) => {
-            if depth == wanted {
-                Checked::Depth(gives)
+        Kind::Missing => Single::Refused(Refusal::Unbound(k)),
+        Kind::Word(word) => {
+            if word == wanted {
+                Single::Word(gives)
             } else {
-                Checked::Refused(Refusal::WrongType(k))
+                Single::Refused(Refusal::WrongType(k))
             }
         }
     }
 }
 
 // Two ints: both names before either type.
-fn plus(first: Kind, second: Kind, k: usize) -> Checked
+fn plus(first: Kind, second: Kind, k: usize) -> Single
     ensures { λ r. ⌜ r ≡ plusIn k first second ⌝ }
 {
     match first {
-        Kind::Missing => Checked::Refused(Refusal::Unbound(k)),
-        Kind::Depth(a) => match second {
-            Kind::Missing => Checked::Refused(Refusal::Unbound(k)),
-            Kind::Depth(b) => {
-                if a == 0 {
-                    if b == 0 {
-                        return Checked::Depth(0);
+        Kind::Missing => Single::Refused(Refusal::Unbound(k)),
+        Kind::Word(a) => match second {
+            Kind::Missing => Single::Refused(Refusal::Unbound(k)),
+            Kind::Word(b) => {
+                if a == INT {
+                    if b == INT {
+                        return Single::Word(INT);
                     }
                 }
-                Checked::Refused(Refusal::WrongType(k))
+                Single::Refused(Refusal::WrongType(k))
             }
         },
     }
 }
 
-fn leaf(checked: Checked, next: usize) -> Turn
+fn leaf(checked: Single, next: usize) -> Turn
     ensures { λ r. ⌜ r ≡ leafIn next checked ⌝ }
 {
     match checked {
-        Checked::Refused(refusal) => Turn::Refused(refusal),
-        Checked::Depth(depth) => Turn::Found(next, depth),
+        Single::Refused(refusal) => Turn::Refused(refusal),
+        Single::Word(word) => Turn::Found(next, word),
     }
 }
 
@@ -122,26 +134,26 @@ fn step(bytes: &[u8], k: usize, env: &[u8], sp: usize, floor: usize) -> Turn
         Head::Over => Turn::Refused(Refusal::OverLimit(k)),
         Head::Var(x) => leaf(variable(look(env, x, sp, floor), k), k + 3),
         Head::Let(x) => Turn::Let(x),
-        Head::Const(_) => Turn::Found(k + 6, 0),
-        Head::Iota(x) => leaf(want(look(env, x, sp, floor), k, 0, 1), k + 3),
+        Head::Const(_) => Turn::Found(k + 6, INT),
+        Head::Iota(x) => leaf(want(look(env, x, sp, floor), k, INT, INTS), k + 3),
         Head::Plus(x, y) => leaf(
             plus(look(env, x, sp, floor), look(env, y, sp, floor), k),
             k + 4,
         ),
-        Head::Sum(x) => leaf(want(look(env, x, sp, floor), k, 1, 0), k + 3),
+        Head::Sum(x) => leaf(want(look(env, x, sp, floor), k, INTS, INT), k + 3),
         Head::Each(x, y, listed) => Turn::Each(x, y, listed),
     }
 }
 
 // A let when its second expression is done: the walk of the first is over before the binding stands.
-fn bound(second: Judging, depth: u8, first: usize) -> Judging
+fn bound(second: Judging, word: u8, first: usize) -> Judging
     requires { ⌜ wordsOf second ≤ wordsBound ⌝ }
-    ensures { λ r. ⌜ r ≡ boundIn depth first second ⌝ }
+    ensures { λ r. ⌜ r ≡ boundIn word first second ⌝ }
 {
     match second {
         Judging::Refused(refusal) => Judging::Refused(refusal),
         Judging::Found(next, gives, words) => {
-            let behind = 3 * depth as usize + 5 + words;
+            let behind = 3 * (word / BRACES) as usize + 5 + words;
             if first < behind {
                 Judging::Found(next, gives, behind)
             } else {
@@ -158,10 +170,10 @@ fn close(body: Judging, k: usize, element: u8, listed: usize) -> Judging
 {
     match body {
         Judging::Refused(refusal) => Judging::Refused(refusal),
-        Judging::Found(next, depth, words) => {
-            if depth < Formula::DEPTH {
-                let entered = 3 + (5 * listed + (3 * element as usize + 5));
-                Judging::Found(next, depth + 1, entered + words)
+        Judging::Found(next, word, words) => {
+            if word / BRACES < Formula::DEPTH {
+                let entered = 3 + (5 * listed + (3 * (element / BRACES) as usize + 5));
+                Judging::Found(next, word + BRACES, entered + words)
             } else {
                 Judging::Refused(Refusal::WrongType(k))
             }
@@ -176,13 +188,13 @@ fn walk(bytes: &[u8], k: usize, levels: usize, env: &mut [u8], sp: usize, floor:
 {
     match step(bytes, k, env, sp, floor) {
         Turn::Refused(refusal) => Judging::Refused(refusal),
-        Turn::Found(next, depth) => Judging::Found(next, depth, 3 * depth as usize + 3),
+        Turn::Found(next, word) => Judging::Found(next, word, 3 * (word / BRACES) as usize + 3),
         Turn::Let(x) => match walk(bytes, k + 3, levels - 1, env, sp, floor) {
             Judging::Refused(refusal) => Judging::Refused(refusal),
-            Judging::Found(next, depth, words) => {
-                let inner = push(env, sp, x, depth);
+            Judging::Found(next, word, words) => {
+                let inner = push(env, sp, x, word);
                 let second = walk(bytes, next, levels - 1, env, inner, floor);
-                bound(second, depth, words)
+                bound(second, word, words)
             }
         },
         Turn::Each(x, y, listed) => match prepare(bytes, k, x, y, listed, env, sp, floor) {
@@ -208,10 +220,12 @@ fn enter(bytes: &[u8], inputs: usize, env: &mut [u8]) -> Opened
         let input = declared(bytes, i);
         match look(env, input.name, sp, top) {
             Kind::Missing => {
-                sp = push(env, sp, input.name, input.depth);
+                let base = input.base;
+                let word = word_of(base, input.depth);
+                sp = push(env, sp, input.name, word);
                 i += 1;
             }
-            Kind::Depth(_) => {
+            Kind::Word(_) => {
                 return Opened::Refused(Refusal::Unbound(input.place));
             }
         }
@@ -237,12 +251,12 @@ pub fn check_front(bytes: &[u8], formula: Formula) -> Judged
             STACK,
         ) {
             Judging::Refused(refusal) => Judged::Refused(refusal),
-            Judging::Found(_, depth, words) => Judged::Typed(depth, words),
+            Judging::Found(_, word, words) => Judged::Typed(type_of(word), words),
         },
     }
 }
 
-// Refusals 1 to 6 of a formula, or its type's depth.
+// Refusals 1 to 6 of a formula, or its type.
 pub fn check(bytes: &[u8]) -> Checked
     ensures { λ r. ⌜ r ≡ checkFront (readFormula (now (bytes .entry))) ⌝ }
 {
@@ -250,7 +264,7 @@ pub fn check(bytes: &[u8]) -> Checked
         FormulaRead::Refused(refusal) => Checked::Refused(refusal),
         FormulaRead::Found(formula) => match check_front(bytes, formula) {
             Judged::Refused(refusal) => Checked::Refused(refusal),
-            Judged::Typed(depth, _) => Checked::Depth(depth),
+            Judged::Typed(found, _) => Checked::Typed(found),
         },
     }
 }

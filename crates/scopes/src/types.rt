@@ -1,7 +1,7 @@
-// A type as one byte, as the scope of a check holds it: int is 0, bool is 1, and each pair of braces adds 2.
+// A type as one byte, as the scope of a check holds it: int is 0, bool is 1, and each pair of braces adds 2. So half of it is the depth.
 use snesl::code::Base;
 ghost use mathlib.Core.Path.{_≡_};
-ghost use Prim.Native.Nat.{_≤_, _/_};
+ghost use Prim.Native.Nat.{_≤_};
 ghost use Rattle.snesl.specs.Limits.{mostDepth};
 ghost use Rattle.snesl.specs.Values.{typeOf};
 ghost use Rattle.scopes.specs.TypeWords.{wordOf, toldBy};
@@ -11,6 +11,8 @@ pub const INT: u8 = 0;
 pub const BOOL: u8 = 1;
 
 pub const BRACES: u8 = 2;
+
+pub const INTS: u8 = 2;
 
 // A type as it is told: so many braces round a base.
 pub struct ValueType {
@@ -27,13 +29,6 @@ pub fn word_of(base: Base, depth: u8) -> u8
         Base::Int => INT + depth * BRACES,
         Base::Bool => BOOL + depth * BRACES,
     }
-}
-
-// How many braces a byte's type has.
-pub fn depth_of(word: u8) -> u8
-    ensures { λ r. ⌜ r ≡ word / 2 ⌝ }
-{
-    word / BRACES
 }
 
 // What a byte's type is told as.

@@ -51,14 +51,14 @@ walk-enum-known-refusal t c = c .match .keys1
 walk-enum-known-next : (t : ℕ) → walk-lts.Need-enum-known-next (walk-callees t) (walk-at t) walk.Post
 walk-enum-known-next t c = c .match .keys2
 
-walk-cast-t28 : (t : ℕ) → walk-lts.Need-cast-t28 (walk-callees t) (walk-at t) walk.Post
-walk-cast-t28 t c = search needs
+walk-cast-t29 : (t : ℕ) → walk-lts.Need-cast-t29 (walk-callees t) (walk-at t) walk.Post
+walk-cast-t29 t c = search needs
 
-walk-mul-t29 : (t : ℕ) → walk-lts.Need-mul-t29 (walk-callees t) (walk-at t) walk.Post
-walk-mul-t29 t c = omega arith
+walk-mul-t30 : (t : ℕ) → walk-lts.Need-mul-t30 (walk-callees t) (walk-at t) walk.Post
+walk-mul-t30 t c = omega arith
 
-walk-add-t30 : (t : ℕ) → walk-lts.Need-add-t30 (walk-callees t) (walk-at t) walk.Post
-walk-add-t30 t c = omega arith
+walk-add-t31 : (t : ℕ) → walk-lts.Need-add-t31 (walk-callees t) (walk-at t) walk.Post
+walk-add-t31 t c = omega arith
 
 walk-enum-known-x : (t : ℕ) → walk-lts.Need-enum-known-x (walk-callees t) (walk-at t) walk.Post
 walk-enum-known-x t c = c .match .keys3
@@ -274,9 +274,9 @@ pub +walk-spec : {M : Type 1} → statement M
     (walk-step-requires t)
     (walk-enum-known-refusal t)
     (walk-enum-known-next t)
-    (walk-cast-t28 t)
-    (walk-mul-t29 t)
-    (walk-add-t30 t)
+    (walk-cast-t29 t)
+    (walk-mul-t30 t)
+    (walk-add-t31 t)
     (walk-enum-known-x t)
     (walk-add-walk t)
     (walk-sub-walk t)

@@ -19,8 +19,8 @@ check-front-requires c κs = front-read (c .before .before .before .before .befo
 enum-known-refusal-2 : tie.Need-enum-known-refusal-2
 enum-known-refusal-2 c = c .match2 .keys1
 
-enum-known-depth : tie.Need-enum-known-depth
-enum-known-depth c = c .match2 .keys2
+enum-known-found : tie.Need-enum-known-found
+enum-known-found c = c .match2 .keys2
 
 returns : tie.Need-returns
 returns c = refused-read _ _ (sym (c .before .refusal .given .1) ∙ c .before .before .before .read-formula .ensures)
@@ -29,7 +29,7 @@ returns-2 : tie.Need-returns-2
 returns-2 c = front-checked (c .before .before .before .before .before .before .before .before .before .args .bytes .now) _ (sym (c .before .before .before .before .before .formula .given .1) ∙ c .before .before .before .before .before .before .before .read-formula .ensures) (sym (c .before .refusal2 .given .1) ∙ c .before .before .before .check-front .ensures)
 
 returns-3 : tie.Need-returns-3
-returns-3 c = front-checked (c .before .before .before .before .before .before .before .before .before .args .bytes .now) _ (sym (c .before .before .before .before .before .formula .given .1) ∙ c .before .before .before .before .before .before .before .read-formula .ensures) (sym (c .before .depth .given .1) ∙ c .before .before .before .check-front .ensures)
+returns-3 c = front-checked (c .before .before .before .before .before .before .before .before .before .args .bytes .now) _ (sym (c .before .before .before .before .before .formula .given .1) ∙ c .before .before .before .before .before .before .before .read-formula .ensures) (sym (c .before .found .given .1) ∙ c .before .before .before .check-front .ensures)
 
 pub check-spec : {M : Type 1} → statement M
 check-spec =
@@ -40,7 +40,7 @@ check-spec =
     enum-known-formula
     check-front-requires
     enum-known-refusal-2
-    enum-known-depth
+    enum-known-found
     returns
     returns-2
     returns-3)

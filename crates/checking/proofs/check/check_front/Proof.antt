@@ -32,8 +32,11 @@ walk-requires c κs = walk-asked (c .before .before .before .before .before .bef
 enum-known-refusal-2 : tie.Need-enum-known-refusal-2
 enum-known-refusal-2 c = c .match2 .keys1
 
-enum-known-depth : tie.Need-enum-known-depth
-enum-known-depth c = c .match2 .keys2
+enum-known-word : tie.Need-enum-known-word
+enum-known-word c = c .match2 .keys2
+
+type-of-requires : tie.Need-type-of-requires
+type-of-requires c κs = tt
 
 returns : tie.Need-returns
 returns c = entry-refused (c .before .before .before .before .before .before .before .args .bytes .now) (c .before .before .before .before .before .before .before .args .formula) (c .before .before .before .before .before .before .before .pre)
@@ -51,15 +54,20 @@ returns-2 c = walk-refused
     (c .before .refusal2 .given .1)
 
 returns-3 : tie.Need-returns-3
-returns-3 c = walk-found
-    (c .before .before .before .before .before .before .before .before .before .before .before .before .before .args .bytes .now) (c .before .before .before .before .before .before .before .before .before .before .before .before .before .args .formula) (c .before .before .before .before .before .before .before .before .before .before .before .before .before .pre)
-    (enters-at _ _ _ (c .before .before .before .before .before .before .before .sp .given .1) (c .before .before .before .before .before .before .before .before .before .before .enter .ensures))
-    (c .before .before .before .before .before .before .before .before .before .before .enter .kept .1 .1 .0)
-    (c .before .before .before .before .walk .ensures)
+returns-3 c =
+    let args = c .before .before .before .before .before .before .before .before .before .before .before .before .before .before .args in
+    walk-found
+    (args .bytes .now)
+    (args .formula)
+    (c .before .before .before .before .before .before .before .before .before .before .before .before .before .before .pre)
+    (enters-at _ _ _ (c .before .before .before .before .before .before .before .before .sp .given .1) (c .before .before .before .before .before .before .before .before .before .before .before .enter .ensures))
+    (c .before .before .before .before .before .before .before .before .before .before .before .enter .kept .1 .1 .0)
+    (c .before .before .before .before .before .walk .ensures)
     _
     _
     _
-    (c .before .depth .given .1)
+    (c .before .before .word .given .1)
+    (c .type-of .ensures)
 
 pub check-front-spec : {M : Type 1} → statement M
 check-front-spec =
@@ -73,7 +81,8 @@ check-front-spec =
     slice-aggregate-walk
     walk-requires
     enum-known-refusal-2
-    enum-known-depth
+    enum-known-word
+    type-of-requires
     returns
     returns-2
     returns-3)

@@ -15,6 +15,9 @@ enum-known-body-2 c = c .match .keys2
 mul-entered : tie.Need-mul-entered
 mul-entered c = omega (arith, c .before .before .before .before .pre .1)
 
+cast-entered : tie.Need-cast-entered
+cast-entered c = omega arith
+
 mul-entered-2 : tie.Need-mul-entered-2
 mul-entered-2 c = omega arith
 
@@ -27,11 +30,11 @@ add-entered-2 c = omega (arith, c .before .before .before .before .pre .1)
 add-entered-3 : tie.Need-add-entered-3
 add-entered-3 c = omega (arith, c .before .before .before .before .pre .1)
 
-add-t18 : tie.Need-add-t18
-add-t18 c = omega arith
+add-t15 : tie.Need-add-t15
+add-t15 c = omega arith
 
-add-t13 : tie.Need-add-t13
-add-t13 c = omega (arith, c .before .before .before .before .pre .0, c .before .before .before .before .pre .1, ap wordsOf (c .before .before .body2 .given .1))
+add-t14 : tie.Need-add-t14
+add-t14 c = omega (arith, c .before .before .before .before .pre .0, c .before .before .before .before .pre .1, ap wordsOf (c .before .before .body2 .given .1))
 
 returns : tie.Need-returns
 returns c = ap (closedIn (c .before .before .before .args .k) (c .before .before .before .args .element) (c .before .before .before .args .listed)) (sym (c .before .body .given .1))
@@ -49,12 +52,13 @@ close-spec =
     enum-known-body
     enum-known-body-2
     mul-entered
+    cast-entered
     mul-entered-2
     add-entered
     add-entered-2
     add-entered-3
-    add-t18
-    add-t13
+    add-t15
+    add-t14
     returns
     returns-2
     returns-3)

@@ -108,13 +108,13 @@ returns-5 : tie.Need-returns-5
 returns-5 c = ap (turnIn (scope (c .before .before .before .before .before .args .sp) (c .before .before .before .before .before .args .floor) (c .before .before .before .before .before .args .env .now)) (c .before .before .before .before .before .args .k)) (sym (c .enum-told3 .given .1) ∙ c .before .before .head-at .ensures)
 
 returns-6 : tie.Need-returns-6
-returns-6 c = c .leaf2 .ensures ∙ (ap (leafIn ((c .before .before .before .before .before .before .before .before .before .args .k) + 3)) (c .before .want .ensures ∙ ap (wantIn (c .before .before .before .before .before .before .before .before .before .args .k) 0 1) (c .before .before .look2 .ensures)) ∙ ap (turnIn (scope (c .before .before .before .before .before .before .before .before .before .args .sp) (c .before .before .before .before .before .before .before .before .before .args .floor) (c .before .before .before .before .before .before .before .before .before .args .env .now)) (c .before .before .before .before .before .before .before .before .before .args .k)) (sym (c .before .before .before .before .x3 .given .1) ∙ c .before .before .before .before .before .before .head-at .ensures))
+returns-6 c = c .leaf2 .ensures ∙ (ap (leafIn ((c .before .before .before .before .before .before .before .before .before .args .k) + 3)) (c .before .want .ensures ∙ ap (wantIn (c .before .before .before .before .before .before .before .before .before .args .k) 0 2) (c .before .before .look2 .ensures)) ∙ ap (turnIn (scope (c .before .before .before .before .before .before .before .before .before .args .sp) (c .before .before .before .before .before .before .before .before .before .args .floor) (c .before .before .before .before .before .before .before .before .before .args .env .now)) (c .before .before .before .before .before .before .before .before .before .args .k)) (sym (c .before .before .before .before .x3 .given .1) ∙ c .before .before .before .before .before .before .head-at .ensures))
 
 returns-7 : tie.Need-returns-7
 returns-7 c = c .leaf3 .ensures ∙ (ap (leafIn ((c .before .before .before .before .before .before .before .before .before .before .args .k) + 4)) (c .before .plus .ensures ∙ ap₂ (plusIn (c .before .before .before .before .before .before .before .before .before .before .args .k)) (c .before .before .before .look3 .ensures) (c .before .before .look4 .ensures)) ∙ ap (turnIn (scope (c .before .before .before .before .before .before .before .before .before .before .args .sp) (c .before .before .before .before .before .before .before .before .before .before .args .floor) (c .before .before .before .before .before .before .before .before .before .before .args .env .now)) (c .before .before .before .before .before .before .before .before .before .before .args .k)) (sym (c .before .before .before .before .before .x4 .given .1) ∙ c .before .before .before .before .before .before .before .head-at .ensures))
 
 returns-8 : tie.Need-returns-8
-returns-8 c = c .leaf4 .ensures ∙ (ap (leafIn ((c .before .before .before .before .before .before .before .before .before .args .k) + 3)) (c .before .want2 .ensures ∙ ap (wantIn (c .before .before .before .before .before .before .before .before .before .args .k) 1 0) (c .before .before .look5 .ensures)) ∙ ap (turnIn (scope (c .before .before .before .before .before .before .before .before .before .args .sp) (c .before .before .before .before .before .before .before .before .before .args .floor) (c .before .before .before .before .before .before .before .before .before .args .env .now)) (c .before .before .before .before .before .before .before .before .before .args .k)) (sym (c .before .before .before .before .x5 .given .1) ∙ c .before .before .before .before .before .before .head-at .ensures))
+returns-8 c = c .leaf4 .ensures ∙ (ap (leafIn ((c .before .before .before .before .before .before .before .before .before .args .k) + 3)) (c .before .want2 .ensures ∙ ap (wantIn (c .before .before .before .before .before .before .before .before .before .args .k) 2 0) (c .before .before .look5 .ensures)) ∙ ap (turnIn (scope (c .before .before .before .before .before .before .before .before .before .args .sp) (c .before .before .before .before .before .before .before .before .before .args .floor) (c .before .before .before .before .before .before .before .before .before .args .env .now)) (c .before .before .before .before .before .before .before .before .before .args .k)) (sym (c .before .before .before .before .x5 .given .1) ∙ c .before .before .before .before .before .before .head-at .ensures))
 
 returns-9 : tie.Need-returns-9
 returns-9 c = ap (turnIn (scope (c .before .before .before .before .before .before .args .sp) (c .before .before .before .before .before .before .args .floor) (c .before .before .before .before .before .before .args .env .now)) (c .before .before .before .before .before .before .args .k)) (sym (c .before .x6 .given .1) ∙ c .before .before .before .head-at .ensures)
