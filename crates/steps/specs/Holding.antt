@@ -7,10 +7,11 @@ use mathlib.Core.Path.{_≡_}
 use lib.IntN.{ℤ}
 use lib.ListN.{length, getD, take, drop}
 use Rattle.snesl.specs.declared.code.Kind.{Kind}
-use Rattle.snesl.specs.declared.code.Kind.the-variants.{Ints, Flags, Units}
+use Rattle.snesl.specs.declared.code.Kind.the-variants.{Ints, Bools, Flags, Units}
+use Rattle.snesl.specs.declared.code.Base.{Base}
 use Rattle.snesl.specs.declared.code.Transducer.{Transducer}
 use Rattle.snesl.specs.declared.refusal.Refusal.{Refusal}
-use Rattle.snesl.specs.Streams.{Stream, ints, flags, kindOf, len, elements, Store, _!_, contents, room}
+use Rattle.snesl.specs.Streams.{Stream, ints, bools, flags, kindOf, len, elements, Store, _!_, contents, room}
 use Rattle.laws.specs.Parts.{part, written}
 use Rattle.environment.specs.Words.{Place, placeWords}
 use Rattle.snesl.specs.Transducers.{Answer, made, operands, signature}
@@ -70,9 +71,16 @@ pub record FlagsAt (σ : Store) (s at n : ℕ) : Type 0 where
   pub start : at ≡ startOf σ s
   pub long : n ≡ lengthOf σ s
 
+pub record BoolsAt (σ : Store) (s at n : ℕ) : Type 0 where
+  pub content : List mathlib.Core.Bool.Bool
+  pub stream : σ ! s ≡ some (bools content)
+  pub start : at ≡ startOf σ s
+  pub long : n ≡ lengthOf σ s
+
 -- no transducer takes units
 abbrev pub OperandAt : Store → Kind → (s at n : ℕ) → Type 0
 OperandAt σ Ints s at n = IntsAt σ s at n
+OperandAt σ Bools s at n = BoolsAt σ s at n
 OperandAt σ Flags s at n = FlagsAt σ s at n
 OperandAt σ Units s at n = ⊥
 
@@ -87,9 +95,10 @@ OperandsAt σ (k ∷ ks) (s ∷ ss) (p ∷ ps) = OperandAt σ k s (p .0) (p .1) 
 abbrev pub spanList : Spans → List (ℕ × ℕ)
 spanList w = (w .first .start, w .first .length) ∷ (w .second .start, w .second .length) ∷ []
 
--- the operands of t stand in these spans, and no others are counted
+-- the operands of t, which carries on data of this base if it carries on any, stand in these spans, and no others are counted
 pub record Spanned (σ : Store) (t : Transducer) (w : Spans) : Type 0 where
-  pub stand : OperandsAt σ (signature t .inputs) (operands t) (spanList w)
+  pub base : Base
+  pub stand : OperandsAt σ (signature base t .inputs) (operands t) (spanList w)
   pub total : w .first .length + w .second .length ≡ sumOf (map (lengthOf σ) (operands t))
 
 -- Stream s is of this kind, and its place stands at word p.
@@ -114,10 +123,11 @@ positions at = at .first ∷ at .second ∷ []
 abbrev pub keeps : Store → List ℤ → List ℤ → Type 0
 keeps σ old new = drop (room σ) new ≡ drop (room σ) old
 
--- what the run must be ready for when it executes t
+-- what the run must be ready for when it executes t; the base is that of the data that t carries on, if it carries on any
 pub record Executable (t : Transducer) (at : Operands) (env : List ℕ) (buf : List ℤ) (state : List ℕ) (m : State) : Type 0 where
   pub held : Held m buf state
-  pub placed : Placed (m .store) env (signature t .inputs) (operands t) (positions at)
+  pub base : Base
+  pub placed : Placed (m .store) env (signature base t .inputs) (operands t) (positions at)
   pub more : length (m .store) < mostStreams
 
 -- the same where the operands' spans were read
@@ -143,12 +153,14 @@ pub record Stopping (res : Result) (q : Refusal) : Type 0 where
 -- how many elements of the buffer a stream of this kind and of so many elements takes
 abbrev pub taking : Kind → ℕ → ℕ
 taking Ints n = n
+taking Bools n = n
 taking Flags n = n
 taking Units n = 0
 
 -- what the buffer must hold when t is executed at `out`
 pub record Applies (t : Transducer) (w : Spans) (out : ℕ) (buf : List ℤ) (σ : Store) : Type 0 where
-  pub stand : OperandsAt σ (signature t .inputs) (operands t) (spanList w)
+  pub base : Base
+  pub stand : OperandsAt σ (signature base t .inputs) (operands t) (spanList w)
   pub contents-are : take (room σ) buf ≡ contents σ
   pub fits : room σ ≤ length buf
   pub short : length buf ≤ widestBuffer

@@ -2,14 +2,13 @@
 // specs/Walking.antt's `stepped` says.
 ghost use mathlib.Core.Path.{_≡_};
 ghost use lib.ListN.{length};
-ghost use Rattle.snesl.specs.Streams.{Store};
+ghost use Rattle.snesl.specs.declared.code.Base.{Base};
+ghost use Rattle.snesl.specs.Streams.{Store, bit};
 ghost use Rattle.snesl.specs.Transducers.{apply, operands, signature};
 ghost use Rattle.snesl.specs.Machine.{State};
 ghost use Rattle.steps.specs.Walking.{stepped};
 ghost use Rattle.steps.specs.Holding.{Applies, Executable, Performable, Performed, Placed, positions, Spanned, Transduced, Grows, grown, taking};
-use snesl::code::Kind;
 use snesl::code::Transducer;
-use snesl::code::output_kind;
 use snesl::refusal::Refusal;
 use streams::Output;
 
@@ -42,19 +41,24 @@ fn arity(t: Transducer) -> usize
 {
     match t {
         Transducer::Const(_) => 0,
+        Transducer::ConstBool(_) => 0,
         Transducer::ToFlags(_) => 1,
+        Transducer::B2u(_) => 1,
         Transducer::Usum(_) => 1,
-        Transducer::MapTwoPlus(_, _) => 2,
+        Transducer::MapTwo(_, _, _) => 2,
+        Transducer::MapOneNot(_) => 1,
         Transducer::ScanPlus(_, _, _) => 2,
         Transducer::Distr(_, _) => 2,
         Transducer::SumPlus(_, _) => 2,
+        Transducer::Pack(_, _) => 2,
+        Transducer::UPack(_, _) => 2,
     }
 }
 
 // The span of the first `count` operands' places; it is empty for the others.
 fn read_spans(t: Transducer, at: Operands, env: &[u32]) -> Spans
-    requires { ⌜ ((σ : Store) × Placed σ (now env) (signature t .inputs) (operands t) (positions at)) ⌝ }
-    ensures { λ r. ⌜ ((σ : Store) → Placed σ (now (env .entry)) (signature t .inputs) (operands t) (positions at) → Spanned σ t r) ⌝ }
+    requires { ⌜ ((σ : Store) × (b : Base) × Placed σ (now env) (signature b t .inputs) (operands t) (positions at)) ⌝ }
+    ensures { λ r. ⌜ ((σ : Store) (b : Base) → Placed σ (now (env .entry)) (signature b t .inputs) (operands t) (positions at) → Spanned σ t r) ⌝ }
 {
     let none = Span {
         start: 0,
@@ -86,65 +90,45 @@ fn read_spans(t: Transducer, at: Operands, env: &[u32]) -> Spans
     }
 }
 
+// A bool as it stands in the buffer.
+fn element(c: bool) -> i32
+    ensures { λ r. ⌜ r ≡ bit c ⌝ }
+{
+    if c { 1 } else { 0 }
+}
+
 // The instruction over the buffer, at the first free element: one arm for each transducer.
 fn transduce(t: Transducer, at: Spans, n: usize, out: usize, buf: &mut [i32]) -> Output
     requires { ⌜ ((σ : Store) × Applies t at out (now buf) σ) ⌝ }
     ensures { λ r. ⌜ ((σ : Store) → Applies t at out (now (buf .entry)) σ → Transduced out (now (buf .entry)) (apply t n σ) r (now (buf .exit))) ⌝ }
 {
-    let p = at.first;
-    let q = at.second;
+    let p = at.first.start;
+    let k = at.first.length;
+    let q = at.second.start;
+    let l = at.second.length;
     match t {
         Transducer::Const(z) => streams::constant(buf, out, n, z),
-        Transducer::ToFlags(_) => itemwise::to_flags(buf, out, n, p.start, p.length),
-        Transducer::Usum(_) => streams::usum(buf, n, p.start, p.length),
-        Transducer::MapTwoPlus(_, _) => itemwise::map_two_plus(
-            buf,
-            out,
-            n,
-            p.start,
-            p.length,
-            q.start,
-            q.length,
-        ),
-        Transducer::ScanPlus(z, _, _) => segmentwise::scan_plus(
-            buf,
-            out,
-            n,
-            z,
-            p.start,
-            p.length,
-            q.start,
-            q.length,
-        ),
-        Transducer::Distr(_, _) => segmentwise::distr(
-            buf,
-            out,
-            n,
-            p.start,
-            p.length,
-            q.start,
-            q.length,
-        ),
-        Transducer::SumPlus(_, _) => segmentwise::sum_plus(
-            buf,
-            out,
-            n,
-            p.start,
-            p.length,
-            q.start,
-            q.length,
-        ),
+        Transducer::ConstBool(c) => streams::constant(buf, out, n, element(c)),
+        Transducer::ToFlags(_) => itemwise::to_flags(buf, out, n, p, k),
+        Transducer::B2u(_) => itemwise::to_flags(buf, out, n, p, k),
+        Transducer::Usum(_) => streams::usum(buf, n, p, k),
+        Transducer::MapTwo(o, _, _) => itemwise::map_two(o, buf, out, n, p, k, q, l),
+        Transducer::MapOneNot(_) => itemwise::map_one_not(buf, out, n, p, k),
+        Transducer::ScanPlus(z, _, _) => segmentwise::scan_plus(buf, out, n, z, p, k, q, l),
+        Transducer::Distr(_, _) => segmentwise::distr(buf, out, n, p, k, q, l),
+        Transducer::SumPlus(_, _) => segmentwise::sum_plus(buf, out, n, p, k, q, l),
+        Transducer::Pack(_, _) => itemwise::pack(buf, out, n, p, k, q, l),
+        Transducer::UPack(_, _) => segmentwise::upack(buf, out, n, p, k, q, l),
     }
 }
 
-// How many elements of the buffer a stream of so many elements takes: units take none.
-fn taken(kind: Kind, made: usize) -> usize
-    ensures { λ r. ⌜ r ≡ taking kind made ⌝ }
+// How many elements of the buffer t's output takes if it has so many: units, which Usum alone makes, take none.
+fn taken(t: Transducer, made: usize) -> usize
+    ensures { λ r. ⌜ ((b : Base) → r ≡ taking (signature b t .output) made) ⌝ }
 {
-    match kind {
-        Kind::Ints => made,
-        Kind::Flags => made,
-        Kind::Units => 0,
+    match t {
+        Transducer::Usum(_) => 0,
+        _ => made,
     }
 }
 
@@ -175,7 +159,7 @@ fn perform(t: Transducer, at: Spans, n: usize, buf: &mut [i32], state: &mut [usi
     match transduce(t, at, n, state[1], buf) {
         Output::Made(made) => {
             let spent = at.first.length + at.second.length + made;
-            advance(state, taken(output_kind(t), made), spent, 1);
+            advance(state, taken(t, made), spent, 1);
             Executed::Made(made)
         }
         Output::Unfit(_) => Executed::Stopped(Refusal::NoValue(state[0])),
