@@ -16,13 +16,15 @@ use Rattle.laws.proofs.Never.{never}
 use Rattle.laws.specs.Parts.{written}
 use Rattle.snesl.specs.declared.code.StreamId.{StreamId}
 use Rattle.snesl.specs.declared.code.Transducer.{Transducer}
-use Rattle.snesl.specs.declared.code.Transducer.the-variants.{Const, ToFlags, Usum, MapTwoPlus, ScanPlus, Distr, SumPlus}
+use Rattle.snesl.specs.declared.code.Transducer.the-variants.{Const, ConstBool, ToFlags, B2u, Usum, MapTwo, MapOneNot, ScanPlus, Distr, SumPlus, Pack, UPack}
 use Rattle.snesl.specs.declared.refusal.Refusal.the-variants.{NoValue, NoRoom}
 use Rattle.snesl.specs.declared.code.Kind.{Kind}
-use Rattle.snesl.specs.declared.code.Kind.the-variants.{Ints, Flags, Units}
-use Rattle.snesl.specs.Streams.{Stream, ints, flags, units, kindOf, bare, len, bit, elements, Store, _!_, contents, room}
+use Rattle.snesl.specs.declared.code.Kind.the-variants.{Ints, Bools, Flags, Units}
+use Rattle.snesl.specs.declared.code.Base.{Base}
+use Rattle.snesl.specs.declared.code.Base.the-variants as base
+use Rattle.snesl.specs.Streams.{Stream, ints, bools, flags, units, kindOf, bare, dataKind, baseIn, len, bit, elements, Store, _!_, contents, room}
 use Rattle.snesl.specs.Transducers as snesl
-use Rattle.snesl.specs.Transducers.{Answer, made, unfit, negative, outside, apply, operands, signature, empty, countF, alone, misfit, unless, onFlags}
+use Rattle.snesl.specs.Transducers.{Answer, made, unfit, negative, outside, apply, operands, signature, carried, resultOf, empty, countF, alone, misfit, unless, onFlags}
 use Rattle.snesl.specs.Programs.{define, done}
 use Rattle.snesl.specs.Machine.{State, Stop, full, unfitting, belowZero, outOfRange, Result, went, stopped, sumOf, workOf, fetch, push, skip, skipped, holding}
 use Rattle.snesl.specs.Outcome.{refusalOf}
@@ -34,7 +36,7 @@ use Rattle.steps.specs.declared.Executed.the-variants.{Made, Stopped}
 use Rattle.steps.specs.Walking.{stepped}
 use Rattle.steps.specs.declared.Spans.{Spans}
 use Rattle.steps.specs.Holding.{Held, counters, lengthIn, lengthOf, FlagsAt, OperandAt, OperandsAt, spanList, keeps, taking, Performable, Performed, Applies, Transduced, Grows, grown, mostStreams}
-use Rattle.steps.proofs.Stores.{nothing-written, contents-more, room-more, newest, ints-within, flags-within}
+use Rattle.steps.proofs.Stores.{nothing-written, contents-more, room-more, newest, ints-within, bools-within, flags-within}
 use Rattle.steps.proofs.Stepping.{same-state, output-made, concluded, step-is, concluded-went, work-is, countF-most}
 use Rattle.streams.proofs.Store.{Holds}
 
@@ -131,35 +133,37 @@ module _ {m : State} {buf : List ℤ} {state : List ℕ} (h : Held m buf state) 
 
 bare-elements : (k : Kind) → elements (bare k) ≡ []
 bare-elements Ints = refl
+bare-elements Bools = refl
 bare-elements Flags = refl
 bare-elements Units = refl
 
 bare-len : (k : Kind) → len (bare k) ≡ 0
 bare-len Ints = refl
+bare-len Bools = refl
 bare-len Flags = refl
 bare-len Units = refl
 
 module _ {t : Transducer} {w : Spans} {buf : List ℤ} {state : List ℕ} {m : State} (x : Performable t w buf state m) where
-  none-written : buf ≡ written (room (m .store)) (elements (empty t)) buf
-  none-written = nothing-written (room (m .store)) buf ∙ ap (λ l. written (room (m .store)) l buf) (sym (bare-elements (signature t .output)))
+  none-written : buf ≡ written (room (m .store)) (elements (empty (m .store) t)) buf
+  none-written = nothing-written (room (m .store)) buf ∙ ap (λ l. written (room (m .store)) l buf) (sym (bare-elements (signature (carried (m .store) t) t .output)))
 
   pub skipped-over : (cap k : ℕ) (state′ : List ℕ) → k ≡ 0 → state′ ≡ grown state 0 0 0
       → Performed (stepped cap k t m) m buf buf state state′ (Made 0)
   unfolding stepped skipped
   skipped-over cap zero state′ z s =
-      let none : length (elements (empty t)) ≡ 0 = ap length (bare-elements (signature t .output)) in
+      let none : length (elements (empty (m .store) t)) ≡ 0 = ap length (bare-elements (signature (carried (m .store) t) t .output)) in
       record {
         went-on =
             λ m′ a e h.
             let is : skip (define t done) m ≡ m′ = same-state (skip (define t done) m) m′ e in
-            let a-is : empty t ≡ a = same-newest (m .store) (empty t) a (ap (λ q. q .store) is ∙ h) in
+            let a-is : empty (m .store) t ≡ a = same-newest (m .store) (empty (m .store) t) a (ap (λ q. q .store) is ∙ h) in
             let w : m .work + 0 ≡ m .work = add-zero (m .work) in
             let c : m .steps + 0 ≡ m .steps = add-zero (m .steps) in
             let both =
-            held-more (x .held) (empty t) 0 0 buf state′ (omega (arith, none, x .held .fits)) (x .more) (omega arith) (omega arith) none-written
+            held-more (x .held) (empty (m .store) t) 0 0 buf state′ (omega (arith, none, x .held .fits)) (x .more) (omega arith) (omega arith) none-written
             (s ∙ ap (λ k. grown state k 0 0) (sym none)) m′
-            (sym is ∙ (λ i. record { store = m .store ++ empty t ∷ []; work = sym w i; steps = sym c i })) in
-            (ap Made (sym (bare-len (signature t .output)) ∙ ap len a-is), both .0, both .1, both .2);
+            (sym is ∙ (λ i. record { store = m .store ++ empty (m .store) t ∷ []; work = sym w i; steps = sym c i })) in
+            (ap Made (sym (bare-len (signature (carried (m .store) t) t .output)) ∙ ap len a-is), both .0, both .1, both .2);
         gave-up = λ why s e. never (cc);
       }
   skipped-over cap (suc k) state′ z s = absurd (omega arith)
@@ -253,11 +257,16 @@ stepped-is cap t (suc n) m h = step-is cap t (suc n) m
 -- how much an output takes
 taken-is : (a : Stream) → taking (kindOf a) (len a) ≡ length (elements a)
 taken-is (ints zs) = refl
+taken-is (bools cs) = sym (length-map cs bit)
 taken-is (flags bs) = sym (length-map bs bit)
 taken-is (units n) = refl
 
 as-long : (a : Stream) → taking (kindOf a) (len a) ≡ len a → len a ≡ length (elements a)
 as-long a e = sym e ∙ taken-is a
+
+pub data-takes : (b : Base) (n : ℕ) → taking (dataKind b) n ≡ n
+data-takes base.Int n = refl
+data-takes base.Bool n = refl
 
 -- Usum's output is its F's
 units-made : (k : ℕ) (bs : List Bool) (a : Stream) → snesl.usum some k bs ≡ made a → a ≡ units (countF some bs)
@@ -275,6 +284,7 @@ module _ {σ : Store} {buf : List ℤ} (h : Holds buf σ) where
   -- no operand is longer than the room
   operand-most : (k : Kind) (s at n : ℕ) → OperandAt σ k s at n → lengthOf σ s ≤ room σ
   operand-most Ints s at n o = omega (arith, o .long, ints-within h o)
+  operand-most Bools s at n o = omega (arith, o .long, bools-within h o)
   operand-most Flags s at n o = omega (arith, o .long, flags-within h o)
   operand-most Units s at n o = absurd o
 
@@ -287,19 +297,24 @@ module _ {σ : Store} {buf : List ℤ} (h : Holds buf σ) where
   operands-most (k ∷ ks) (s ∷ ss) (p ∷ ps) o = omega (arith, operand-most k s (p .0) (p .1) (o .0), operands-most ks ss ps (o .1), suc-mul (length ps) (room σ))
 
   -- nor is an output that fits, units included: only Usum makes units
-  output-most : (w : Spans) (t : Transducer) → OperandsAt σ (signature t .inputs) (operands t) (spanList w) → (k : ℕ) (a : Stream) → apply t k σ ≡ made a
+  output-most : (w : Spans) (b : Base) (t : Transducer) → OperandsAt σ (signature b t .inputs) (operands t) (spanList w) → (k : ℕ) (a : Stream) → apply t k σ ≡ made a
       → (len a ≤ room σ) ⊎ (len a ≡ length (elements a))
-  output-most w (Usum s) o k a e =
+  output-most w b (Usum s) o k a e =
       let i : FlagsAt σ (s .0) (w .first .start) (w .first .length) = o .0 in
       let u = units-made k (i .content) a (usum-is σ s k (i .content) (i .stream) ∙ e) in
       let l : lengthOf σ (s .0) ≡ length (i .content) = ap lengthIn (i .stream) in
       inl (omega (arith, ap len u, countF-most (i .content), i .long, l, flags-within h i))
-  output-most w (Const z) o k a e = inr (as-long a (ap (λ c. taking c (len a)) (output-made (Const z) k σ a e)))
-  output-most w (ToFlags s) o k a e = inr (as-long a (ap (λ c. taking c (len a)) (output-made (ToFlags s) k σ a e)))
-  output-most w (MapTwoPlus s t) o k a e = inr (as-long a (ap (λ c. taking c (len a)) (output-made (MapTwoPlus s t) k σ a e)))
-  output-most w (ScanPlus z s t) o k a e = inr (as-long a (ap (λ c. taking c (len a)) (output-made (ScanPlus z s t) k σ a e)))
-  output-most w (Distr s t) o k a e = inr (as-long a (ap (λ c. taking c (len a)) (output-made (Distr s t) k σ a e)))
-  output-most w (SumPlus s t) o k a e = inr (as-long a (ap (λ c. taking c (len a)) (output-made (SumPlus s t) k σ a e)))
+  output-most w b (Const z) o k a e = inr (as-long a (ap (λ c. taking c (len a)) (output-made (Const z) k σ a e)))
+  output-most w b (ConstBool c) o k a e = inr (as-long a (ap (λ c. taking c (len a)) (output-made (ConstBool c) k σ a e)))
+  output-most w b (ToFlags s) o k a e = inr (as-long a (ap (λ c. taking c (len a)) (output-made (ToFlags s) k σ a e)))
+  output-most w b (B2u s) o k a e = inr (as-long a (ap (λ c. taking c (len a)) (output-made (B2u s) k σ a e)))
+  output-most w b (MapTwo u s t) o k a e = inr (as-long a (ap (λ c. taking c (len a)) (output-made (MapTwo u s t) k σ a e) ∙ data-takes (resultOf u) (len a)))
+  output-most w b (MapOneNot s) o k a e = inr (as-long a (ap (λ c. taking c (len a)) (output-made (MapOneNot s) k σ a e)))
+  output-most w b (ScanPlus z s t) o k a e = inr (as-long a (ap (λ c. taking c (len a)) (output-made (ScanPlus z s t) k σ a e)))
+  output-most w b (Distr s t) o k a e = inr (as-long a (ap (λ c. taking c (len a)) (output-made (Distr s t) k σ a e) ∙ data-takes (baseIn (σ ! t .0)) (len a)))
+  output-most w b (SumPlus s t) o k a e = inr (as-long a (ap (λ c. taking c (len a)) (output-made (SumPlus s t) k σ a e)))
+  output-most w b (Pack s t) o k a e = inr (as-long a (ap (λ c. taking c (len a)) (output-made (Pack s t) k σ a e) ∙ data-takes (baseIn (σ ! t .0)) (len a)))
+  output-most w b (UPack s t) o k a e = inr (as-long a (ap (λ c. taking c (len a)) (output-made (UPack s t) k σ a e)))
 
 module _ {t : Transducer} {w : Spans} {buf : List ℤ} {state : List ℕ} {m : State} (x : Performable t w buf state m) where
   holds : Holds buf (m .store)
@@ -308,6 +323,7 @@ module _ {t : Transducer} {w : Spans} {buf : List ℤ} {state : List ℕ} {m : S
   pub applies : Applies t w (getD state 1 0) buf (m .store)
   applies =
       record {
+        base = x .spanned .base;
         stand = x .spanned .stand;
         contents-are = x .held .contents-are;
         fits = x .held .fits;
@@ -322,14 +338,14 @@ module _ {t : Transducer} {w : Spans} {buf : List ℤ} {state : List ℕ} {m : S
 
     -- the output that was made
     module _ {m′ : State} (g : Through (length buf) t k m (x .held .fits) (apply t k (m .store)) m′) where
-      kind : kindOf (g .output) ≡ signature t .output
+      kind : kindOf (g .output) ≡ signature (carried (m .store) t) t .output
       kind = output-made t k (m .store) (g .output) (g .is-made)
 
       fits : room (m .store) + length (elements (g .output)) ≤ length buf
       fits = omega (arith, g .fits, x .held .fits)
 
       most : len (g .output) ≤ 65536
-      most = go (output-most holds w t (x .spanned .stand) k (g .output) (g .is-made))
+      most = go (output-most holds w (x .spanned .base) t (x .spanned .stand) k (g .output) (g .is-made))
         where
           go : (len (g .output) ≤ room (m .store)) ⊎ (len (g .output) ≡ length (elements (g .output))) → len (g .output) ≤ 65536
           go (inl l) = omega (arith, x .held .fits, x .held .short)
@@ -337,9 +353,9 @@ module _ {t : Transducer} {w : Spans} {buf : List ℤ} {state : List ℕ} {m : S
 
       cheap : w .first .length + w .second .length + len (g .output) ≤ 196608
       cheap =
-          omega (arith, most, x .spanned .total, operands-most holds (signature t .inputs) (operands t) (spanList w) (x .spanned .stand), x .held .fits, x .held .short)
+          omega (arith, most, x .spanned .total, operands-most holds (signature (x .spanned .base) t .inputs) (operands t) (spanList w) (x .spanned .stand), x .held .fits, x .held .short)
 
-      takes-it : taking (signature t .output) (len (g .output)) ≡ length (elements (g .output))
+      takes-it : taking (signature (carried (m .store) t) t .output) (len (g .output)) ≡ length (elements (g .output))
       takes-it = ap (λ c. taking c (len (g .output))) (sym kind) ∙ taken-is (g .output)
 
       wrote : new ≡ written (room (m .store)) (elements (g .output)) buf
@@ -361,16 +377,16 @@ module _ {t : Transducer} {w : Spans} {buf : List ℤ} {state : List ℕ} {m : S
             never (cc)
 
     -- the words can grow by it
-    pub room-for : {r : ℕ} (j : ℕ) → o ≡ out.Made j → r ≡ taking (signature t .output) j → Grows state r (w .first .length + w .second .length + j) 1
+    pub room-for : {r : ℕ} (j : ℕ) → o ≡ out.Made j → ((b : Base) → r ≡ taking (signature b t .output) j) → Grows state r (w .first .length + w .second .length + j) 1
     room-for {r} j e q =
         let g = gone j e in
         let same : out.Made j ≡ out.Made (len (g .1 .output)) = sym e ∙ (says ∙ g .1 .said) in
         let j-is : j ≡ len (g .1 .output) = cc in
-        let takes : taking (signature t .output) j ≡ length (elements (g .1 .output)) = ap (taking (signature t .output)) j-is ∙ takes-it (g .1) in
-        grows (x .held) r (w .first .length + w .second .length + j) 1 (omega (arith, q, fits (g .1), x .held .short)) (omega (arith, cheap (g .1))) (omega arith)
+        let takes : taking (signature (carried (m .store) t) t .output) j ≡ length (elements (g .1 .output)) = ap (taking (signature (carried (m .store) t) t .output)) j-is ∙ takes-it (g .1) in
+        grows (x .held) r (w .first .length + w .second .length + j) 1 (omega (arith, q (carried (m .store) t), fits (g .1), x .held .short)) (omega (arith, cheap (g .1))) (omega arith)
 
     pub performed : {r : Executed} {state′ : List ℕ} → 0 < k → r ≡ told (getD state 0 0) o
-        → ((j : ℕ) → o ≡ out.Made j → state′ ≡ grown state (taking (signature t .output) j) (w .first .length + w .second .length + j) 1)
+        → ((j : ℕ) → o ≡ out.Made j → state′ ≡ grown state (taking (signature (carried (m .store) t) t .output) j) (w .first .length + w .second .length + j) 1)
         → Performed (stepped (length buf) k t m) m buf new state state′ r
     performed {r} {state′} some-units q s =
         let is : stepped (length buf) k t m ≡ concluded (length buf) t k m (apply t k (m .store)) = stepped-is (length buf) t k m some-units in
@@ -382,7 +398,7 @@ module _ {t : Transducer} {w : Spans} {buf : List ℤ} {state : List ℕ} {m : S
               let b : Stream = g .output in
               let o-is : o ≡ out.Made (len b) = says ∙ g .said in
               let a-is : b ≡ a = same-newest (m .store) b a (ap (λ u. u .store) (g .pushed) ∙ h) in
-              let takes : taking (signature t .output) (len b) ≡ length (elements b) = takes-it g in
+              let takes : taking (signature (carried (m .store) t) t .output) (len b) ≡ length (elements b) = takes-it g in
               let spent : workOf k (fetch (m .store) (operands t)) b ≡ w .first .length + w .second .length + len b = work-is (x .spanned) k b in
               let both =
               held-more (x .held) b (w .first .length + w .second .length + len b) 1 new state′ (fits g) (x .more) (cheap g) (omega arith) (wrote g)
@@ -406,20 +422,16 @@ module _ {t : Transducer} {w : Spans} {buf : List ℤ} {state : List ℕ} {m : S
           let j-is : j ≡ len (g .1 .output) = cc in
           omega (arith, cheap (g .1))
 
-      pub performed-made : {state′ : List ℕ} {r : ℕ} → 0 < k → r ≡ taking (signature t .output) j → state′ ≡ grown state r (w .first .length + w .second .length + j) 1
+      pub performed-made : {state′ : List ℕ} {r : ℕ} → 0 < k → ((b : Base) → r ≡ taking (signature b t .output) j) → state′ ≡ grown state r (w .first .length + w .second .length + j) 1
           → Performed (stepped (length buf) k t m) m buf new state state′ (Made j)
       performed-made {state′} {r} h q s =
           performed h (ap (told (getD state 0 0)) (sym e))
           (λ i f.
           let both : out.Made j ≡ out.Made i = sym e ∙ f in
           let same : j ≡ i = cc in
-          s ∙ (ap (λ u. grown state u (w .first .length + w .second .length + j) 1) q ∙ ap (λ u. grown state (taking (signature t .output) u) (w .first .length + w .second .length + u) 1) same))
+          s ∙ (ap (λ u. grown state u (w .first .length + w .second .length + j) 1) (q (carried (m .store) t)) ∙ ap (λ u. grown state (taking (signature (carried (m .store) t) t .output) u) (w .first .length + w .second .length + u) 1) same))
 
     -- none, for a reason that says so
     pub performed-none : (y : output.Output) → o ≡ y → ((j : ℕ) → y ≡ out.Made j → ⊥) → 0 < k
         → Performed (stepped (length buf) k t m) m buf new state state (told (getD state 0 0) y)
     performed-none y e f h = performed h (ap (told (getD state 0 0)) (sym e)) (λ j q. absurd (f j (sym e ∙ q)))
-
--- how much was taken, by the kind as it was asked for
-pub took : (j : ℕ) {r : ℕ} (k : Kind) {l : Kind} → r ≡ taking k j → k ≡ l → r ≡ taking l j
-took j k e q = e ∙ ap (λ c. taking c j) q

@@ -7,9 +7,11 @@ use lib.IntN.{ℤ}
 use lib.ListN.{length, getD, drop, length-take, length-drop}
 use Rattle.laws.specs.Parts.{part}
 use Rattle.snesl.specs.declared.code.Kind.{Kind}
-use Rattle.snesl.specs.declared.code.Kind.the-variants.{Ints, Flags, Units}
+use Rattle.snesl.specs.declared.code.Kind.the-variants.{Ints, Bools, Flags, Units}
+use Rattle.snesl.specs.declared.code.Base.{Base}
+use Rattle.snesl.specs.declared.code.Base.the-variants as base
 use Rattle.snesl.specs.declared.code.Transducer.{Transducer}
-use Rattle.snesl.specs.declared.code.Transducer.the-variants.{Const, ToFlags, Usum, MapTwoPlus, ScanPlus, Distr, SumPlus}
+use Rattle.snesl.specs.declared.code.Transducer.the-variants.{Const, ConstBool, ToFlags, B2u, Usum, MapTwo, MapOneNot, ScanPlus, Distr, SumPlus, Pack, UPack}
 use Rattle.snesl.specs.Streams.{ints, flags, units, Store}
 use Rattle.snesl.specs.Transducers.{operands, signature}
 use Rattle.snesl.specs.Machine.{State, sumOf}
@@ -17,8 +19,8 @@ use Rattle.environment.specs.Words.{Place, placeWords}
 use Rattle.environment.proofs.Entries.{first-is, second-is}
 use Rattle.steps.specs.declared.Operands.{Operands}
 use Rattle.steps.specs.declared.Spans.{Spans}
-use Rattle.steps.specs.Holding.{place, lengthOf, IntsAt, FlagsAt, OperandAt, OperandsAt, spanList, Spanned, PlacedAt, Placed, positions, Executable, Performable}
-use Rattle.steps.proofs.Stepping.{ints-of, flags-of}
+use Rattle.steps.specs.Holding.{place, lengthOf, IntsAt, BoolsAt, FlagsAt, OperandAt, OperandsAt, spanList, Spanned, PlacedAt, Placed, positions, Executable, Performable}
+use Rattle.steps.proofs.Stepping.{ints-of, bools-of, flags-of}
 
 -- a place's words stand on the stack
 pub place-within : (env : List ℕ) (p : ℕ) (a : Place) → part p 3 env ≡ placeWords a → p + 3 ≤ length env
@@ -29,20 +31,29 @@ place-within env p a e = omega (arith, simp (length-take, length-drop) at (ap le
 abbrev Taken : List Kind → Type 0
 Taken [] = Unit
 Taken (Ints ∷ ks) = Taken ks
+Taken (Bools ∷ ks) = Taken ks
 Taken (Flags ∷ ks) = Taken ks
 Taken (Units ∷ ks) = ⊥
 
-all-taken : (t : Transducer) → Taken (signature t .inputs)
-all-taken (Const z) = tt
-all-taken (ToFlags s) = tt
-all-taken (Usum s) = tt
-all-taken (MapTwoPlus s t) = tt
-all-taken (ScanPlus z s t) = tt
-all-taken (Distr s t) = tt
-all-taken (SumPlus s t) = tt
+all-taken : (b : Base) (t : Transducer) → Taken (signature b t .inputs)
+all-taken b (Const z) = tt
+all-taken b (ConstBool c) = tt
+all-taken b (ToFlags s) = tt
+all-taken b (B2u s) = tt
+all-taken b (Usum s) = tt
+all-taken b (MapTwo o s t) = tt
+all-taken b (MapOneNot s) = tt
+all-taken b (ScanPlus z s t) = tt
+all-taken base.Int (Distr s t) = tt
+all-taken base.Bool (Distr s t) = tt
+all-taken b (SumPlus s t) = tt
+all-taken base.Int (Pack s t) = tt
+all-taken base.Bool (Pack s t) = tt
+all-taken b (UPack s t) = tt
 
 others : (k : Kind) (ks : List Kind) → Taken (k ∷ ks) → Taken ks
 others Ints ks t = t
+others Bools ks t = t
 others Flags ks t = t
 others Units ks t = absurd t
 
@@ -53,6 +64,14 @@ module _ (σ : Store) (env : List ℕ) where
   operand : (k : Kind) (ks : List Kind) {s p : ℕ} → Taken (k ∷ ks) → PlacedAt σ env k s p → OperandAt σ k s (getD env (p + 1) 0) (getD env (p + 2) 0)
   operand Ints ks {s} {p} t o =
       let i = ints-of (o .stream) (o .kind) in
+      record {
+        content = i .0;
+        stream = o .there ∙ ap mathlib.Core.Option.some (i .1);
+        start = first-is env p (place σ s) (o .words);
+        long = second-is env p (place σ s) (o .words);
+      }
+  operand Bools ks {s} {p} t o =
+      let i = bools-of (o .stream) (o .kind) in
       record {
         content = i .0;
         stream = o .there ∙ ap mathlib.Core.Option.some (i .1);
@@ -122,29 +141,29 @@ module _ (σ : Store) (env : List ℕ) where
   second-within (k ∷ ks) (s ∷ ss) p q ps o e f = first-within ks ss q ps (o .1) (λ z. f (ap suc z))
 
 -- what `read_spans` answers
-module _ (σ : Store) (env : List ℕ) (t : Transducer) (at : Operands) (o : Placed σ env (signature t .inputs) (operands t) (positions at)) {n : ℕ} (count : n ≡ length (operands t)) where
+module _ (σ : Store) (env : List ℕ) (t : Transducer) (at : Operands) (b : Base) (o : Placed σ env (signature b t .inputs) (operands t) (positions at)) {n : ℕ} (count : n ≡ length (operands t)) where
   pub spanned-none : n ≡ 0 → Spanned σ t (record { first = record { start = 0; length = 0 }; second = record { start = 0; length = 0 } })
   spanned-none e =
-      let r = stand-none σ env (signature t .inputs) (operands t) (positions at) ((0, 0) ∷ (0, 0) ∷ []) o (sym count ∙ e) in
-      record { stand = r .0; total = r .1 }
+      let r = stand-none σ env (signature b t .inputs) (operands t) (positions at) ((0, 0) ∷ (0, 0) ∷ []) o (sym count ∙ e) in
+      record { base = b; stand = r .0; total = r .1 }
 
   pub spanned-one : n ≡ 1
       → Spanned σ t (record { first = record { start = getD env (at .first + 1) 0; length = getD env (at .first + 2) 0 }; second = record { start = 0; length = 0 } })
   spanned-one e =
-      let r = stand-one σ env (signature t .inputs) (operands t) (at .first) (at .second ∷ []) ((0, 0) ∷ []) (all-taken t) o (sym count ∙ e) in
-      record { stand = r .0; total = omega (arith, r .1) }
+      let r = stand-one σ env (signature b t .inputs) (operands t) (at .first) (at .second ∷ []) ((0, 0) ∷ []) (all-taken b t) o (sym count ∙ e) in
+      record { base = b; stand = r .0; total = omega (arith, r .1) }
 
   pub spanned-two : (n ≡ 0 → ⊥) → (n ≡ 1 → ⊥)
       → Spanned σ t (record { first = record { start = getD env (at .first + 1) 0; length = getD env (at .first + 2) 0 }; second = record { start = getD env (at .second + 1) 0; length = getD env (at .second + 2) 0 } })
   spanned-two e f =
-      let r = stand-two σ env (signature t .inputs) (operands t) (at .first) (at .second) (all-taken t) o (λ z. e (count ∙ z)) (λ z. f (count ∙ z)) in
-      record { stand = r .0; total = r .1 }
+      let r = stand-two σ env (signature b t .inputs) (operands t) (at .first) (at .second) (all-taken b t) o (λ z. e (count ∙ z)) (λ z. f (count ∙ z)) in
+      record { base = b; stand = r .0; total = r .1 }
 
   pub reads-first : (n ≡ 0 → ⊥) → at .first + 3 ≤ length env
-  reads-first e = first-within σ env (signature t .inputs) (operands t) (at .first) (at .second ∷ []) o (λ z. e (count ∙ z))
+  reads-first e = first-within σ env (signature b t .inputs) (operands t) (at .first) (at .second ∷ []) o (λ z. e (count ∙ z))
 
   pub reads-second : (n ≡ 0 → ⊥) → (n ≡ 1 → ⊥) → at .second + 3 ≤ length env
-  reads-second e f = second-within σ env (signature t .inputs) (operands t) (at .first) (at .second) [] o (λ z. e (count ∙ z)) (λ z. f (count ∙ z))
+  reads-second e f = second-within σ env (signature b t .inputs) (operands t) (at .first) (at .second) [] o (λ z. e (count ∙ z)) (λ z. f (count ∙ z))
 
 pub performable : {t : Transducer} {at : Operands} {env : List ℕ} {buf : List ℤ} {state : List ℕ} {m : State} {w : Spans} → Executable t at env buf state m
     → Spanned (m .store) t w → Performable t w buf state m

@@ -1,43 +1,65 @@
 -- One instruction: what it adds to the machine, of which kind its output is, and what it costs.
 use Prim.Native.Nat.{ℕ, zero, suc, _+_, _≤_}
-use mathlib.Core.Bool.{Bool, true, false}
+use mathlib.Core.Bool.{Bool, true, false, not}
 use mathlib.Core.List.{List, [], _∷_, _++_, map}
 use mathlib.Core.Option.{Option, some, none, Option·getD}
 use mathlib.Core.Path.{_≡_, refl, sym, _∙_, ap}
 use native.Mathlib.Omega.{arith}
 use lib.IntN.{ℤ, pos}
 use lib.ListN.{length, replicate}
+use lib.Signed.{leZ}
 use Rattle.laws.proofs.Never.{never}
 use Rattle.snesl.specs.declared.code.Transducer.{Transducer}
-use Rattle.snesl.specs.declared.code.Transducer.the-variants.{Const, ToFlags, Usum, MapTwoPlus, ScanPlus, Distr, SumPlus}
+use Rattle.snesl.specs.declared.code.Transducer.the-variants.{Const, ConstBool, ToFlags, B2u, Usum, MapTwo, MapOneNot, ScanPlus, Distr, SumPlus, Pack, UPack}
+use Rattle.snesl.specs.declared.code.Operation.{Operation}
+use Rattle.snesl.specs.declared.code.Operation.the-variants.{Plus, LessEqual, Equal}
+use Rattle.snesl.specs.declared.code.Base.{Base}
+use Rattle.snesl.specs.declared.code.Base.the-variants as base
 use Rattle.snesl.specs.declared.code.Kind.{Kind}
-use Rattle.snesl.specs.declared.code.Kind.the-variants.{Ints, Flags, Units}
-use Rattle.snesl.specs.Streams.{Stream, ints, flags, units, kindOf, bare, len, Store, _!_, room}
-use Rattle.snesl.specs.Transducers.{Answer, made, unfit, negative, outside, apply, operands, signature, empty, unless, exact, onInts, onFlags, toFlags, usum, mapTwoPlus, scanPlus, distr, sumPlus, countF, alone, eachF, eachT, misfit, spread, scans, sums, pluses, firstOutside, firstNegative, unary, lengthMisfit}
+use Rattle.snesl.specs.declared.code.Kind.the-variants.{Ints, Bools, Flags, Units}
+use Rattle.snesl.specs.Values.{Element}
+use Rattle.snesl.specs.Streams.{Stream, ints, bools, flags, units, kindOf, bare, dataOf, dataKind, baseIn, len, Store, _!_, room}
+use Rattle.snesl.specs.Transducers.{Answer, made, unfit, negative, outside, apply, operands, signature, carried, empty, unless, exact, onInts, onBools, onData, onFlags, toFlags, b2u, usum, mapTwo, mapOneNot, results, resultOf}
+use Rattle.snesl.specs.Transducers.{scanPlus, distr, sumPlus, pack, upack, countF, alone, eachF, eachT, misfit, spread, kept, keptSegments, scans, sums, pluses, pairwise, equalZ, firstOutside, firstNegative, unary, unitary, lengthMisfit}
 use Rattle.snesl.specs.Programs.{done, define}
 use Rattle.snesl.specs.Machine.{State, full, unfitting, belowZero, outOfRange, Result, went, stopped, sumOf, workOf, fetch, push, step, skip, skipped, holding}
 use Rattle.steps.specs.Walking.{stepped}
 use Rattle.steps.specs.declared.Spans.{Spans}
-use Rattle.steps.specs.Holding.{lengthIn, lengthOf, Spanned}
+use Rattle.steps.specs.Holding.{lengthIn, lengthOf, Spanned, PlacedAt, Placed}
 
 -- the stream of a kind
 pub kind-bare : (k : Kind) → kindOf (bare k) ≡ k
 kind-bare Ints = refl
+kind-bare Bools = refl
 kind-bare Flags = refl
 kind-bare Units = refl
 
 pub ints-of : (a : Stream) → kindOf a ≡ Ints → (zs : List ℤ) × (a ≡ ints zs)
 ints-of (ints zs) e = (zs, refl)
+ints-of (bools cs) e = never (cc)
 ints-of (flags bs) e = never (cc)
 ints-of (units n) e = never (cc)
 
+pub bools-of : (a : Stream) → kindOf a ≡ Bools → (cs : List Bool) × (a ≡ bools cs)
+bools-of (ints zs) e = never (cc)
+bools-of (bools cs) e = (cs, refl)
+bools-of (flags bs) e = never (cc)
+bools-of (units n) e = never (cc)
+
+-- data of either base
+pub data-of : (b : Base) (a : Stream) → kindOf a ≡ dataKind b → (xs : List (Element b)) × (a ≡ dataOf b xs)
+data-of base.Int a e = ints-of a e
+data-of base.Bool a e = bools-of a e
+
 pub flags-of : (a : Stream) → kindOf a ≡ Flags → (bs : List Bool) × (a ≡ flags bs)
 flags-of (ints zs) e = never (cc)
+flags-of (bools cs) e = never (cc)
 flags-of (flags bs) e = (bs, refl)
 flags-of (units n) e = never (cc)
 
 pub units-of : (a : Stream) → kindOf a ≡ Units → (n : ℕ) × (a ≡ units n)
 units-of (ints zs) e = never (cc)
+units-of (bools cs) e = never (cc)
 units-of (flags bs) e = never (cc)
 units-of (units n) e = (n, refl)
 
@@ -58,56 +80,130 @@ counted (some k) x a e = never (cc)
 onInts-made : (o : Option Stream) (f : List ℤ → Answer) (a : Stream) → onInts o f ≡ made a → (zs : List ℤ) × (f zs ≡ made a)
 onInts-made none f a e = never (cc)
 onInts-made (some (ints zs)) f a e = (zs, e)
+onInts-made (some (bools cs)) f a e = never (cc)
 onInts-made (some (flags bs)) f a e = never (cc)
 onInts-made (some (units n)) f a e = never (cc)
 
 onFlags-made : (o : Option Stream) (f : List Bool → Answer) (a : Stream) → onFlags o f ≡ made a → (bs : List Bool) × (f bs ≡ made a)
 onFlags-made none f a e = never (cc)
 onFlags-made (some (ints zs)) f a e = never (cc)
+onFlags-made (some (bools cs)) f a e = never (cc)
 onFlags-made (some (flags bs)) f a e = (bs, e)
 onFlags-made (some (units n)) f a e = never (cc)
 
-is-ints : (zs : List ℤ) (a : Stream) → made (ints zs) ≡ made a → kindOf a ≡ Ints
-is-ints zs a e = let same : ints zs ≡ a = cc in ap kindOf (sym same)
+onBools-made : (o : Option Stream) (f : List Bool → Answer) (a : Stream) → onBools o f ≡ made a → (cs : List Bool) × (f cs ≡ made a)
+onBools-made none f a e = never (cc)
+onBools-made (some (ints zs)) f a e = never (cc)
+onBools-made (some (bools cs)) f a e = (cs, e)
+onBools-made (some (flags bs)) f a e = never (cc)
+onBools-made (some (units n)) f a e = never (cc)
+
+onData-made : (o : Option Stream) (f : (b : Base) → List (Element b) → Answer) (a : Stream) → onData o f ≡ made a
+    → (xs : List (Element (baseIn o))) × (f (baseIn o) xs ≡ made a)
+onData-made none f a e = never (cc)
+onData-made (some (ints zs)) f a e = (zs, e)
+onData-made (some (bools cs)) f a e = (cs, e)
+onData-made (some (flags bs)) f a e = never (cc)
+onData-made (some (units n)) f a e = never (cc)
+
+-- what was made, and of which kind it is
+kind-made : (s a : Stream) → made s ≡ made a → kindOf a ≡ kindOf s
+kind-made s a e = let same : s ≡ a = cc in ap kindOf (sym same)
+
+kind-data : (b : Base) (xs : List (Element b)) → kindOf (dataOf b xs) ≡ dataKind b
+kind-data base.Int xs = refl
+kind-data base.Bool xs = refl
 
 made-ints : (o : Option ℕ) (x : List (ℕ × ℤ)) (a : Stream) → unless o unfit (exact x) ≡ made a → kindOf a ≡ Ints
 made-ints o x a e =
-    is-ints (map (λ r. r .1) x) a (valued (firstOutside x) (made (ints (map (λ r. r .1) x))) a (fitted o (exact x) a e))
+    kind-made (ints (map (λ r. r .1) x)) a (valued (firstOutside x) (made (ints (map (λ r. r .1) x))) a (fitted o (exact x) a e))
 
-pub output-made : (t : Transducer) (n : ℕ) (σ : Store) (a : Stream) → apply t n σ ≡ made a → kindOf a ≡ signature t .output
+made-flags : (o : Option ℕ) (zs : List ℤ) (a : Stream) → unless o unfit (unless (firstNegative 0 zs) negative (made (flags (unary zs)))) ≡ made a → kindOf a ≡ Flags
+made-flags o zs a e =
+    kind-made (flags (unary zs)) a
+    (counted (firstNegative 0 zs) (made (flags (unary zs))) a (fitted o (unless (firstNegative 0 zs) negative (made (flags (unary zs)))) a e))
+
+made-two : (u : Operation) (o : Option ℕ) (xs ys : List ℤ) (a : Stream) → unless o unfit (results u xs ys) ≡ made a → kindOf a ≡ dataKind (resultOf u)
+made-two Plus o xs ys a e = made-ints o (pluses 0 xs ys) a e
+made-two LessEqual o xs ys a e = kind-made (bools (pairwise leZ xs ys)) a (fitted o (made (bools (pairwise leZ xs ys))) a e)
+made-two Equal o xs ys a e = kind-made (bools (pairwise equalZ xs ys)) a (fitted o (made (bools (pairwise equalZ xs ys))) a e)
+
+pub output-made : (t : Transducer) (n : ℕ) (σ : Store) (a : Stream) → apply t n σ ≡ made a → kindOf a ≡ signature (carried σ t) t .output
 unfolding apply
-output-made (Const z) n σ a e = is-ints (replicate n z) a e
+output-made (Const z) n σ a e = kind-made (ints (replicate n z)) a e
+output-made (ConstBool c) n σ a e = kind-made (bools (replicate n c)) a e
 output-made (ToFlags s) n σ a e =
     let f = onInts-made (σ ! s .0) (toFlags n) a e in
-    let zs : List ℤ = f .0 in
-    let q : made (flags (unary zs)) ≡ made a =
-    counted (firstNegative 0 zs) (made (flags (unary zs))) a
-    (fitted (lengthMisfit n (length zs) (length zs)) (unless (firstNegative 0 zs) negative (made (flags (unary zs)))) a (f .1)) in
-    let same : flags (unary zs) ≡ a = cc in
-    ap kindOf (sym same)
+    made-flags (lengthMisfit n (length (f .0)) (length (f .0))) (f .0) a (f .1)
+output-made (B2u s) n σ a e =
+    let f = onBools-made (σ ! s .0) (b2u n) a e in
+    kind-made (flags (unitary (f .0))) a (fitted (lengthMisfit n (length (f .0)) (length (f .0))) (made (flags (unitary (f .0)))) a (f .1))
 output-made (Usum s) n σ a e =
     let f = onFlags-made (σ ! s .0) (usum some n) a e in
-    let q : made (units (countF some (f .0))) ≡ made a =
-    fitted (misfit some {B = ℤ} alone 0 n (f .0) []) (made (units (countF some (f .0)))) a (f .1) in
-    let same : units (countF some (f .0)) ≡ a = cc in
-    ap kindOf (sym same)
-output-made (MapTwoPlus s t) n σ a e =
-    let f = onInts-made (σ ! s .0) (λ xs. onInts (σ ! t .0) (mapTwoPlus n xs)) a e in
-    let g = onInts-made (σ ! t .0) (mapTwoPlus n (f .0)) a (f .1) in
-    made-ints (lengthMisfit n (length (f .0)) (length (g .0))) (pluses 0 (f .0) (g .0)) a (g .1)
+    kind-made (units (countF some (f .0))) a (fitted (misfit some {B = ℤ} alone 0 n (f .0) []) (made (units (countF some (f .0)))) a (f .1))
+output-made (MapTwo o s t) n σ a e =
+    let f = onInts-made (σ ! s .0) (λ xs. onInts (σ ! t .0) (mapTwo o n xs)) a e in
+    let g = onInts-made (σ ! t .0) (mapTwo o n (f .0)) a (f .1) in
+    made-two o (lengthMisfit n (length (f .0)) (length (g .0))) (f .0) (g .0) a (g .1)
+output-made (MapOneNot s) n σ a e =
+    let f = onBools-made (σ ! s .0) (mapOneNot n) a e in
+    kind-made (bools (map not (f .0))) a (fitted (lengthMisfit n (length (f .0)) (length (f .0))) (made (bools (map not (f .0)))) a (f .1))
 output-made (ScanPlus z s t) n σ a e =
     let f = onFlags-made (σ ! s .0) (λ bs. onInts (σ ! t .0) (scanPlus some z n bs)) a e in
     let g = onInts-made (σ ! t .0) (scanPlus some z n (f .0)) a (f .1) in
     made-ints (misfit some eachF 0 n (f .0) (g .0)) (scans some z 0 z (f .0) (g .0)) a (g .1)
 output-made (Distr s t) n σ a e =
-    let f = onFlags-made (σ ! s .0) (λ bs. onInts (σ ! t .0) (distr some n bs)) a e in
-    let g = onInts-made (σ ! t .0) (distr some n (f .0)) a (f .1) in
-    is-ints (spread some (f .0) (g .0)) a
-    (fitted (misfit some eachT 0 n (f .0) (g .0)) (made (ints (spread some (f .0) (g .0)))) a (g .1))
+    let b : Base = baseIn (σ ! t .0) in
+    let f = onFlags-made (σ ! s .0) (λ bs. onData (σ ! t .0) (distr some n bs)) a e in
+    let g = onData-made (σ ! t .0) (distr some n (f .0)) a (f .1) in
+    kind-made (dataOf b (spread some (f .0) (g .0))) a
+    (fitted (misfit some eachT 0 n (f .0) (g .0)) (made (dataOf b (spread some (f .0) (g .0)))) a (g .1))
+    ∙ kind-data b (spread some (f .0) (g .0))
 output-made (SumPlus s t) n σ a e =
     let f = onFlags-made (σ ! s .0) (λ bs. onInts (σ ! t .0) (sumPlus some n bs)) a e in
     let g = onInts-made (σ ! t .0) (sumPlus some n (f .0)) a (f .1) in
     made-ints (misfit some eachF 0 n (f .0) (g .0)) (sums some 0 (pos 0) (f .0) (g .0)) a (g .1)
+output-made (Pack s t) n σ a e =
+    let b : Base = baseIn (σ ! t .0) in
+    let f = onBools-made (σ ! s .0) (λ cs. onData (σ ! t .0) (pack n cs)) a e in
+    let g = onData-made (σ ! t .0) (pack n (f .0)) a (f .1) in
+    kind-made (dataOf b (kept (f .0) (g .0))) a
+    (fitted (lengthMisfit n (length (f .0)) (length (g .0))) (made (dataOf b (kept (f .0) (g .0)))) a (g .1))
+    ∙ kind-data b (kept (f .0) (g .0))
+output-made (UPack s t) n σ a e =
+    let f = onBools-made (σ ! s .0) (λ cs. onFlags (σ ! t .0) (upack some n cs)) a e in
+    let g = onFlags-made (σ ! t .0) (upack some n (f .0)) a (f .1) in
+    kind-made (flags (keptSegments some (f .0) (g .0))) a
+    (fitted (misfit some eachT 0 n (g .0) (f .0)) (made (flags (keptSegments some (f .0) (g .0)))) a (g .1))
+
+-- the base that is carried on is known from the kind of the operand
+base-of : (b : Base) (a : Stream) → kindOf a ≡ dataKind b → baseIn (some a) ≡ b
+base-of base.Int (ints zs) e = refl
+base-of base.Int (bools cs) e = never (cc)
+base-of base.Int (flags bs) e = never (cc)
+base-of base.Int (units n) e = never (cc)
+base-of base.Bool (ints zs) e = never (cc)
+base-of base.Bool (bools cs) e = refl
+base-of base.Bool (flags bs) e = never (cc)
+base-of base.Bool (units n) e = never (cc)
+
+placed-base : {σ : Store} {env : List ℕ} {s p : ℕ} (b : Base) → PlacedAt σ env (dataKind b) s p → dataKind (baseIn (σ ! s)) ≡ dataKind b
+placed-base b o = ap (λ x. dataKind (baseIn x)) (o .there) ∙ ap dataKind (base-of b (o .stream) (o .kind))
+
+pub carried-kind : (σ : Store) (env : List ℕ) (b : Base) (t : Transducer) (p q : ℕ) → Placed σ env (signature b t .inputs) (operands t) (p ∷ q ∷ [])
+    → signature (carried σ t) t .output ≡ signature b t .output
+carried-kind σ env b (Const z) p q o = refl
+carried-kind σ env b (ConstBool c) p q o = refl
+carried-kind σ env b (ToFlags s) p q o = refl
+carried-kind σ env b (B2u s) p q o = refl
+carried-kind σ env b (Usum s) p q o = refl
+carried-kind σ env b (MapTwo u s t) p q o = refl
+carried-kind σ env b (MapOneNot s) p q o = refl
+carried-kind σ env b (ScanPlus z s t) p q o = refl
+carried-kind σ env b (Distr s t) p q o = placed-base b (o .1 .0)
+carried-kind σ env b (SumPlus s t) p q o = refl
+carried-kind σ env b (Pack s t) p q o = placed-base b (o .1 .0)
+carried-kind σ env b (UPack s t) p q o = refl
 
 -- what an answer makes of the machine
 abbrev pub concluded : (cap : ℕ) → Transducer → (n : ℕ) → State → Answer → Result
@@ -131,8 +227,8 @@ step-is cap t n m = go (apply t n (m .store)) refl
 pub record Added (m : State) (t : Transducer) (n : ℕ) (m′ : State) : Type 0 where
   pub stream : Stream
   pub store : m′ .store ≡ m .store ++ stream ∷ []
-  pub kind : kindOf stream ≡ signature t .output
-  pub quiet : n ≡ 0 → stream ≡ empty t
+  pub kind : kindOf stream ≡ signature (carried (m .store) t) t .output
+  pub quiet : n ≡ 0 → stream ≡ empty (m .store) t
 
 pub same-state : (m m′ : State) → went m ≡ went m′ → m ≡ m′
 same-state m m′ e = cc
@@ -153,9 +249,9 @@ pub added : (cap n : ℕ) (t : Transducer) (m m′ : State) → stepped cap n t 
 unfolding stepped skipped
 added cap zero t m m′ e =
     record {
-      stream = empty t;
+      stream = empty (m .store) t;
       store = ap (λ s. s .store) (sym (same-state (skip (define t done) m) m′ e));
-      kind = kind-bare (signature t .output);
+      kind = kind-bare (signature (carried (m .store) t) t .output);
       quiet = λ z. refl;
     }
 added cap (suc n) t m m′ e =

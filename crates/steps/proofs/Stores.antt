@@ -12,9 +12,14 @@ use lib.ListN.{length, take, length-append, length-map, drop, take-append-drop}
 use lib.Seq.{take-append-le, take-append-seam}
 use Rattle.laws.proofs.Never.{never}
 use Rattle.laws.specs.Parts.{part, written}
-use Rattle.snesl.specs.Streams.{Stream, ints, flags, bit, elements, Store, _!_, contents, room}
+use Rattle.snesl.specs.declared.code.Base.{Base}
+use Rattle.snesl.specs.declared.code.Base.the-variants as base
+use Rattle.snesl.specs.declared.code.Kind.{Kind}
+use Rattle.snesl.specs.Values.{Element}
+use Rattle.snesl.specs.Streams.{Stream, ints, bools, flags, dataOf, dataKind, bit, len, elements, Store, _!_, contents, room}
+use Rattle.streams.proofs.Alike.{data-long}
 use Rattle.streams.proofs.Store.{Holds, Stands, stands}
-use Rattle.steps.specs.Holding.{startOf, lengthIn, IntsAt, FlagsAt}
+use Rattle.steps.specs.Holding.{startOf, lengthIn, lengthOf, IntsAt, BoolsAt, FlagsAt, OperandAt}
 
 pub contents-append : (σ τ : Store) → contents (σ ++ τ) ≡ contents σ ++ contents τ
 unfolding contents
@@ -82,6 +87,38 @@ module _ {σ : Store} {buf : List ℤ} (h : Holds buf σ) where
 
     pub flags-part : part at n buf ≡ map bit (o .content)
     flags-part = ap (λ k. part k n buf) (o .start) ∙ (ap (λ k. part (startOf σ s) k buf) flags-long ∙ there-too .content)
+
+-- an operand that is data, of either base
+pub record DataAt (b : Base) (σ : Store) (s at n : ℕ) : Type 0 where
+  pub content : List (Element b)
+  pub stream : σ ! s ≡ some (dataOf b content)
+  pub start : at ≡ startOf σ s
+  pub long : n ≡ lengthOf σ s
+
+abbrev pub data-at : (b : Base) {σ : Store} {s at n : ℕ} → OperandAt σ (dataKind b) s at n → DataAt b σ s at n
+data-at base.Int o = record { content = o .content; stream = o .stream; start = o .start; long = o .long }
+data-at base.Bool o = record { content = o .content; stream = o .stream; start = o .start; long = o .long }
+
+module _ {σ : Store} {buf : List ℤ} (h : Holds buf σ) where
+  module _ (b : Base) {s at n : ℕ} (o : DataAt b σ s at n) where
+    data-there : Stands σ s (dataOf b (o .content)) buf
+    data-there = stands h s (dataOf b (o .content)) (o .stream)
+
+    long-data : n ≡ length (elements (dataOf b (o .content)))
+    long-data = o .long ∙ (ap lengthIn (o .stream) ∙ sym (data-long b (o .content)))
+
+    pub data-within : at + n ≤ room σ
+    data-within = omega (arith, long-data, o .start, data-there .within)
+
+    pub data-part : part at n buf ≡ elements (dataOf b (o .content))
+    data-part = ap (λ k. part k n buf) (o .start) ∙ (ap (λ k. part (startOf σ s) k buf) long-data ∙ data-there .content)
+
+  module _ {s at n : ℕ} (o : BoolsAt σ s at n) where
+    pub bools-within : at + n ≤ room σ
+    bools-within = data-within base.Bool (data-at base.Bool o)
+
+    pub bools-part : part at n buf ≡ map bit (o .content)
+    bools-part = data-part base.Bool (data-at base.Bool o)
 
 -- an operand while the store grows, and the newest stream as an operand
 module _ {σ : Store} (τ : Store) {s at n : ℕ} where

@@ -21,11 +21,19 @@ pub onward-onward : (r : Result) (f g : State → Result) → onward (onward r f
 onward-onward (went m) f g = refl
 onward-onward (stopped why s) f g = refl
 
-skipped-seq : (p q : Program) → skipped (p ⨾ q) ≡ skipped p ++ skipped q
+-- what is skipped depends on the store before it by the kinds of its streams alone; here, on the whole of it
+skipped-seq : (σ : Store) (p q : Program) → skipped σ (p ⨾ q) ≡ skipped σ p ++ skipped (σ ++ skipped σ p) q
 unfolding skipped _⨾_
-skipped-seq done q = refl
-skipped-seq (define t p) q = ap (λ l. empty t ∷ l) (skipped-seq p q)
-skipped-seq (withCtrl outs c ins b p) q = ap (λ l. skipped b ++ l) (skipped-seq p q) ∙ sym (append-assoc (skipped b) (skipped p) (skipped q))
+skipped-seq σ done q = ap (λ τ. skipped τ q) (sym (append-nil σ))
+skipped-seq σ (define t p) q =
+    let σ′ : Store = σ ++ empty σ t ∷ [] in
+    ap (λ l. empty σ t ∷ l)
+    (skipped-seq σ′ p q ∙ ap (λ τ. skipped σ′ p ++ skipped τ q) (append-assoc σ (empty σ t ∷ []) (skipped σ′ p)))
+skipped-seq σ (withCtrl outs c ins b p) q =
+    let σ′ : Store = σ ++ skipped σ b in
+    ap (λ l. skipped σ b ++ l)
+    (skipped-seq σ′ p q ∙ ap (λ τ. skipped σ′ p ++ skipped τ q) (append-assoc σ (skipped σ b) (skipped σ′ p)))
+    ∙ sym (append-assoc (skipped σ b) (skipped σ′ p) (skipped (σ ++ (skipped σ b ++ skipped σ′ p)) q))
 
 skip-more : (σ₁ σ₂ : List Stream) (m : State) → spent (m .store ++ (σ₁ ++ σ₂)) m ≡ spent ((m .store ++ σ₁) ++ σ₂) m
 skip-more σ₁ σ₂ m = ap (λ σ. spent σ m) (sym (append-assoc (m .store) σ₁ σ₂))
@@ -54,19 +62,21 @@ module _ (cap : ℕ) where
 
   pub walked-define : (n : ℕ) (t : Transducer) (p : Program) (m : State) → walked cap n (define t p) m ≡ onward (stepped cap n t m) (walked cap n p)
   unfolding walked stepped skipped run
-  walked-define zero t p m = ap went (skip-more (empty t ∷ []) (skipped p) m)
+  walked-define zero t p m = ap went (skip-more (empty (m .store) t ∷ []) (skipped (m .store ++ empty (m .store) t ∷ []) p) m)
   walked-define (suc n) t p m = refl
 
   pub walked-seq : (n : ℕ) (p q : Program) (m : State) → walked cap n (p ⨾ q) m ≡ onward (walked cap n p m) (walked cap n q)
   unfolding walked
-  walked-seq zero p q m = ap (λ l. went (spent (m .store ++ l) m)) (skipped-seq p q) ∙ ap went (skip-more (skipped p) (skipped q) m)
+  walked-seq zero p q m =
+      ap (λ l. went (spent (m .store ++ l) m)) (skipped-seq (m .store) p q)
+      ∙ ap went (skip-more (skipped (m .store) p) (skipped (m .store ++ skipped (m .store) p) q) m)
   walked-seq (suc n) p q m = run-seq (holding cap) p q (suc n) m
 
   -- a body under its control, which is empty wherever the control round it is
   pub walked-with : (n k : ℕ) (outs : List ℕ) (c : ℕ) (ins : List ℕ) (b p : Program) (m : State) → m .store ! c ≡ some (units k) → (n ≡ 0 → k ≡ 0)
       → walked cap n (withCtrl outs c ins b p) m ≡ onward (walked cap k b m) (walked cap n p)
   unfolding walked skipped run
-  walked-with zero zero outs c ins b p m e f = ap went (skip-more (skipped b) (skipped p) m)
+  walked-with zero zero outs c ins b p m e f = ap went (skip-more (skipped (m .store) b) (skipped (m .store ++ skipped (m .store) b) p) m)
   walked-with zero (suc k) outs c ins b p m e f = let z : suc k ≡ 0 = f refl in absurd (omega arith)
   walked-with (suc n) zero outs c ins b p m e f = rw e
   walked-with (suc n) (suc k) outs c ins b p m e f = rw e
@@ -91,17 +101,18 @@ grown-then m m₁ m′ p q r g h e =
       number = length-append (g .streams) (h .streams) ∙ omega (arith, g .number, h .number, e);
     }
 
-length-skipped : (p : Program) → length (skipped p) ≡ count p
+length-skipped : (σ : Store) (p : Program) → length (skipped σ p) ≡ count p
 unfolding skipped count
-length-skipped done = refl
-length-skipped (define t p) = ap suc (length-skipped p)
-length-skipped (withCtrl outs c ins b p) = length-append (skipped b) (skipped p) ∙ omega (arith, length-skipped b, length-skipped p)
+length-skipped σ done = refl
+length-skipped σ (define t p) = ap suc (length-skipped (σ ++ empty σ t ∷ []) p)
+length-skipped σ (withCtrl outs c ins b p) =
+    length-append (skipped σ b) (skipped (σ ++ skipped σ b) p) ∙ omega (arith, length-skipped σ b, length-skipped (σ ++ skipped σ b) p)
 
 went-store : (m m′ : State) → went m ≡ went m′ → m′ .store ≡ m .store
 went-store m m′ e = let q : m′ ≡ m = cc in ap (λ s. s .store) q
 
 skip-grown : (p : Program) (m m′ : State) → went (skip p m) ≡ went m′ → Grown m p m′
-skip-grown p m m′ e = record { streams = skipped p; store = went-store (skip p m) m′ e; number = length-skipped p }
+skip-grown p m m′ e = record { streams = skipped (m .store) p; store = went-store (skip p m) m′ e; number = length-skipped (m .store) p }
 
 step-grown : (fits : ℕ → Bool) (t : Transducer) (n : ℕ) (m m′ : State) → step fits t n m ≡ went m′ → Grown m (define t done) m′
 unfolding step count

@@ -1,7 +1,7 @@
 -- Under an empty control nothing is executed; else the transducer's answer settles what the machine does (proofs/Executing.antt).
 use native.Mathlib.Omega.{arith}
 use Rattle.laws.proofs.Never.{never}
-use Rattle.steps.proofs.Executing.{skipped-over, applies, performed-made, performed-none, room-for, costs, grows, four-words, took}
+use Rattle.steps.proofs.Executing.{skipped-over, applies, performed-made, performed-none, room-for, costs, grows, four-words}
 use borrow.Author.Needs.{needs}
 use Rattle.steps.proofs.perform.Statement.{statement}
 use Rattle.steps.proofs.perform.Tie as tie
@@ -40,41 +40,38 @@ add-spent-2 c = omega (
       (c .before .before .before .before .before .before .before .before .before .before .pre .1))) (c .before .before .made .given .1),
 )
 
-output-kind-requires : tie.Need-output-kind-requires
-output-kind-requires c κs = tt
-
 taken-requires : tie.Need-taken-requires
 taken-requires c κs = tt
 
 advance-requires-2 : tie.Need-advance-requires-2
-advance-requires-2 c κs = room-for (c .before .before .before .before .before .before .before .before .before .before .before .before .before .pre .1) (c .before .before .before .before .before
-    .before .before .before .before .before .before .before .before .args .n) (c .before .before .before .before .before .before .before .before .transduce .ensures (c .before .before .before .before
-    .before .before .before .before .before .before .before .before .before .pre .0 .store) (applies (c .before .before .before .before .before .before .before .before .before .before .before .before
-    .before .pre .1))) _ (c .before .before .before .before .before .made .given .1) (took _ _ (c .taken .ensures) (c .before .output-kind .ensures))
+advance-requires-2 c κs = room-for (c .before .before .before .before .before .before .before .before .before .before .before .before .pre .1) (c .before .before .before .before
+    .before .before .before .before .before .before .before .before .args .n) (c .before .before .before .before .before .before .before .transduce .ensures (c .before .before .before
+    .before .before .before .before .before .before .before .before .before .pre .0 .store) (applies (c .before .before .before .before .before .before .before .before .before .before .before
+    .before .pre .1))) _ (c .before .before .before .before .made .given .1) (c .taken .ensures)
 
 enum-told : tie.Need-enum-told
 enum-told c = search needs
 
-slice-read-t24 : tie.Need-slice-read-t24
-slice-read-t24 c = omega (arith, four-words (c .before .before .before .before .before .before .before .before .before .pre .1 .held))
+slice-read-t23 : tie.Need-slice-read-t23
+slice-read-t23 c = omega (arith, four-words (c .before .before .before .before .before .before .before .before .before .pre .1 .held))
 
 enum-told-2 : tie.Need-enum-told-2
 enum-told-2 c = search needs
 
-slice-read-t27 : tie.Need-slice-read-t27
-slice-read-t27 c = omega (arith, four-words (c .before .before .before .before .before .before .before .before .before .pre .1 .held))
+slice-read-t26 : tie.Need-slice-read-t26
+slice-read-t26 c = omega (arith, four-words (c .before .before .before .before .before .before .before .before .before .pre .1 .held))
 
 enum-told-3 : tie.Need-enum-told-3
 enum-told-3 c = search needs
 
-slice-read-t30 : tie.Need-slice-read-t30
-slice-read-t30 c = omega (arith, four-words (c .before .before .before .before .before .before .before .before .before .pre .1 .held))
+slice-read-t29 : tie.Need-slice-read-t29
+slice-read-t29 c = omega (arith, four-words (c .before .before .before .before .before .before .before .before .before .pre .1 .held))
 
 enum-told-4 : tie.Need-enum-told-4
 enum-told-4 c = search needs
 
-slice-read-t33 : tie.Need-slice-read-t33
-slice-read-t33 c = omega (arith, four-words (c .before .before .before .before .before .before .before .before .before .pre .1 .held))
+slice-read-t32 : tie.Need-slice-read-t32
+slice-read-t32 c = omega (arith, four-words (c .before .before .before .before .before .before .before .before .before .pre .1 .held))
 
 same-length-2 : tie.Need-same-length-2
 same-length-2 c = search needs
@@ -83,12 +80,12 @@ same-length-3 : tie.Need-same-length-3
 same-length-3 c = search needs
 
 returns-2 : tie.Need-returns-2
-returns-2 c = λ m x. performed-made x _ (c .before .before .before .before .before .before .before .before .before .before .before .transduce .ensures (m .store) (applies x)) (c .before .before
+returns-2 c = λ m x. performed-made x _ (c .before .before .before .before .before .before .before .before .before .before .transduce .ensures (m .store) (applies x)) (c .before
     .before .before .before .before .before .before .made .given .1) (omega (
       arith,
-      c .before .before .before .before .before .before .before .before .before .before .before .before .before .before
+      c .before .before .before .before .before .before .before .before .before .before .before .before .before
           .if1 .left,
-    )) (took _ _ (c .before .before .before .taken .ensures) (c .before .before .before .before .output-kind .ensures)) (c .before .before .advance2 .ensures)
+    )) (c .before .before .before .taken .ensures) (c .before .before .advance2 .ensures)
 
 same-length-4 : tie.Need-same-length-4
 same-length-4 c = search needs
@@ -126,17 +123,16 @@ perform-spec =
     enum-known-made
     add-spent
     add-spent-2
-    output-kind-requires
     taken-requires
     advance-requires-2
     enum-told
-    slice-read-t24
+    slice-read-t23
     enum-told-2
-    slice-read-t27
+    slice-read-t26
     enum-told-3
-    slice-read-t30
+    slice-read-t29
     enum-told-4
-    slice-read-t33
+    slice-read-t32
     same-length-2
     same-length-3
     returns-2

@@ -10,27 +10,27 @@ arity-requires : tie.Need-arity-requires
 arity-requires c κs = search needs
 
 returns : tie.Need-returns
-returns c = λ σ o. spanned-none σ _ _ _ o (c .before .arity .ensures) (c .if1 .taken)
+returns c = λ σ b o. spanned-none σ _ _ _ b o (c .before .arity .ensures) (c .if1 .taken)
 
 add-t8 : tie.Need-add-t8
 add-t8 c = omega (
   arith,
   reads-first (c .before .before .before .before .pre .0) (c .before .before .before .before .args .env .now) (c .before .before .before .before .args .t) (c .before .before
-      .before .before .args .at) (c .before .before .before .before .pre .1) (c .before .before .arity .ensures) (c .before .if1 .left),
+      .before .before .args .at) (c .before .before .before .before .pre .1) (c .before .before .before .before .pre .2) (c .before .before .arity .ensures) (c .before .if1 .left),
 )
 
 mul-t9 : tie.Need-mul-t9
 mul-t9 c = omega (
   arith,
   reads-first (c .before .before .before .before .pre .0) (c .before .before .before .before .args .env .now) (c .before .before .before .before .args .t) (c .before .before
-      .before .before .args .at) (c .before .before .before .before .pre .1) (c .before .before .arity .ensures) (c .before .if1 .left),
+      .before .before .args .at) (c .before .before .before .before .pre .1) (c .before .before .before .before .pre .2) (c .before .before .arity .ensures) (c .before .if1 .left),
 )
 
 shared-slice-read-t11 : tie.Need-shared-slice-read-t11
 shared-slice-read-t11 c = omega (
   arith,
   reads-first (c .before .before .before .before .before .pre .0) (c .before .before .before .before .before .args .env .now) (c .before .before .before .before
-      .before .args .t) (c .before .before .before .before .before .args .at) (c .before .before .before .before .before .pre .1) (c .before .before .before .arity .ensures) (c .before .before .if1
+      .before .args .t) (c .before .before .before .before .before .args .at) (c .before .before .before .before .before .pre .1) (c .before .before .before .before .before .pre .2) (c .before .before .before .arity .ensures) (c .before .before .if1
       .left),
 )
 
@@ -41,7 +41,7 @@ add-t13 : tie.Need-add-t13
 add-t13 c = omega (
   arith,
   reads-first (c .before .before .before .before .before .before .pre .0) (c .before .before .before .before .before .before .args .env .now) (c .before .before .before .before
-      .before .before .args .t) (c .before .before .before .before .before .before .args .at) (c .before .before .before .before .before .before .pre .1) (c .before .before .before .before .arity
+      .before .before .args .t) (c .before .before .before .before .before .before .args .at) (c .before .before .before .before .before .before .pre .1) (c .before .before .before .before .before .before .pre .2) (c .before .before .before .before .arity
       .ensures) (c .before .before .before .if1 .left),
 )
 
@@ -49,7 +49,7 @@ mul-t14 : tie.Need-mul-t14
 mul-t14 c = omega (
   arith,
   reads-first (c .before .before .before .before .before .before .pre .0) (c .before .before .before .before .before .before .args .env .now) (c .before .before .before .before
-      .before .before .args .t) (c .before .before .before .before .before .before .args .at) (c .before .before .before .before .before .before .pre .1) (c .before .before .before .before .arity
+      .before .before .args .t) (c .before .before .before .before .before .before .args .at) (c .before .before .before .before .before .before .pre .1) (c .before .before .before .before .before .before .pre .2) (c .before .before .before .before .arity
       .ensures) (c .before .before .before .if1 .left),
 )
 
@@ -58,21 +58,23 @@ shared-slice-read-t16 c = omega (
   arith,
   reads-first (c .before .before .before .before .before .before .before .pre .0) (c .before .before .before .before .before .before .before .args .env .now) (c
       .before .before .before .before .before .before .before .args .t) (c .before .before .before .before .before .before .before .args .at) (c .before .before .before .before .before .before .before
-      .pre .1) (c .before .before .before .before .before .arity .ensures) (c .before .before .before .before .if1 .left),
+      .pre .1) (c .before .before .before .before .before .before .before
+      .pre .2) (c .before .before .before .before .before .arity .ensures) (c .before .before .before .before .if1 .left),
 )
 
 cast-t17 : tie.Need-cast-t17
 cast-t17 c = omega (arith, c .shared-slice-known3 .given (c .before .before .before .before .before .before .before .args .at .first + 2))
 
 returns-2 : tie.Need-returns-2
-returns-2 c = λ σ o. spanned-one σ _ _ _ o (c .before .before .before .before .before .before .arity .ensures) (c .if2 .taken)
+returns-2 c = λ σ b o. spanned-one σ _ _ _ b o (c .before .before .before .before .before .before .arity .ensures) (c .if2 .taken)
 
 add-t17 : tie.Need-add-t17
 add-t17 c = omega (
   arith,
   reads-second (c .before .before .before .before .before .before .before .before .before .pre .0) (c .before .before .before .before .before .before .before .before .before
       .args .env .now) (c .before .before .before .before .before .before .before .before .before .args .t) (c .before .before .before .before .before .before .before .before .before .args .at) (c
-      .before .before .before .before .before .before .before .before .before .pre .1) (c .before .before .before .before .before .before .before .arity .ensures) (c .before .before .before .before
+      .before .before .before .before .before .before .before .before .before .pre .1) (c
+      .before .before .before .before .before .before .before .before .before .pre .2) (c .before .before .before .before .before .before .before .arity .ensures) (c .before .before .before .before
       .before .before .if1 .left) (c .before .if2 .left),
 )
 
@@ -81,7 +83,8 @@ mul-t8 c = omega (
   arith,
   reads-second (c .before .before .before .before .before .before .before .before .before .pre .0) (c .before .before .before .before .before .before .before .before .before
       .args .env .now) (c .before .before .before .before .before .before .before .before .before .args .t) (c .before .before .before .before .before .before .before .before .before .args .at) (c
-      .before .before .before .before .before .before .before .before .before .pre .1) (c .before .before .before .before .before .before .before .arity .ensures) (c .before .before .before .before
+      .before .before .before .before .before .before .before .before .before .pre .1) (c
+      .before .before .before .before .before .before .before .before .before .pre .2) (c .before .before .before .before .before .before .before .arity .ensures) (c .before .before .before .before
       .before .before .if1 .left) (c .before .if2 .left),
 )
 
@@ -90,7 +93,7 @@ shared-slice-read-t16-2 c = omega (
   arith,
   reads-second (c .before .before .before .before .before .before .before .before .before .before .pre .0) (c .before .before .before .before .before .before
       .before .before .before .before .args .env .now) (c .before .before .before .before .before .before .before .before .before .before .args .t) (c .before .before .before .before .before .before
-      .before .before .before .before .args .at) (c .before .before .before .before .before .before .before .before .before .before .pre .1) (c .before .before .before .before .before .before .before
+      .before .before .before .before .args .at) (c .before .before .before .before .before .before .before .before .before .before .pre .1) (c .before .before .before .before .before .before .before .before .before .before .pre .2) (c .before .before .before .before .before .before .before
       .before .arity .ensures) (c .before .before .before .before .before .before .before .if1 .left) (c .before .before .if2 .left),
 )
 
@@ -102,7 +105,7 @@ add-t13-2 c = omega (
   arith,
   reads-second (c .before .before .before .before .before .before .before .before .before .before .before .pre .0) (c .before .before .before .before .before .before .before
       .before .before .before .before .args .env .now) (c .before .before .before .before .before .before .before .before .before .before .before .args .t) (c .before .before .before .before .before
-      .before .before .before .before .before .before .args .at) (c .before .before .before .before .before .before .before .before .before .before .before .pre .1) (c .before .before .before .before
+      .before .before .before .before .before .before .args .at) (c .before .before .before .before .before .before .before .before .before .before .before .pre .1) (c .before .before .before .before .before .before .before .before .before .before .before .pre .2) (c .before .before .before .before
       .before .before .before .before .before .arity .ensures) (c .before .before .before .before .before .before .before .before .if1 .left) (c .before .before .before .if2 .left),
 )
 
@@ -111,7 +114,7 @@ mul-t12 c = omega (
   arith,
   reads-second (c .before .before .before .before .before .before .before .before .before .before .before .pre .0) (c .before .before .before .before .before .before .before
       .before .before .before .before .args .env .now) (c .before .before .before .before .before .before .before .before .before .before .before .args .t) (c .before .before .before .before .before
-      .before .before .before .before .before .before .args .at) (c .before .before .before .before .before .before .before .before .before .before .before .pre .1) (c .before .before .before .before
+      .before .before .before .before .before .before .args .at) (c .before .before .before .before .before .before .before .before .before .before .before .pre .1) (c .before .before .before .before .before .before .before .before .before .before .before .pre .2) (c .before .before .before .before
       .before .before .before .before .before .arity .ensures) (c .before .before .before .before .before .before .before .before .if1 .left) (c .before .before .before .if2 .left),
 )
 
@@ -121,7 +124,8 @@ shared-slice-read-t11-2 c = omega (
   reads-second (c .before .before .before .before .before .before .before .before .before .before .before .before .pre .0) (c .before .before .before .before
       .before .before .before .before .before .before .before .before .args .env .now) (c .before .before .before .before .before .before .before .before .before .before .before .before .args .t) (c
       .before .before .before .before .before .before .before .before .before .before .before .before .args .at) (c .before .before .before .before .before .before .before .before .before .before
-      .before .before .pre .1) (c .before .before .before .before .before .before .before .before .before .before .arity .ensures) (c .before .before .before .before .before .before .before .before
+      .before .before .pre .1) (c .before .before .before .before .before .before .before .before .before .before
+      .before .before .pre .2) (c .before .before .before .before .before .before .before .before .before .before .arity .ensures) (c .before .before .before .before .before .before .before .before
       .before .if1 .left) (c .before .before .before .before .if2 .left),
 )
 
@@ -129,7 +133,7 @@ cast-t9 : tie.Need-cast-t9
 cast-t9 c = omega (arith, c .shared-slice-known5 .given (c .before .before .before .before .before .before .before .before .before .before .before .before .args .at .second + 2))
 
 returns-3 : tie.Need-returns-3
-returns-3 c = λ σ o. spanned-two σ _ _ _ o (c .before .before .before .before .before .before .before .before .before .before .arity .ensures) (c .before .before .before .before .before .before .before .before .before .if1 .left) (c .before .before .before .before .if2 .left)
+returns-3 c = λ σ b o. spanned-two σ _ _ _ b o (c .before .before .before .before .before .before .before .before .before .before .arity .ensures) (c .before .before .before .before .before .before .before .before .before .if1 .left) (c .before .before .before .before .if2 .left)
 
 pub read-spans-spec : {M : Type 1} → statement M
 read-spans-spec =
