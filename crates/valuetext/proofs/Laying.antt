@@ -12,6 +12,7 @@ use Rattle.snesl.specs.declared.code.Base.the-variants as base
 use Rattle.snesl.specs.Values.{typeOf, Element, Val}
 use Rattle.snesl.specs.Streams.{bit}
 use Rattle.snesl.specs.Representation.{concat, segments}
+use Rattle.snesl.proofs.Representing.Elements.{length-elements, elements-append}
 use Rattle.valuetext.specs.Laying.{cells, lay, advance, Under, Apart}
 use Rattle.valuetext.specs.Reading.{cell}
 use Rattle.decimals.proofs.Stores.{sets-append, sets-comm, sets-none}
@@ -40,21 +41,16 @@ module _ {A : Type 0} where
 
 -- ---- scalars
 
-pub cells-append : (β : Base) (xs ys : List (Element β)) → cells β (xs ++ ys) ≡ cells β xs ++ cells β ys
-cells-append base.Int xs ys = refl
-cells-append base.Bool xs ys = map-append bit xs ys
-
-pub cells-length : (β : Base) (xs : List (Element β)) → length (cells β xs) ≡ length xs
-cells-length base.Int xs = refl
-cells-length base.Bool xs = length-map xs bit
-
 pub cells-none : (β : Base) → cells β [] ≡ []
 cells-none base.Int = refl
 cells-none base.Bool = refl
 
+pub cells-more : (β : Base) (x : Element β) (xs : List (Element β)) → cells β (x ∷ xs) ≡ cell β x ∷ cells β xs
+cells-more base.Int x xs = refl
+cells-more base.Bool x xs = refl
+
 pub cells-one : (β : Base) (x : Element β) → cells β (x ∷ []) ≡ cell β x ∷ []
-cells-one base.Int x = refl
-cells-one base.Bool x = refl
+cells-one β x = cells-more β x [] ∙ ap (λ (l : List ℤ). cell β x ∷ l) (cells-none β)
 
 -- ---- cursors
 
@@ -197,7 +193,7 @@ lay-none β (suc d) cs vs =
 pub lay-sets : (β : Base) (d : ℕ) (b : List ℤ) (cs : List ℕ) (vs : List (Val (typeOf β d))) (c : ℕ) (s : List ℤ) → Under β d cs vs c
     → lay β d (sets b c s) cs vs ≡ sets (lay β d b cs vs) c s
 unfolding lay Under
-lay-sets β zero b cs vs c s u = sym (sets-comm b (getD cs 0 0) (cells β vs) c s (omega (arith, u, cells-length β vs)))
+lay-sets β zero b cs vs c s u = sym (sets-comm b (getD cs 0 0) (cells β vs) c s (omega (arith, u, length-elements β vs)))
 lay-sets β (suc d) b cs vs c s u =
     ap (λ (l : List ℤ). sets l (getD cs (suc d) 0) (map bit (segments vs))) (lay-sets β d b cs (concat vs) c s (u .0))
     ∙ sym (sets-comm (lay β d b cs (concat vs)) (getD cs (suc d) 0) (map bit (segments vs)) c s (omega (arith, u .1, bits-length vs)))
@@ -207,9 +203,9 @@ pub lay-append : (β : Base) (d : ℕ) (b : List ℤ) (cs : List ℕ) (vs ws : L
 unfolding lay advance Apart
 lay-append β zero b cs vs ws h p =
     ap (λ (c : ℕ). sets (sets b (getD cs 0 0) (cells β vs)) c (cells β ws))
-    (getD-set-same cs 0 (getD cs 0 0 + length vs) 0 h ∙ ap (λ (n : ℕ). getD cs 0 0 + n) (sym (cells-length β vs)))
+    (getD-set-same cs 0 (getD cs 0 0 + length vs) 0 h ∙ ap (λ (n : ℕ). getD cs 0 0 + n) (sym (length-elements β vs)))
     ∙ sets-append b (getD cs 0 0) (cells β vs) (cells β ws)
-    ∙ ap (sets b (getD cs 0 0)) (sym (cells-append β vs ws))
+    ∙ ap (sets b (getD cs 0 0)) (sym (elements-append β vs ws))
 lay-append β (suc d) b cs vs ws h p =
     let c : ℕ = getD cs (suc d) 0 in
     let a : List ℕ = advance β d cs (concat vs) in

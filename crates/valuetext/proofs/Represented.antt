@@ -16,8 +16,9 @@ use Rattle.snesl.specs.Machine.{sumOf}
 use Rattle.snesl.specs.Representation.{concat, segments, represent}
 use Rattle.valuetext.specs.Laying.{cells, lay, advance, Under, Apart}
 use Rattle.decimals.proofs.Stores.{sets-append}
-use Rattle.valuetext.proofs.Laying.{cells-length, length-advance, bits-length, under-more}
+use Rattle.valuetext.proofs.Laying.{length-advance, bits-length, under-more}
 use Rattle.snesl.proofs.Correctness.Charged.{sumOf-append}
+use Rattle.snesl.proofs.Representing.Elements.{length-elements}
 use Rattle.snesl.proofs.Types.{depth-of-type}
 
 -- the streams of some values, in tree order
@@ -57,14 +58,14 @@ lens-more β d vs = ap (map len) (streams-more β d vs) ∙ map-append len (stre
 pub lens-length : (β : Base) (d : ℕ) (vs : List (Val (typeOf β d))) → length (map len (streams β d vs)) ≡ suc d
 lens-length β d vs = length-map (streams β d vs) len ∙ order-length (represent (typeOf β d) vs) ∙ ap suc (depth-of-type β d)
 
-cells-len : (β : Base) (xs : List (Element β)) → len (dataOf β xs) ≡ length xs
-cells-len base.Int xs = refl
-cells-len base.Bool xs = refl
+pub length-data : (β : Base) (xs : List (Element β)) → len (dataOf β xs) ≡ length xs
+length-data base.Int xs = refl
+length-data base.Bool xs = refl
 
 -- their total is the room
 pub lens-total : (β : Base) (d : ℕ) (vs : List (Val (typeOf β d))) → sumOf (map len (streams β d vs)) ≡ room (streams β d vs)
 unfolding sumOf represent order contents
-lens-total β zero vs = omega (arith, length-append (cells β vs) [], cells-length β vs, cells-len β vs)
+lens-total β zero vs = omega (arith, length-append (cells β vs) [], length-elements β vs, length-data β vs)
 lens-total β (suc d) vs =
     ap sumOf (lens-more β d vs)
     ∙ sumOf-append (map len (streams β d (concat vs))) (length (segments vs) ∷ [])
@@ -75,7 +76,7 @@ lens-total β (suc d) vs =
 pub counted : (β : Base) (d : ℕ) (cs : List ℕ) (vs : List (Val (typeOf β d))) → d < length cs → ((i : ℕ) → getD cs i 0 ≡ 0)
     → take (suc d) (advance β d cs vs) ≡ map len (streams β d vs)
 unfolding advance represent order
-counted β zero cs vs h z = take-suc-set cs 0 (getD cs 0 0 + length vs) h ∙ ap (λ (n : ℕ). n ∷ []) (omega (arith, z 0, cells-len β vs))
+counted β zero cs vs h z = take-suc-set cs 0 (getD cs 0 0 + length vs) h ∙ ap (λ (n : ℕ). n ∷ []) (omega (arith, z 0, length-data β vs))
 counted β (suc d) cs vs h z =
     let n : getD cs (suc d) 0 + length (segments vs) ≡ length (segments vs) = omega (arith, z (suc d)) in
     take-suc-set (advance β d cs (concat vs)) (suc d) (getD cs (suc d) 0 + length (segments vs))
@@ -121,7 +122,7 @@ lay-placed β (suc d) a b cs vs p =
 
 under-placed : (β : Base) (d a : ℕ) (cs : List ℕ) (vs : List (Val (typeOf β d))) → Placed β d a cs vs → Under β d cs vs (a + room (streams β d vs))
 unfolding Placed Under represent order contents
-under-placed β zero a cs vs p = omega (arith, p, length-append (cells β vs) [], cells-length β vs)
+under-placed β zero a cs vs p = omega (arith, p, length-append (cells β vs) [], length-elements β vs)
 under-placed β (suc d) a cs vs p = (
   under-more β d cs (concat vs) (a + room (streams β d (concat vs))) (a + room (streams β (suc d) vs)) (omega (arith, room-more β d vs))
       (under-placed β d a cs (concat vs) (p .0)),
