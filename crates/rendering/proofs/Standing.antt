@@ -12,12 +12,16 @@ use lib.IntN.{ℤ, pos}
 use lib.ListN.{length, getD, set, take, drop, replicate, length-append, length-replicate, drop-of-length-le}
 use lib.Seq.{drop-cons, take-take, take-append-seam, getD-set-same, getD-set-other}
 use native.Mathlib.Nat.{add-zero}
-use Rattle.snesl.specs.Values.{Val}
+use Rattle.snesl.specs.declared.code.Base.{Base}
+use Rattle.snesl.specs.declared.code.Base.the-variants as base
+use Rattle.snesl.specs.Values.{typeOf, Element, Val}
 use Rattle.snesl.specs.Streams.{bit}
 use Rattle.snesl.specs.Representation.{concat, segments}
-use Rattle.valuetext.specs.Laying.{advance}
+use Rattle.snesl.proofs.Representing.Elements.{length-elements, elements-append}
+use Rattle.valuetext.specs.Laying.{cells, advance}
+use Rattle.valuetext.specs.Reading.{cell}
 use Rattle.rendering.specs.Standing.{StandsAt, Stands}
-use Rattle.valuetext.proofs.Laying.{concat-append, bits-append, bits-length, length-advance}
+use Rattle.valuetext.proofs.Laying.{cells-more, concat-append, bits-append, bits-length, length-advance}
 
 -- ---- elements at a place
 
@@ -61,27 +65,30 @@ stands-behind b c (x ∷ xs) ys s =
 
 -- ---- streams of values
 
-pub stands-set : (d i x : ℕ) (b : List ℤ) (cs : List ℕ) (vs : List (Val d)) → d < i → Stands d b cs vs → Stands d b (set cs i x) vs
+pub stands-set : (β : Base) (d i x : ℕ) (b : List ℤ) (cs : List ℕ) (vs : List (Val (typeOf β d))) → d < i → Stands β d b cs vs → Stands β d b (set cs i x) vs
 unfolding Stands
-stands-set zero i x b cs vs h s = subst (λ (c : ℕ). StandsAt b c vs) (sym (getD-set-other cs i 0 x 0 (λ e. omega arith))) s
-stands-set (suc d) i x b cs vs h s = (
-  stands-set d i x b cs (concat vs) (omega arith) (s .0),
+stands-set β zero i x b cs vs h s = subst (λ (c : ℕ). StandsAt b c (cells β vs)) (sym (getD-set-other cs i 0 x 0 (λ e. omega arith))) s
+stands-set β (suc d) i x b cs vs h s = (
+  stands-set β d i x b cs (concat vs) (omega arith) (s .0),
   subst (λ (c : ℕ). StandsAt b c (map bit (segments vs))) (sym (getD-set-other cs i (suc d) x 0 (λ e. omega arith))) (s .1),
 )
 
 -- what stands behind some of them
-pub stands-on : (d : ℕ) (b : List ℤ) (cs : List ℕ) (vs ws : List (Val d)) → d < length cs → Stands d b cs (vs ++ ws) → Stands d b (advance d cs vs) ws
+pub stands-on : (β : Base) (d : ℕ) (b : List ℤ) (cs : List ℕ) (vs ws : List (Val (typeOf β d))) → d < length cs → Stands β d b cs (vs ++ ws) → Stands β d b (advance β d cs vs) ws
 unfolding Stands advance
-stands-on zero b cs vs ws h s =
-    subst (λ (c : ℕ). StandsAt b c ws) (sym (getD-set-same cs 0 (getD cs 0 0 + length vs) 0 h)) (stands-behind b (getD cs 0 0) vs ws s)
-stands-on (suc d) b cs vs ws h s =
-    let a : List ℕ = advance d cs (concat vs) in
+stands-on β zero b cs vs ws h s =
+    let g : getD (set cs 0 (getD cs 0 0 + length vs)) 0 0 ≡ getD cs 0 0 + length (cells β vs) =
+    getD-set-same cs 0 (getD cs 0 0 + length vs) 0 h ∙ ap (λ (n : ℕ). getD cs 0 0 + n) (sym (length-elements β vs)) in
+    subst (λ (c : ℕ). StandsAt b c (cells β ws)) (sym g)
+    (stands-behind b (getD cs 0 0) (cells β vs) (cells β ws) (subst (StandsAt b (getD cs 0 0)) (elements-append β vs ws) s))
+stands-on β (suc d) b cs vs ws h s =
+    let a : List ℕ = advance β d cs (concat vs) in
     let y : ℕ = getD cs (suc d) 0 + length (segments vs) in
     let g : getD (set a (suc d) y) (suc d) 0 ≡ getD cs (suc d) 0 + length (map bit (segments vs)) =
-    getD-set-same a (suc d) y 0 (subst (λ (n : ℕ). suc d < n) (sym (length-advance d cs (concat vs))) h)
+    getD-set-same a (suc d) y 0 (subst (λ (n : ℕ). suc d < n) (sym (length-advance β d cs (concat vs))) h)
     ∙ ap (λ (n : ℕ). getD cs (suc d) 0 + n) (sym (bits-length vs)) in (
-      stands-set d (suc d) y b a (concat ws) (omega arith)
-          (stands-on d b cs (concat vs) (concat ws) (omega arith) (subst (Stands d b cs) (concat-append vs ws) (s .0))),
+      stands-set β d (suc d) y b a (concat ws) (omega arith)
+          (stands-on β d b cs (concat vs) (concat ws) (omega arith) (subst (Stands β d b cs) (concat-append vs ws) (s .0))),
       subst (λ (c : ℕ). StandsAt b c (map bit (segments ws))) (sym g)
           (stands-behind b (getD cs (suc d) 0) (map bit (segments vs)) (map bit (segments ws))
           (subst (StandsAt b (getD cs (suc d) 0)) (bits-append vs ws) (s .1))),
@@ -129,30 +136,42 @@ same-count b c n m s t p q = go (ltb n m) refl (ltb m n) refl
     go false e true f = absurd (clash (c + m) (flag-item b c n m s p (ltb-true m n f) .1) (flag-end b c m t q .1))
     go false e false f = omega (arith, ltb-false n m e, ltb-false m n f)
 
+-- ---- a scalar's element
+
+pub scalar-head : (β : Base) (b : List ℤ) (c : ℕ) (v : Element β) (vs : List (Element β)) → StandsAt b c (cells β (v ∷ vs)) → Head b c (cell β v) (cells β vs)
+scalar-head β b c v vs s = stands-head b c (cell β v) (cells β vs) (subst (StandsAt b c) (cells-more β v vs) s)
+
+cell-injective : (β : Base) (v w : Element β) → cell β v ≡ cell β w → v ≡ w
+cell-injective base.Int v w e = e
+cell-injective base.Bool false false e = refl
+cell-injective base.Bool false true e = let z : _≡_ {A = ℕ} 0 1 = cc in absurd (omega arith)
+cell-injective base.Bool true false e = let z : _≡_ {A = ℕ} 0 1 = cc in absurd (omega arith)
+cell-injective base.Bool true true e = refl
+
 -- ---- one value only
 
-module _ (d : ℕ) (b : List ℤ)
-    (one : (cs : List ℕ) (v : Val d) (vs : List (Val d)) (w : Val d) (ws : List (Val d)) → d < length cs → Stands d b cs (v ∷ vs) → Stands d b cs (w ∷ ws) → v ≡ w) where
-  same-items : (cs : List ℕ) (xs us ys ws : List (Val d)) → d < length cs → length xs ≡ length ys → Stands d b cs (xs ++ us) → Stands d b cs (ys ++ ws) → xs ≡ ys
+module _ (β : Base) (d : ℕ) (b : List ℤ)
+    (one : (cs : List ℕ) (v : Val (typeOf β d)) (vs : List (Val (typeOf β d))) (w : Val (typeOf β d)) (ws : List (Val (typeOf β d))) → d < length cs → Stands β d b cs (v ∷ vs) → Stands β d b cs (w ∷ ws) → v ≡ w) where
+  same-items : (cs : List ℕ) (xs us ys ws : List (Val (typeOf β d))) → d < length cs → length xs ≡ length ys → Stands β d b cs (xs ++ us) → Stands β d b cs (ys ++ ws) → xs ≡ ys
   same-items cs [] us [] ws h e p q = refl
   same-items cs [] us (y ∷ ys) ws h e p q = absurd (omega arith)
   same-items cs (x ∷ xs) us [] ws h e p q = absurd (omega arith)
   same-items cs (x ∷ xs) us (y ∷ ys) ws h e p q =
       let s : x ≡ y = one cs x (xs ++ us) y (ys ++ ws) h p q in
-      let l : d < length (advance d cs (x ∷ [])) = subst (λ (n : ℕ). d < n) (sym (length-advance d cs (x ∷ []))) h in
-      let r : Stands d b (advance d cs (x ∷ [])) (ys ++ ws) =
-      subst (λ (z : Val d). Stands d b (advance d cs (z ∷ [])) (ys ++ ws)) (sym s) (stands-on d b cs (y ∷ []) (ys ++ ws) h q) in
-      ap₂ (λ (z : Val d) (zs : List (Val d)). z ∷ zs) s
-      (same-items (advance d cs (x ∷ [])) xs us ys ws l (omega arith) (stands-on d b cs (x ∷ []) (xs ++ us) h p) r)
+      let l : d < length (advance β d cs (x ∷ [])) = subst (λ (n : ℕ). d < n) (sym (length-advance β d cs (x ∷ []))) h in
+      let r : Stands β d b (advance β d cs (x ∷ [])) (ys ++ ws) =
+      subst (λ (z : Val (typeOf β d)). Stands β d b (advance β d cs (z ∷ [])) (ys ++ ws)) (sym s) (stands-on β d b cs (y ∷ []) (ys ++ ws) h q) in
+      ap₂ (λ (z : Val (typeOf β d)) (zs : List (Val (typeOf β d))). z ∷ zs) s
+      (same-items (advance β d cs (x ∷ [])) xs us ys ws l (omega arith) (stands-on β d b cs (x ∷ []) (xs ++ us) h p) r)
 
-pub one-value : (d : ℕ) (b : List ℤ) (cs : List ℕ) (v : Val d) (vs : List (Val d)) (w : Val d) (ws : List (Val d)) → d < length cs
-    → Stands d b cs (v ∷ vs) → Stands d b cs (w ∷ ws) → v ≡ w
+pub one-value : (β : Base) (d : ℕ) (b : List ℤ) (cs : List ℕ) (v : Val (typeOf β d)) (vs : List (Val (typeOf β d))) (w : Val (typeOf β d)) (ws : List (Val (typeOf β d))) → d < length cs
+    → Stands β d b cs (v ∷ vs) → Stands β d b cs (w ∷ ws) → v ≡ w
 unfolding Stands concat
-one-value zero b cs v vs w ws h p q =
-    sym (stands-head b (getD cs 0 0) v vs p .is) ∙ stands-head b (getD cs 0 0) w ws q .is
-one-value (suc d) b cs v vs w ws h p q =
+one-value β zero b cs v vs w ws h p q =
+    cell-injective β v w (sym (scalar-head β b (getD cs 0 0) v vs p .is) ∙ scalar-head β b (getD cs 0 0) w ws q .is)
+one-value β (suc d) b cs v vs w ws h p q =
     let n : length v ≡ length w =
     same-count b (getD cs (suc d) 0) (length v) (length w) (map bit (segments vs)) (map bit (segments ws))
     (subst (StandsAt b (getD cs (suc d) 0)) (own-flags v vs) (p .1))
     (subst (StandsAt b (getD cs (suc d) 0)) (own-flags w ws) (q .1)) in
-    same-items d b (one-value d b) cs v (concat vs) w (concat ws) (omega arith) n (p .0) (q .0)
+    same-items β d b (one-value β d b) cs v (concat vs) w (concat ws) (omega arith) n (p .0) (q .0)

@@ -1,13 +1,17 @@
 -- Which streams represent a value, as the definitions of snesl's Representation have it.
 use Prim.Native.Nat.{ℕ, suc, _≤_, _<_}
+use mathlib.Core.Bool.{Bool, _&&_}
 use mathlib.Core.List.{List, []}
 use mathlib.Core.Option.{Option, some, none}
 use mathlib.Core.Path.{_≡_}
+use lib.Dec.{eqb}
 use lib.IntN.{ℤ}
 use lib.ListN.{length, getD, take}
+use Rattle.snesl.specs.declared.code.Base.{Base}
+use Rattle.snesl.specs.declared.code.Base.the-variants as base
 use Rattle.snesl.specs.Machine.{sumOf}
 use Rattle.snesl.specs.Transducers.{flagOf, misfit, countF, alone}
-use Rattle.snesl.specs.Representation.{misfitTree, treeOf}
+use Rattle.snesl.specs.Representation.{areElements, misfitTree, treeOf}
 use Rattle.rendering.specs.declared.fitting.Fit.{Fit}
 use Rattle.rendering.specs.declared.fitting.Fit.the-variants.{Items, No}
 use Rattle.rendering.specs.declared.fitting.Fitting.{Fitting}
@@ -25,8 +29,16 @@ abbrev pub fittingFor : Option ℕ → Fitting
 fittingFor none = Fits
 fittingFor (some j) = Misfit j
 
-abbrev pub fittingOf : (d : ℕ) → (lengths : List ℕ) → List ℤ → Fitting
-fittingOf d ls zs = fittingFor (misfitTree 1 (treeOf d ls zs))
+-- data of n elements of the base
+abbrev pub dataFits : Base → (n : ℕ) → List ℤ → Bool
+dataFits β n zs = eqb (length zs) n && areElements β zs
+
+-- each is the element of a bool
+abbrev pub boolsFit : List ℤ → Bool
+boolsFit zs = areElements base.Bool zs
+
+abbrev pub fittingOf : (β : Base) (d : ℕ) → (lengths : List ℕ) → List ℤ → Fitting
+fittingOf β d ls zs = fittingFor (misfitTree β 1 (treeOf d ls zs))
 
 -- d + 1 streams that make up a row of so many elements, and where each starts
 pub record InRow (d lent : ℕ) (lengths places : List ℕ) : Type 0 where

@@ -1,5 +1,5 @@
--- Streams to value text (01, "Representation by itself", and refusals 3, 11 and 10 in that order), as a function of the streams, their lengths, the depth
--- and what is lent.
+-- Streams to value text (01, "Representation by itself", and refusals 3, 11 and 10 in that order), as a function of the streams, their lengths, the type
+-- and what is lent. A type is a base β and a depth d, as code holds it.
 use Prim.Native.Nat.{ℕ, suc, _+_, _≤_, _<_}
 use mathlib.Core.Bool.{Bool, _&&_}
 use mathlib.Core.List.{List, [], _∷_, _++_}
@@ -8,7 +8,8 @@ use mathlib.Core.Path.{_≡_}
 use lib.Dec.{eqb, leb, ltb}
 use lib.IntN.{ℤ}
 use lib.ListN.{length, drop}
-use Rattle.snesl.specs.Values.{Val}
+use Rattle.snesl.specs.declared.code.Base.{Base}
+use Rattle.snesl.specs.Values.{ValueType, depthOf, baseOf, typeOf, Val}
 use Rattle.snesl.specs.Machine.{sumOf}
 use Rattle.snesl.specs.Representation.{misfitTree, values, treeOf}
 use Rattle.snesl.specs.Text.{show}
@@ -28,16 +29,16 @@ abbrev pub mostLent : ℕ
 mostLent = 1048576
 
 -- the streams of some value stand at these places
-pub record ValueStands (d : ℕ) (b : List ℤ) (places : List ℕ) : Type 0 where
-  pub value : Val d
-  pub stands : Stands d b places (value ∷ [])
+pub record ValueStands (β : Base) (d : ℕ) (b : List ℤ) (places : List ℕ) : Type 0 where
+  pub value : Val (typeOf β d)
+  pub stands : Stands β d b places (value ∷ [])
   pub shallow : d ≤ mostDepth
   pub levels : d < length places
   pub lent : length b ≤ mostLent
 
 -- whichever value's they are, its text was written from the front on
-pub record ShowsValue (d : ℕ) (b : List ℤ) (places : List ℕ) (old new : List ℕ) (next : ℕ) : Type 0 where
-  pub written : (v : Val d) → Stands d b places (v ∷ []) → Writes old new 0 (show d v) next
+pub record ShowsValue (β : Base) (d : ℕ) (b : List ℤ) (places : List ℕ) (old new : List ℕ) (next : ℕ) : Type 0 where
+  pub written : (v : Val (typeOf β d)) → Stands β d b places (v ∷ []) → Writes old new 0 (show (typeOf β d) v) next
 
 -- ---- the whole
 
@@ -57,16 +58,17 @@ textIn t old =
     (refusedAs (NoAnswerRoom (length t)) old)
 
 -- the text of the one value; fitting streams have no other number of values
-abbrev pub oneText : (d : ℕ) → List (Val d) → List ℕ → Rendering
-oneText d [] old = refusedAs (NoRepresentation (suc d)) old
-oneText d (v ∷ vs) old = textIn (show d v) old
+abbrev pub oneText : (τ : ValueType) → List (Val τ) → List ℕ → Rendering
+oneText τ [] old = refusedAs (NoRepresentation (suc (depthOf τ))) old
+oneText τ (v ∷ vs) old = textIn (show τ v) old
 
-abbrev pub fittingText : (d : ℕ) → Option ℕ → List (Val d) → List ℕ → Rendering
-fittingText d none vs old = oneText d vs old
-fittingText d (some j) vs old = refusedAs (NoRepresentation j) old
+abbrev pub fittingText : (τ : ValueType) → Option ℕ → List (Val τ) → List ℕ → Rendering
+fittingText τ none vs old = oneText τ vs old
+fittingText τ (some j) vs old = refusedAs (NoRepresentation j) old
 
-abbrev pub rowText : List ℤ → List ℕ → (d : ℕ) → List ℕ → Rendering
-rowText zs ls d old = fittingText d (misfitTree 1 (treeOf d ls zs)) (values (treeOf d ls zs)) old
+abbrev pub rowText : List ℤ → List ℕ → (τ : ValueType) → List ℕ → Rendering
+rowText zs ls τ old =
+    fittingText τ (misfitTree (baseOf τ) 1 (treeOf (depthOf τ) ls zs)) (values τ (treeOf (depthOf τ) ls zs)) old
 
 -- d + 1 lengths that add up to what is lent, within the limit
 pub record Row (d : ℕ) (lengths : List ℕ) (lent : ℕ) : Type 0 where
@@ -78,8 +80,8 @@ pub record Row (d : ℕ) (lengths : List ℕ) (lent : ℕ) : Type 0 where
 abbrev pub rightLengths : List ℕ → (d lent : ℕ) → Bool
 rightLengths ls d lent = eqb (length ls) (suc d) && (eqb (sumOf ls) lent && leb (sumOf ls) mostElements)
 
-abbrev pub toText : List ℤ → List ℕ → (d : ℕ) → List ℕ → Rendering
-toText zs ls d old =
+abbrev pub toText : List ℤ → List ℕ → (β : Base) (d : ℕ) → List ℕ → Rendering
+toText zs ls β d old =
     pick (ltb mostDepth d)
     (refusedAs (OverLimit 0) old)
-    (pick (rightLengths ls d (length zs)) (rowText zs ls d old) (refusedAs (NoRepresentation (suc d)) old))
+    (pick (rightLengths ls d (length zs)) (rowText zs ls (typeOf β d) old) (refusedAs (NoRepresentation (suc d)) old))

@@ -35,19 +35,35 @@ slice-aggregate-value-text-2 : tie.Need-slice-aggregate-value-text-2
 slice-aggregate-value-text-2 c = search (needs, length-take-le)
 
 value-text-requires : tie.Need-value-text-requires
-value-text-requires c κs = row-stands (c .before .before .before .before .before .before .before .before .before .before .before .args .elements .now) (c .before .before .before .before .before .before .before .before .before .before .before .args .answer .now) (c .before .before .before .before .before .before .before .before .before .before .before .pre) (sym (c .before .before .enum-told .given .1) ∙ c .before .before .before .before .first-misfit .ensures) (c .before .before .before .before .before .before .before .starts .last .1 .1 .1 .0) (c .before .before .before .before .before .before .before .starts .kept .1 .1 .1 .0) (c .before .before .before .before .before .before .before .starts .ensures .0)
+value-text-requires c κs =
+    let at-enum-told = c .before .before in
+    let at-first-misfit = at-enum-told .before .before in
+    let at-starts = at-first-misfit .before .before .before in
+    let at-start = at-starts .before .before .before .before in
+    row-stands (at-start .args .elements .now) (at-start .args .base) (at-start .args .answer .now) (at-start .pre) (sym (at-enum-told .enum-told .given .1) ∙ at-first-misfit .first-misfit .ensures) (at-starts .starts .last .1 .1 .1 .0) (at-starts .starts .kept .1 .1 .1 .0) (at-starts .starts .ensures .0)
 
 same-length : tie.Need-same-length
 same-length c = search needs
 
 returns : tie.Need-returns
-returns c = row-long (c .before .before .before .before .before .before .before .before .before .before .before .before .before .before .before .args .elements .now) (c .before .before .before .before .before .before .before .before .before .before .before .before .before .before .before .args .answer .now) (c .before .before .before .before .before .before .before .before .before .before .before .before .before .before .before .pre) (sym (c .before .before .before .before .before .before .enum-told .given .1) ∙ c .before .before .before .before .before .before .before .before .first-misfit .ensures) (c .before .before .before .before .before .before .before .before .before .before .before .starts .last .1 .1 .1 .0) (c .before .before .before .before .before .before .before .before .before .before .before .starts .kept .1 .1 .1 .0) (c .before .before .before .before .before .before .before .before .before .before .before .starts .ensures .0) (c .before .before .before .value-text .ensures) (c .if1 .taken)
+returns c =
+    let at-value-text = c .before .before .before in
+    let at-enum-told = at-value-text .before .before .before in
+    let at-first-misfit = at-enum-told .before .before in
+    let at-starts = at-first-misfit .before .before .before in
+    let at-start = at-starts .before .before .before .before in
+    row-long (at-start .args .elements .now) (at-start .args .base) (at-start .args .answer .now) (at-start .pre) (sym (at-enum-told .enum-told .given .1) ∙ at-first-misfit .first-misfit .ensures) (at-starts .starts .last .1 .1 .1 .0) (at-starts .starts .kept .1 .1 .1 .0) (at-starts .starts .ensures .0) (at-value-text .value-text .ensures) (c .if1 .taken)
 
 slice-aggregate-value-text-3 : tie.Need-slice-aggregate-value-text-3
 slice-aggregate-value-text-3 c = search needs
 
 value-text-requires-2 : tie.Need-value-text-requires-2
-value-text-requires-2 c κs = row-stands (c .before .before .before .before .before .before .before .before .before .before .before .before .before .before .before .before .before .args .elements .now) (c .before .before .before .before .before .before .before .before .before .before .before .before .before .before .before .before .before .args .answer .now) (c .before .before .before .before .before .before .before .before .before .before .before .before .before .before .before .before .before .pre) (sym (c .before .before .before .before .before .before .before .before .enum-told .given .1) ∙ c .before .before .before .before .before .before .before .before .before .before .first-misfit .ensures) (c .before .before .before .before .before .before .before .before .before .before .before .before .before .starts .last .1 .1 .1 .0) (c .before .before .before .before .before .before .before .before .before .before .before .before .before .starts .kept .1 .1 .1 .0) (c .before .before .before .before .before .before .before .before .before .before .before .before .before .starts .ensures .0)
+value-text-requires-2 c κs =
+    let at-enum-told = c .before .before .before .before .before .before .before .before in
+    let at-first-misfit = at-enum-told .before .before in
+    let at-starts = at-first-misfit .before .before .before in
+    let at-start = at-starts .before .before .before .before in
+    row-stands (at-start .args .elements .now) (at-start .args .base) (at-start .args .answer .now) (at-start .pre) (sym (at-enum-told .enum-told .given .1) ∙ at-first-misfit .first-misfit .ensures) (at-starts .starts .last .1 .1 .1 .0) (at-starts .starts .kept .1 .1 .1 .0) (at-starts .starts .ensures .0)
 
 enum-known-level : tie.Need-enum-known-level
 enum-known-level c = search needs
@@ -56,10 +72,23 @@ same-length-2 : tie.Need-same-length-2
 same-length-2 c = search needs
 
 returns-2 : tie.Need-returns-2
-returns-2 c = row-written (c .before .before .before .before .before .before .before .before .before .before .before .before .before .before .before .before .before .before .before .before .args .elements .now) (c .before .before .before .before .before .before .before .before .before .before .before .before .before .before .before .before .before .before .before .before .args .answer .now) (c .before .before .before .before .before .before .before .before .before .before .before .before .before .before .before .before .before .before .before .before .pre) (sym (c .before .before .before .before .before .before .before .before .before .before .before .enum-told .given .1) ∙ c .before .before .before .before .before .before .before .before .before .before .before .before .before .first-misfit .ensures) (c .before .before .before .before .before .before .before .before .before .before .before .before .before .before .before .before .starts .last .1 .1 .1 .0) (c .before .before .before .before .before .before .before .before .before .before .before .before .before .before .before .before .starts .kept .1 .1 .1 .0) (c .before .before .before .before .before .before .before .before .before .before .before .before .before .before .before .before .starts .ensures .0) (c .before .before .before .before .before .before .before .before .value-text .ensures) (c .before .before .before .before .before .if1 .left) (c .before .before .value-text2 .ensures)
+returns-2 c =
+    let at-value-text2 = c .before .before in
+    let at-if1 = at-value-text2 .before .before .before in
+    let at-value-text = at-if1 .before .before .before in
+    let at-enum-told = at-value-text .before .before .before in
+    let at-first-misfit = at-enum-told .before .before in
+    let at-starts = at-first-misfit .before .before .before in
+    let at-start = at-starts .before .before .before .before in
+    row-written (at-start .args .elements .now) (at-start .args .base) (at-start .args .answer .now) (at-start .pre) (sym (at-enum-told .enum-told .given .1) ∙ at-first-misfit .first-misfit .ensures)
+    (at-starts .starts .last .1 .1 .1 .0) (at-starts .starts .kept .1 .1 .1 .0) (at-starts .starts .ensures .0) (at-value-text .value-text .ensures) (at-if1 .if1 .left) (at-value-text2 .value-text2 .ensures)
 
 returns-3 : tie.Need-returns-3
-returns-3 c = row-misfit (c .before .before .before .before .before .before .before .before .before .before .args .elements .now) (c .before .before .before .before .before .before .before .before .before .before .args .answer .now) (c .before .before .before .before .before .before .before .before .before .before .pre) (sym (c .before .level .given .1) ∙ c .before .before .before .first-misfit .ensures)
+returns-3 c =
+    let at-level = c .before in
+    let at-first-misfit = at-level .before .before in
+    let at-start = at-first-misfit .before .before .before .before .before .before .before in
+    row-misfit (at-start .args .elements .now) (at-start .args .base) (at-start .args .answer .now) (at-start .pre) (sym (at-level .level .given .1) ∙ at-first-misfit .first-misfit .ensures)
 
 pub row-to-text-spec : {M : Type 1} → statement M
 row-to-text-spec =

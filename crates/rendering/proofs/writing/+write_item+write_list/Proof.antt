@@ -22,10 +22,10 @@ use Rattle.rendering.proofs.writing.+write_item+write_list.{statement}
 use Rattle.rendering.proofs.writing.+write_item+write_list.Tie.{close}
 
 abbrev μ-write-item : Measures 3 write-item-kinds.ps ℕ
-μ-write-item κs a = a .1 .0 + a .1 .0 + 1
+μ-write-item κs a = a .1 .1 .0 + a .1 .1 .0 + 1
 
 abbrev μ-write-list : Measures 3 write-list-kinds.ps ℕ
-μ-write-list κs a = a .1 .0 + a .1 .0
+μ-write-list κs a = a .1 .1 .0 + a .1 .1 .0
 
 abbrev write-item-at : ℕ → In 3 write-item-kinds.ps
 write-item-at t =
@@ -108,10 +108,10 @@ write-item-returns-2 : (t : ℕ) → write-item-lts.Need-returns-2 (
 write-item-returns-2 t c = c .before .before .before .before .write-list .ensures
 
 abbrev write-list-Inv-loop : write-list-lts.InvT-loop
-write-list-Inv-loop elements depth cursors₀ answer₀ at next₀ mark₀ cursors answer next mark = Enlisting (depth - 1) elements cursors₀ cursors answer₀ answer at next mark
+write-list-Inv-loop elements base depth cursors₀ answer₀ at next₀ mark₀ cursors answer next mark = Enlisting base (depth - 1) elements cursors₀ cursors answer₀ answer at next mark
 
 abbrev write-list-μ-loop : write-list-lts.MeasureT-loop
-write-list-μ-loop elements depth cursors₀ answer₀ at next₀ mark₀ cursors answer next mark = length elements - getD cursors depth 0
+write-list-μ-loop elements base depth cursors₀ answer₀ at next₀ mark₀ cursors answer next mark = length elements - getD cursors depth 0
 
 write-list-loop-holds : (t : ℕ) → write-list-lts.Need-loop-holds (
   stops-reads.Asked,
@@ -141,7 +141,12 @@ write-list-put-requires : (t : ℕ) → write-list-lts.Need-put-requires (
   write-item-below t,
   write-item.Post,
 ) (write-list-at t) write-list.Post write-list-Inv-loop write-list-μ-loop
-write-list-put-requires t c κs = omega (arith, end-short-at (deeper (c .before .before .before .before .before .before .before .before .before .before .args .depth) (c .before .before .before .before .before .before .before .before .before .before .pre .1 .1)) (c .before .before .before .before .before .before .before .loop .inv) (c .before .before .before .before .before .stops .ensures .1) (sym (c .before .before .before .before .before .stops .ensures .0) ∙ c .before .before .if1 .taken))
+write-list-put-requires t c κs =
+    let at-if1 = c .before .before in
+    let at-stops = at-if1 .before .before .before in
+    let at-loop = at-stops .before .before in
+    let at-start = at-loop .before .before .before in
+    omega (arith, end-short-at (deeper (at-start .args .depth) (at-start .pre .1 .1)) (at-loop .loop .inv) (at-stops .stops .ensures .1) (sym (at-stops .stops .ensures .0) ∙ at-if1 .if1 .taken))
 
 write-list-same-length : (t : ℕ) → write-list-lts.Need-same-length (
   stops-reads.Asked,
@@ -171,7 +176,14 @@ write-list-returns : (t : ℕ) → write-list-lts.Need-returns (
   write-item-below t,
   write-item.Post,
 ) (write-list-at t) write-list.Post write-list-Inv-loop write-list-μ-loop
-write-list-returns t c = closed-at (deeper (c .before .before .before .before .before .before .before .before .before .before .before .before .before .args .depth) (c .before .before .before .before .before .before .before .before .before .before .before .before .before .pre .1 .1)) (c .before .before .before .before .before .before .before .before .before .before .loop .inv) (c .before .before .before .before .before .before .before .before .stops .ensures .1) (sym (c .before .before .before .before .before .before .before .before .stops .ensures .0) ∙ c .before .before .before .before .before .if1 .taken) (c .before .before .before .before .if2 .taken) (c .before .before .put .ensures)
+write-list-returns t c =
+    let at-put = c .before .before in
+    let at-if2 = at-put .before .before in
+    let at-if1 = at-if2 .before in
+    let at-stops = at-if1 .before .before .before in
+    let at-loop = at-stops .before .before in
+    let at-start = at-loop .before .before .before in
+    closed-at (deeper (at-start .args .depth) (at-start .pre .1 .1)) (at-loop .loop .inv) (at-stops .stops .ensures .1) (sym (at-stops .stops .ensures .0) ∙ at-if1 .if1 .taken) (at-if2 .if2 .taken) (at-put .put .ensures)
 
 write-list-put-requires-2 : (t : ℕ) → write-list-lts.Need-put-requires-2 (
   stops-reads.Asked,
@@ -181,7 +193,12 @@ write-list-put-requires-2 : (t : ℕ) → write-list-lts.Need-put-requires-2 (
   write-item-below t,
   write-item.Post,
 ) (write-list-at t) write-list.Post write-list-Inv-loop write-list-μ-loop
-write-list-put-requires-2 t c κs = omega (arith, end-short-at (deeper (c .before .before .before .before .before .before .before .before .before .before .args .depth) (c .before .before .before .before .before .before .before .before .before .before .pre .1 .1)) (c .before .before .before .before .before .before .before .loop .inv) (c .before .before .before .before .before .stops .ensures .1) (sym (c .before .before .before .before .before .stops .ensures .0) ∙ c .before .before .if1 .taken))
+write-list-put-requires-2 t c κs =
+    let at-if1 = c .before .before in
+    let at-stops = at-if1 .before .before .before in
+    let at-loop = at-stops .before .before in
+    let at-start = at-loop .before .before .before in
+    omega (arith, end-short-at (deeper (at-start .args .depth) (at-start .pre .1 .1)) (at-loop .loop .inv) (at-stops .stops .ensures .1) (sym (at-stops .stops .ensures .0) ∙ at-if1 .if1 .taken))
 
 write-list-put-requires-3 : (t : ℕ) → write-list-lts.Need-put-requires-3 (
   stops-reads.Asked,
@@ -191,7 +208,13 @@ write-list-put-requires-3 : (t : ℕ) → write-list-lts.Need-put-requires-3 (
   write-item-below t,
   write-item.Post,
 ) (write-list-at t) write-list.Post write-list-Inv-loop write-list-μ-loop
-write-list-put-requires-3 t c κs = omega (arith, end-short-at (deeper (c .before .before .before .before .before .before .before .before .before .before .before .before .before .before .args .depth) (c .before .before .before .before .before .before .before .before .before .before .before .before .before .before .pre .1 .1)) (c .before .before .before .before .before .before .before .before .before .before .before .loop .inv) (c .before .before .before .before .before .before .before .before .before .stops .ensures .1) (sym (c .before .before .before .before .before .before .before .before .before .stops .ensures .0) ∙ c .before .before .before .before .before .before .if1 .taken), c .before .before .before .put2 .ensures .count)
+write-list-put-requires-3 t c κs =
+    let at-put2 = c .before .before .before in
+    let at-if1 = at-put2 .before .before .before in
+    let at-stops = at-if1 .before .before .before in
+    let at-loop = at-stops .before .before in
+    let at-start = at-loop .before .before .before in
+    omega (arith, end-short-at (deeper (at-start .args .depth) (at-start .pre .1 .1)) (at-loop .loop .inv) (at-stops .stops .ensures .1) (sym (at-stops .stops .ensures .0) ∙ at-if1 .if1 .taken), at-put2 .put2 .ensures .count)
 
 write-list-same-length-3 : (t : ℕ) → write-list-lts.Need-same-length-3 (
   stops-reads.Asked,
@@ -221,7 +244,15 @@ write-list-returns-2 : (t : ℕ) → write-list-lts.Need-returns-2 (
   write-item-below t,
   write-item.Post,
 ) (write-list-at t) write-list.Post write-list-Inv-loop write-list-μ-loop
-write-list-returns-2 t c = empty-at (deeper (c .before .before .before .before .before .before .before .before .before .before .before .before .before .before .before .before .before .args .depth) (c .before .before .before .before .before .before .before .before .before .before .before .before .before .before .before .before .before .pre .1 .1)) (c .before .before .before .before .before .before .before .before .before .before .before .before .before .before .loop .inv) (c .before .before .before .before .before .before .before .before .before .before .before .before .stops .ensures .1) (sym (c .before .before .before .before .before .before .before .before .before .before .before .before .stops .ensures .0) ∙ c .before .before .before .before .before .before .before .before .before .if1 .taken) (c .before .before .before .before .before .before .before .before .if2 .left) (c .before .before .before .before .before .before .put2 .ensures) (c .before .before .put3 .ensures)
+write-list-returns-2 t c =
+    let at-put3 = c .before .before in
+    let at-put2 = at-put3 .before .before .before .before in
+    let at-if2 = at-put2 .before .before in
+    let at-if1 = at-if2 .before in
+    let at-stops = at-if1 .before .before .before in
+    let at-loop = at-stops .before .before in
+    let at-start = at-loop .before .before .before in
+    empty-at (deeper (at-start .args .depth) (at-start .pre .1 .1)) (at-loop .loop .inv) (at-stops .stops .ensures .1) (sym (at-stops .stops .ensures .0) ∙ at-if1 .if1 .taken) (at-if2 .if2 .left) (at-put2 .put2 .ensures) (at-put3 .put3 .ensures)
 
 write-list-put-requires-4 : (t : ℕ) → write-list-lts.Need-put-requires-4 (
   stops-reads.Asked,
@@ -231,7 +262,12 @@ write-list-put-requires-4 : (t : ℕ) → write-list-lts.Need-put-requires-4 (
   write-item-below t,
   write-item.Post,
 ) (write-list-at t) write-list.Post write-list-Inv-loop write-list-μ-loop
-write-list-put-requires-4 t c κs = omega (arith, mark-short-at (deeper (c .before .before .before .before .before .before .before .before .before .args .depth) (c .before .before .before .before .before .before .before .before .before .pre .1 .1)) (c .before .before .before .before .before .before .loop .inv) (c .before .before .before .before .stops .ensures .1) (sym (c .before .before .before .before .stops .ensures .0) ∙ c .before .if1 .left))
+write-list-put-requires-4 t c κs =
+    let at-if1 = c .before in
+    let at-stops = at-if1 .before .before .before in
+    let at-loop = at-stops .before .before in
+    let at-start = at-loop .before .before .before in
+    omega (arith, mark-short-at (deeper (at-start .args .depth) (at-start .pre .1 .1)) (at-loop .loop .inv) (at-stops .stops .ensures .1) (sym (at-stops .stops .ensures .0) ∙ at-if1 .if1 .left))
 
 write-list-sub-write-item : (t : ℕ) → write-list-lts.Need-sub-write-item (
   stops-reads.Asked,
@@ -251,7 +287,13 @@ write-list-write-item-requires : (t : ℕ) → write-list-lts.Need-write-item-re
   write-item-below t,
   write-item.Post,
 ) (write-list-at t) write-list.Post write-list-Inv-loop write-list-μ-loop
-write-list-write-item-requires t c κs = (omega (arith, c .before .before .before .before .before .before .before .before .before .before .before .before .before .before .pre .0, c .before .before .before .before .before .before .before .before .before .before .before .before .before .before .pre .1 .1), item-showable-at (deeper (c .before .before .before .before .before .before .before .before .before .before .before .before .before .before .args .depth) (c .before .before .before .before .before .before .before .before .before .before .before .before .before .before .pre .1 .1)) (c .before .before .before .before .before .before .before .before .before .before .before .loop .inv) (c .before .before .before .before .before .before .before .before .before .stops .ensures .1) (sym (c .before .before .before .before .before .before .before .before .before .stops .ensures .0) ∙ c .before .before .before .before .before .before .if1 .left) (c .before .before .before .before .put4 .ensures))
+write-list-write-item-requires t c κs =
+    let at-put4 = c .before .before .before .before in
+    let at-if1 = at-put4 .before .before in
+    let at-stops = at-if1 .before .before .before in
+    let at-loop = at-stops .before .before in
+    let at-start = at-loop .before .before .before in
+    (omega (arith, at-start .pre .0, at-start .pre .1 .1), item-showable-at (deeper (at-start .args .depth) (at-start .pre .1 .1)) (at-loop .loop .inv) (at-stops .stops .ensures .1) (sym (at-stops .stops .ensures .0) ∙ at-if1 .if1 .left) (at-put4 .put4 .ensures))
 
 write-list-loop-less : (t : ℕ) → write-list-lts.Need-loop-less (
   stops-reads.Asked,
@@ -261,7 +303,14 @@ write-list-loop-less : (t : ℕ) → write-list-lts.Need-loop-less (
   write-item-below t,
   write-item.Post,
 ) (write-list-at t) write-list.Post write-list-Inv-loop write-list-μ-loop
-write-list-loop-less t c = omega (arith, moved-on-at (deeper (c .before .before .before .before .before .before .before .before .before .before .before .before .before .before .before .before .before .before .before .args .depth) (c .before .before .before .before .before .before .before .before .before .before .before .before .before .before .before .before .before .before .before .pre .1 .1)) (c .before .before .before .before .before .before .before .before .before .before .before .before .before .before .before .before .loop .inv) (c .before .before .before .before .before .before .before .before .before .before .before .before .before .before .stops .ensures .1) (sym (c .before .before .before .before .before .before .before .before .before .before .before .before .before .before .stops .ensures .0) ∙ c .before .before .before .before .before .before .before .before .before .before .before .if1 .left) (c .before .before .before .before .before .before .before .before .before .put4 .ensures) (c .before .before .before .before .write-item .ensures), flag-inside-at (deeper (c .before .before .before .before .before .before .before .before .before .before .before .before .before .before .before .before .before .before .before .args .depth) (c .before .before .before .before .before .before .before .before .before .before .before .before .before .before .before .before .before .before .before .pre .1 .1)) (c .before .before .before .before .before .before .before .before .before .before .before .before .before .before .before .before .loop .inv) .1)
+write-list-loop-less t c =
+    let at-write-item = c .before .before .before .before in
+    let at-put4 = at-write-item .before .before .before .before .before in
+    let at-if1 = at-put4 .before .before in
+    let at-stops = at-if1 .before .before .before in
+    let at-loop = at-stops .before .before in
+    let at-start = at-loop .before .before .before in
+    omega (arith, moved-on-at (deeper (at-start .args .depth) (at-start .pre .1 .1)) (at-loop .loop .inv) (at-stops .stops .ensures .1) (sym (at-stops .stops .ensures .0) ∙ at-if1 .if1 .left) (at-put4 .put4 .ensures) (at-write-item .write-item .ensures), flag-inside-at (deeper (at-start .args .depth) (at-start .pre .1 .1)) (at-loop .loop .inv) .1)
 
 write-list-loop-again : (t : ℕ) → write-list-lts.Need-loop-again (
   stops-reads.Asked,
@@ -271,7 +320,14 @@ write-list-loop-again : (t : ℕ) → write-list-lts.Need-loop-again (
   write-item-below t,
   write-item.Post,
 ) (write-list-at t) write-list.Post write-list-Inv-loop write-list-μ-loop
-write-list-loop-again t c = enlisting-on-at (deeper (c .before .before .before .before .before .before .before .before .before .before .before .before .before .before .before .before .before .before .before .args .depth) (c .before .before .before .before .before .before .before .before .before .before .before .before .before .before .before .before .before .before .before .pre .1 .1)) (c .before .before .before .before .before .before .before .before .before .before .before .before .before .before .before .before .loop .inv) (c .before .before .before .before .before .before .before .before .before .before .before .before .before .before .stops .ensures .1) (sym (c .before .before .before .before .before .before .before .before .before .before .before .before .before .before .stops .ensures .0) ∙ c .before .before .before .before .before .before .before .before .before .before .before .if1 .left) (c .before .before .before .before .before .before .before .before .before .put4 .ensures) (c .before .before .before .before .write-item .ensures)
+write-list-loop-again t c =
+    let at-write-item = c .before .before .before .before in
+    let at-put4 = at-write-item .before .before .before .before .before in
+    let at-if1 = at-put4 .before .before in
+    let at-stops = at-if1 .before .before .before in
+    let at-loop = at-stops .before .before in
+    let at-start = at-loop .before .before .before in
+    enlisting-on-at (deeper (at-start .args .depth) (at-start .pre .1 .1)) (at-loop .loop .inv) (at-stops .stops .ensures .1) (sym (at-stops .stops .ensures .0) ∙ at-if1 .if1 .left) (at-put4 .put4 .ensures) (at-write-item .write-item .ensures)
 
 pub +write-item+write-list-spec : {M : Type 1} → statement M
 +write-item+write-list-spec = close μ-write-item μ-write-list (λ t. write-item-lts.spec (

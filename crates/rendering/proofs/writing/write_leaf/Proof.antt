@@ -1,4 +1,4 @@
--- An int is one element of the data.
+-- A scalar is one element of the data.
 use mathlib.Core.Path.{refl}
 use native.Mathlib.Omega.{arith}
 use borrow.Author.Needs.{needs, sfits-of}
@@ -22,8 +22,8 @@ mul-z c = omega (arith, leaf-head (c .before .before .before .pre) .inside, c .b
 shared-slice-copy-out-z : tie.Need-shared-slice-copy-out-z
 shared-slice-copy-out-z c = leaf-head (c .before .before .before .pre) .inside
 
-write-int-requires : tie.Need-write-int-requires
-write-int-requires c κs = leaf-short (c .before .before .before .before .before .pre)
+write-scalar-requires : tie.Need-write-scalar-requires
+write-scalar-requires c κs = leaf-short (c .before .before .before .before .before .pre)
 
 same-length : tie.Need-same-length
 same-length c = search needs
@@ -32,7 +32,7 @@ same-length-2 : tie.Need-same-length-2
 same-length-2 c = search needs
 
 returns : tie.Need-returns
-returns c = leaf-shown (c .before .before .before .before .before .before .before .before .pre) (sfits-of (c .before .before .before .before .z .given)) (c .before .before .write-int .ensures) refl
+returns c = leaf-shown (c .before .before .before .before .before .before .before .before .pre) (sfits-of (c .before .before .before .before .z .given)) (c .before .before .write-scalar .ensures) refl
 
 pub write-leaf-spec : {M : Type 1} → statement M
 write-leaf-spec =
@@ -43,7 +43,7 @@ write-leaf-spec =
     slice-write-cursors
     mul-z
     shared-slice-copy-out-z
-    write-int-requires
+    write-scalar-requires
     same-length
     same-length-2
     returns)
