@@ -5,6 +5,7 @@ use checking::check::check;
 use finder::find::find;
 use libc::STDIN_FILENO;
 use libc::STDOUT_FILENO;
+use snesl::code::Base;
 use snesl::refusal::Refusal;
 ghost use mathlib.Core.Path.{_≡_};
 ghost use Prim.Native.Nat.{_≤_};
@@ -76,11 +77,23 @@ fn place(refusal: Refusal) -> usize
     }
 }
 
+// A base is told where it is bool.
+fn print_base(base: Base) {
+    match base {
+        Base::Int => {}
+        Base::Bool => {
+            io::write_all(STDOUT_FILENO, b"bool ");
+        }
+    }
+}
+
 fn print_checked(checked: Checked) {
     match checked {
-        Checked::Depth(depth) => {
+        Checked::Typed(found) => {
+            let base = found.base;
+            print_base(base);
             io::write_all(STDOUT_FILENO, b"depth ");
-            io::print_decimal(STDOUT_FILENO, depth as u64);
+            io::print_decimal(STDOUT_FILENO, found.depth as u64);
         }
         Checked::Refused(refusal) => {
             io::write_all(STDOUT_FILENO, b"refused ");
