@@ -13,6 +13,7 @@ use Rattle.snesl.specs.declared.code.Kind.{Kind}
 use Rattle.snesl.specs.declared.code.Kind.the-variants.{Ints, Flags}
 use Rattle.snesl.specs.declared.code.Transducer.{Transducer}
 use Rattle.snesl.specs.declared.code.Transducer.the-variants.{Const, Usum, ScanPlus}
+use Rattle.snesl.specs.declared.code.Base.the-variants as base
 use Rattle.snesl.specs.declared.refusal.Refusal.{Refusal}
 use Rattle.snesl.specs.Streams.{Stream, ints, units, len, Store, _!_}
 use Rattle.snesl.specs.Programs.{define, done, _⨾_}
@@ -62,7 +63,7 @@ module _ {sp : ℕ} {env : List ℕ} {buf : List ℤ} {state text : List ℕ} {m
 
     pub ones-ready : (at : Operands) → Makes (Const (pos 1)) at env buf state₁ text₁ m (opened (length (m .store) ∷ []) (length (m .store) - 1) [] k)
     ones-ready at =
-        record { executable = record { held = held-told (g .held) (o .machine); placed = tt; more = omega (arith, g .few) }; sunk = open-sunk }
+        record { executable = record { held = held-told (g .held) (o .machine); base = base.Int; placed = tt; more = omega (arith, g .few) }; sunk = open-sunk }
 
     module _ (units : ℕ) {new : List ℤ} {state₂ text₂ : List ℕ} {r : Executed}
         (p : Instructed (stepped (length buf) units (Const (pos 1)) m) (Const (pos 1)) m (opened (length (m .store) ∷ []) (length (m .store) - 1) [] k) buf new state₂ text₂ r) where
@@ -87,7 +88,7 @@ module _ {sp : ℕ} {env : List ℕ} {buf : List ℤ} {state text : List ℕ} {m
           held₃ = held-told (one .held) (c _ (one .sunk) .machine)
 
           pub fill-push : (4 ≤ length state₃) × (1 ≤ getD state₃ 0 0) × (getD state₃ 0 0 < 4294967296) × (made ≤ getD state₃ 1 0) × (getD state₃ 1 0 < 4294967296)
-          fill-push = pushable held₃ (m .store) (ints (items one refl)) (items-stored one refl) refl (items-long one refl)
+          fill-push = pushable held₃ (m .store) (ints (items one base.Int refl)) (items-stored one base.Int refl) refl (items-long one base.Int refl)
 
           pub fill-made : {env′ : List ℕ} → env′ ≡ written (sp - 3) ((getD state₃ 0 0 - 1) ∷ (getD state₃ 1 0 - made) ∷ made ∷ []) env
               → Filled (stepped (length buf) units (Const (pos 1)) m) m k sp env env′ buf new state₃ text₃ (Made made)
@@ -102,13 +103,13 @@ module _ {sp : ℕ} {env : List ℕ} {buf : List ℤ} {state text : List ℕ} {m
                     (zs : List ℤ) × (q .store ≡ m .store ++ ints zs ∷ []) × (Made made ≡ Made (length zs)) × Held q new state₃ × keeps (q .store) buf new
                     × Sunk (filling (length (m .store)) k) text₃ state₃ × (env′ ≡ written (sp - 3) (placeWords (place (q .store) (length (m .store)))) env))
                     same (
-                      items one refl,
-                      items-stored one refl,
-                      ap Made (items-long one refl),
+                      items one base.Int refl,
+                      items-stored one base.Int refl,
+                      ap Made (items-long one base.Int refl),
                       held₃,
                       one .kept,
                       c _ (one .sunk) .sunk,
-                      w ∙ ap (λ l. written (sp - 3) l env) (pushed-words held₃ (m .store) (ints (items one refl)) (items-stored one refl) refl (items-long one refl)),
+                      w ∙ ap (λ l. written (sp - 3) l env) (pushed-words held₃ (m .store) (ints (items one base.Int refl)) (items-stored one base.Int refl) refl (items-long one base.Int refl)),
                     );
                 gave-up = λ why i f. sym e ∙ p .gave-up why i f;
               }
@@ -164,7 +165,7 @@ module _ (n : ℕ) {a sp : ℕ} {env : List ℕ} {buf : List ℤ} {state text : 
   pub units-ready : (q : ℕ) {i : ℕ} → i ≡ a → Makes (Usum (id i)) (record { first = sp - 3; second = q }) env buf state text m k
   units-ready q e =
       subst (λ i. Makes (Usum (id i)) (record { first = sp - 3; second = q }) env buf state text m k) (sym e)
-      (record { executable = record { held = g .held; placed = (g .flagged, tt); more = omega (arith, g .few) }; sunk = g .sunk })
+      (record { executable = record { held = g .held; base = base.Int; placed = (g .flagged, tt); more = omega (arith, g .few) }; sunk = g .sunk })
 
   module _ {b : ℕ} (b-is : b ≡ a) {buf₁ : List ℤ} {state₁ text₁ : List ℕ} {r₁ : Executed}
       (p₁ : Instructed (stepped (length buf) n (Usum (id b)) m) (Usum (id b)) m k buf buf₁ state₁ text₁ r₁) (long : length buf₁ ≡ length buf) where
@@ -285,6 +286,7 @@ module _ (n : ℕ) {a sp : ℕ} {env : List ℕ} {buf : List ℤ} {state text : 
                 executable =
                     record {
                       held = o .held;
+                      base = base.Int;
                       placed = (placed-later (units i ∷ ints (o .zs) ∷ []) (g .flagged) all-stored flags-behind, (ones-placed, tt));
                       more = omega (arith, next-two, g .newest, g .few);
                     };

@@ -13,7 +13,9 @@ use Rattle.snesl.specs.declared.code.Kind.the-variants.{Flags}
 use Rattle.snesl.specs.declared.code.Variable.{Variable}
 use Rattle.snesl.specs.declared.code.Transducer.{Transducer}
 use Rattle.snesl.specs.declared.code.Transducer.the-variants.{ToFlags}
+use Rattle.snesl.specs.declared.code.Base.the-variants as base
 use Rattle.snesl.specs.declared.refusal.Refusal.{Refusal}
+use Rattle.snesl.specs.Values.{int}
 use Rattle.snesl.specs.Terms as terms
 use Rattle.snesl.specs.Terms.{lookup}
 use Rattle.snesl.specs.Trees.{Tree, leaf, root, mapTree}
@@ -42,7 +44,7 @@ use Rattle.leaves.specs.Arms.{Counting, Flagged, countingUp, Counted}
 use Rattle.leaves.proofs.Told.{define-fed}
 use Rattle.leaves.proofs.Places.{place-kept}
 use Rattle.leaves.proofs.Growing.{keeps-then, onward-as, onward-stop}
-use Rattle.leaves.proofs.Operands.{named-there, int-placed}
+use Rattle.leaves.proofs.Operands.{named-there, scalar-placed}
 use Rattle.leaves.proofs.Making.{Making, making, stopping}
 use Rattle.leaves.proofs.Running.{ran-through, ran-stopped, ran-as}
 use Rattle.leaves.proofs.Singles.{pushable, pushed-words, made-shapely}
@@ -90,13 +92,13 @@ module _ {x : Variable} {sp : ℕ} {env : List ℕ} {buf : List ℤ} {state text
   toFlags = ToFlags (id (root (lookup (g .pointer) (g .scene .trees))))
 
   pub flags-named : getD env (p + 2) 0 ≡ root (lookup (g .pointer) (g .scene .trees))
-  flags-named = named-there (int-placed (g .scene) (g .pointer) e)
+  flags-named = named-there (scalar-placed (g .scene) (g .pointer) e)
 
   pub flags-ready : (q : ℕ) → Makes (ToFlags (id (getD env (p + 2) 0))) (record { first = p + 2; second = q }) env buf state text (g .scene .machine) (g .scene .sink)
   flags-ready q =
       subst (λ i. Makes (ToFlags (id i)) (record { first = p + 2; second = q }) env buf state text (g .scene .machine) (g .scene .sink)) (sym flags-named)
       (record {
-        executable = record { held = g .scene .held; placed = (int-placed (g .scene) (g .pointer) e, tt); more = omega (arith, g .few) };
+        executable = record { held = g .scene .held; base = base.Int; placed = (scalar-placed (g .scene) (g .pointer) e, tt); more = omega (arith, g .few) };
         sunk = g .scene .sunk;
       })
 
@@ -246,7 +248,7 @@ module _ {x : Variable} {sp : ℕ} {env : List ℕ} {buf : List ℤ} {state text
                   kept = keeps-then (flags-made .after .store) (end .between ++ ints (end .items) ∷ []) (end .after .store) buf buf₁ buf₂ (flags-made .kept) (end .kept-behind) all-stored;
                   shapely =
                       shapely-node (bits .0)
-                      (subst (λ c. Shapely (end .after .store) 0 (leaf c)) id₃ (made-shapely (end .after) before (end .items) (end .store)))
+                      (subst (λ c. Shapely (end .after .store) int (leaf c)) id₃ (made-shapely (end .after) before base.Int (end .items) (end .store)))
                       flags-still;
                   words = lower ∙ (λ c. items-place c ++ both c);
                 }))

@@ -5,15 +5,27 @@ use mathlib.Core.List.{List, [], _∷_, _++_}
 use mathlib.Core.Option.{some}
 use mathlib.Core.Path.{_≡_, refl, sym, _∙_, ap, ap₂}
 use native.Mathlib.Omega.{arith}
-use lib.IntN.{ℤ}
-use lib.ListN.{length}
+use lib.ListN.{length, length-map}
 use Rattle.snesl.specs.Limits.{mostDepth}
+use Rattle.snesl.specs.declared.code.Base.{Base}
+use Rattle.snesl.specs.declared.code.Base.the-variants as base
+use Rattle.snesl.specs.Values.{ValueType, scalar, braces, depthOf, Element}
 use Rattle.snesl.specs.Terms.{_∋_, here, there, All, _▹_, lookup}
-use Rattle.snesl.specs.Trees.{Tree, leaf, node, root, inner, outer, mapTree}
-use Rattle.snesl.specs.Streams.{Stream, ints, flags, Store, _!_, room}
+use Rattle.snesl.specs.Trees.{Tree, IdTree, leaf, node, root, inner, outer, mapTree}
+use Rattle.snesl.specs.Streams.{Stream, flags, kindOf, dataOf, dataKind, len, bit, elements, Store, _!_, room}
 use Rattle.steps.specs.Holding.{place, startOf, lengthIn, lengthOf}
 use Rattle.steps.proofs.Stores.{named, kept, start-kept, newest, start-newest}
 use Rattle.leaves.specs.Places.{places, Shapely, shapely-leaf, shapely-node, Shaped, shaped-none, shaped-more, Shallow, shallow-more}
+
+-- ---- a data stream of either base
+
+pub data-kind : (b : Base) (vs : List (Element b)) → kindOf (dataOf b vs) ≡ dataKind b
+data-kind base.Int vs = refl
+data-kind base.Bool vs = refl
+
+pub data-full : (b : Base) (vs : List (Element b)) → length (elements (dataOf b vs)) ≡ len (dataOf b vs)
+data-full base.Int vs = refl
+data-full base.Bool vs = length-map vs bit
 
 -- ---- the store grows
 
@@ -24,21 +36,21 @@ module _ (σ τ : Store) where
       let q : lengthOf (σ ++ τ) s ≡ lengthOf σ s = ap lengthIn (kept σ τ s a e ∙ sym e) in
       λ i. record { id = s; first = p i; second = q i }
 
-  pub tree-kept : {d : ℕ} {t : Tree ℕ d} → Shapely σ d t → mapTree (place (σ ++ τ)) t ≡ mapTree (place σ) t
+  pub tree-kept : {υ : ValueType} {t : IdTree υ} → Shapely σ υ t → mapTree (place (σ ++ τ)) t ≡ mapTree (place σ) t
   unfolding mapTree
-  tree-kept (shapely-leaf {s = s} zs e) = ap leaf (place-kept s (ints zs) e)
+  tree-kept (shapely-leaf {b = b} {s = s} vs e) = ap leaf (place-kept s (dataOf b vs) e)
   tree-kept (shapely-node {s = s} bs h e) = ap₂ node (tree-kept h) (place-kept s (flags bs) e)
 
-  pub places-kept : {Γ : List ℕ} {δ : All (Tree ℕ) Γ} → Shaped σ Γ δ → places (σ ++ τ) δ ≡ places σ δ
+  pub places-kept : {Γ : List ValueType} {δ : All IdTree Γ} → Shaped σ Γ δ → places (σ ++ τ) δ ≡ places σ δ
   unfolding places
   places-kept shaped-none = refl
   places-kept (shaped-more h s) = ap₂ _▹_ (tree-kept h) (places-kept s)
 
-  pub shapely-kept : {d : ℕ} {t : Tree ℕ d} → Shapely σ d t → Shapely (σ ++ τ) d t
-  shapely-kept (shapely-leaf {s = s} zs e) = shapely-leaf zs (kept σ τ s (ints zs) e)
+  pub shapely-kept : {υ : ValueType} {t : IdTree υ} → Shapely σ υ t → Shapely (σ ++ τ) υ t
+  shapely-kept (shapely-leaf {b = b} {s = s} vs e) = shapely-leaf vs (kept σ τ s (dataOf b vs) e)
   shapely-kept (shapely-node {s = s} bs h e) = shapely-node bs (shapely-kept h) (kept σ τ s (flags bs) e)
 
-  pub shaped-kept : {Γ : List ℕ} {δ : All (Tree ℕ) Γ} → Shaped σ Γ δ → Shaped (σ ++ τ) Γ δ
+  pub shaped-kept : {Γ : List ValueType} {δ : All IdTree Γ} → Shaped σ Γ δ → Shaped (σ ++ τ) Γ δ
   shaped-kept shaped-none = shaped-none
   shaped-kept (shaped-more h s) = shaped-more (shapely-kept h) (shaped-kept s)
 
@@ -51,17 +63,17 @@ place-newest σ a =
 
 -- ---- a variable's tree
 
-pub lookup-places : {Γ : List ℕ} {d : ℕ} → (σ : Store) (v : Γ ∋ d) (δ : All (Tree ℕ) Γ) → lookup v (places σ δ) ≡ mapTree (place σ) (lookup v δ)
+pub lookup-places : {Γ : List ValueType} {τ : ValueType} → (σ : Store) (v : Γ ∋ τ) (δ : All IdTree Γ) → lookup v (places σ δ) ≡ mapTree (place σ) (lookup v δ)
 unfolding lookup places
 lookup-places σ here (t ▹ δ) = refl
 lookup-places σ (there v) (t ▹ δ) = lookup-places σ v δ
 
-pub lookup-shapely : {σ : Store} {Γ : List ℕ} {δ : All (Tree ℕ) Γ} {d : ℕ} → (v : Γ ∋ d) → Shaped σ Γ δ → Shapely σ d (lookup v δ)
+pub lookup-shapely : {σ : Store} {Γ : List ValueType} {δ : All IdTree Γ} {τ : ValueType} → (v : Γ ∋ τ) → Shaped σ Γ δ → Shapely σ τ (lookup v δ)
 unfolding lookup
 lookup-shapely here (shaped-more h s) = h
 lookup-shapely (there v) (shaped-more h s) = lookup-shapely v s
 
-pub lookup-shallow : {Γ : List ℕ} {d : ℕ} → Γ ∋ d → Shallow Γ → d ≤ mostDepth
+pub lookup-shallow : {Γ : List ValueType} {τ : ValueType} → Γ ∋ τ → Shallow Γ → depthOf τ ≤ mostDepth
 lookup-shallow here (shallow-more h s) = h
 lookup-shallow (there v) (shallow-more h s) = lookup-shallow v s
 
@@ -78,14 +90,14 @@ module _ {A B : Type 0} (f : A → B) where
   unfolding outer mapTree
   outer-map (node t a) = refl
 
-pub root-ints : {σ : Store} {t : Tree ℕ 0} → Shapely σ 0 t → (zs : List ℤ) × (σ ! root t ≡ some (ints zs))
+pub root-data : {σ : Store} {b : Base} {t : Tree ℕ 0} → Shapely σ (scalar b) t → (vs : List (Element b)) × (σ ! root t ≡ some (dataOf b vs))
 unfolding root
-root-ints (shapely-leaf zs e) = (zs, e)
+root-data (shapely-leaf vs e) = (vs, e)
 
-pub outer-flags : {σ : Store} {d : ℕ} {t : Tree ℕ (suc d)} → Shapely σ (suc d) t → (bs : List Bool) × (σ ! outer t ≡ some (flags bs))
+pub outer-flags : {σ : Store} {τ : ValueType} {t : IdTree (braces τ)} → Shapely σ (braces τ) t → (bs : List Bool) × (σ ! outer t ≡ some (flags bs))
 unfolding outer
 outer-flags (shapely-node bs h e) = (bs, e)
 
-pub inner-shapely : {σ : Store} {d : ℕ} {t : Tree ℕ (suc d)} → Shapely σ (suc d) t → Shapely σ d (inner t)
+pub inner-shapely : {σ : Store} {τ : ValueType} {t : IdTree (braces τ)} → Shapely σ (braces τ) t → Shapely σ τ (inner t)
 unfolding inner
 inner-shapely (shapely-node bs h e) = h

@@ -15,17 +15,21 @@ use Rattle.snesl.specs.declared.code.Kind.{Kind}
 use Rattle.snesl.specs.declared.code.Kind.the-variants.{Ints}
 use Rattle.snesl.specs.declared.code.Variable.{Variable}
 use Rattle.snesl.specs.declared.code.Transducer.{Transducer}
-use Rattle.snesl.specs.declared.code.Transducer.the-variants.{Const, MapTwoPlus, SumPlus}
+use Rattle.snesl.specs.declared.code.Transducer.the-variants.{Const, MapTwo, SumPlus}
+use Rattle.snesl.specs.declared.code.Operation.the-variants.{Plus}
+use Rattle.snesl.specs.declared.code.Base.{Base}
+use Rattle.snesl.specs.declared.code.Base.the-variants as base
 use Rattle.snesl.specs.declared.refusal.Refusal.{Refusal}
+use Rattle.snesl.specs.Values.{ValueType, scalar, braces, int, depthOf, Element}
 use Rattle.snesl.specs.Terms.{_∋_, All, lookup}
-use Rattle.snesl.specs.Trees.{Tree, leaf, root, inner, outer, mapTree}
-use Rattle.snesl.specs.Streams.{Stream, ints, len, elements, Store, _!_, room}
-use Rattle.snesl.specs.Transducers.{operands, signature}
+use Rattle.snesl.specs.Trees.{IdTree, leaf, root, inner, outer, mapTree}
+use Rattle.snesl.specs.Streams.{Stream, dataOf, dataKind, len, elements, Store, _!_, room}
+use Rattle.snesl.specs.Transducers.{operands, signature, carried}
 use Rattle.snesl.specs.Programs.{define, done}
 use Rattle.snesl.specs.Machine.{State}
 use Rattle.snesl.specs.Checking.{Name, find, found}
 use Rattle.snesl.specs.Translation.{id, code, tree}
-use Rattle.environment.specs.Words.{Place, placeWords, treeWords, treeSize, Sought, Entry}
+use Rattle.environment.specs.Words.{PlaceTree, placeWords, treeWords, treeSize, Sought, Entry}
 use Rattle.environment.proofs.Stack.{lowered}
 use Rattle.environment.proofs.Finding.{length-tree}
 use Rattle.sink.specs.Sinks.{Sink, defined, feed}
@@ -35,7 +39,7 @@ use Rattle.steps.specs.declared.Operands.{Operands}
 use Rattle.steps.specs.declared.Executed.{Executed}
 use Rattle.steps.specs.declared.Executed.the-variants.{Made, Stopped}
 use Rattle.steps.proofs.Stores.{newest, room-more}
-use Rattle.steps.proofs.Stepping.{ints-of}
+use Rattle.steps.proofs.Stepping.{data-of}
 use Rattle.steps.proofs.Spanning.{place-within}
 use Rattle.steps.proofs.Walking.{walked-one}
 use Rattle.steps.proofs.Executing.{next-id, next-element, four-words}
@@ -49,14 +53,14 @@ use Rattle.leaves.specs.Scenes.{Runs}
 use Rattle.leaves.specs.Making.{Makes, Instructed}
 use Rattle.leaves.specs.Arms.{Named, named-const, named-plus, named-sum, Sole, Located}
 use Rattle.leaves.proofs.Places.{place-newest}
-use Rattle.leaves.proofs.Operands.{sought, named-there, int-placed, flags-placed, data-placed}
+use Rattle.leaves.proofs.Operands.{sought, named-there, scalar-placed, flags-placed, data-placed}
 use Rattle.leaves.proofs.Making.{Making, making, stopping}
 use Rattle.leaves.proofs.Running.{ran-through, ran-stopped, ran-as}
 
 -- ---- a variable
 
 module _ {env : List ℕ} {sp p : ℕ} {x : Variable} (g : Sought env sp x) (e : Entry env sp p (lookup (g .pointer) (g .trees))) where
-  size-is : 3 * getD env (p + 1) 0 + 3 ≡ treeSize (g .depth)
+  size-is : 3 * getD env (p + 1) 0 + 3 ≡ treeSize (depthOf (g .type))
   size-is = ap (λ d. 3 * d + 3) (e .depth)
 
   pub variable-fits : p + 2 + (3 * getD env (p + 1) 0 + 3) ≤ length env
@@ -64,15 +68,15 @@ module _ {env : List ℕ} {sp p : ℕ} {x : Variable} (g : Sought env sp x) (e :
 
   pub variable-words : (next : ℕ) (env′ : List ℕ) → 3 * getD env (p + 1) 0 + 3 ≤ sp → sp ≤ length env
       → env′ ≡ written (sp - (3 * getD env (p + 1) 0 + 3)) (part (p + 2) (3 * getD env (p + 1) 0 + 3) env) env
-      → (walked-as.Tree (getD env (p + 1) 0) next ≡ walked-as.Tree (g .depth) next)
-      × (drop (sp - treeSize (g .depth)) env′ ≡ treeWords (lookup (g .pointer) (g .trees)) ++ drop sp env)
+      → (walked-as.Tree (getD env (p + 1) 0) next ≡ walked-as.Tree (depthOf (g .type)) next)
+      × (drop (sp - treeSize (depthOf (g .type))) env′ ≡ treeWords (lookup (g .pointer) (g .trees)) ++ drop sp env)
   variable-words next env′ low high w =
-      let t : Tree Place (g .depth) = lookup (g .pointer) (g .trees) in
-      let same : env′ ≡ written (sp - treeSize (g .depth)) (treeWords t) env =
-      w ∙ (ap (λ n. written (sp - n) (part (p + 2) n env) env) size-is ∙ ap (λ l. written (sp - treeSize (g .depth)) l env) (e .words)) in (
+      let t : PlaceTree (g .type) = lookup (g .pointer) (g .trees) in
+      let same : env′ ≡ written (sp - treeSize (depthOf (g .type))) (treeWords t) env =
+      w ∙ (ap (λ n. written (sp - n) (part (p + 2) n env) env) size-is ∙ ap (λ l. written (sp - treeSize (depthOf (g .type))) l env) (e .words)) in (
         ap (λ d. walked-as.Tree d next) (e .depth),
-        ap (drop (sp - treeSize (g .depth))) same
-            ∙ lowered env sp (treeSize (g .depth)) (treeWords t) (length-tree t) (omega (arith, size-is)) high,
+        ap (drop (sp - treeSize (depthOf (g .type)))) same
+            ∙ lowered env sp (treeSize (depthOf (g .type))) (treeWords t) (length-tree t) (omega (arith, size-is)) high,
       )
 
 -- ---- the place of a stream that was just made and takes as many elements as it has
@@ -96,36 +100,36 @@ module _ {m : State} {buf : List ℤ} {state : List ℕ} {made : ℕ} (h : Held 
       let f : getD state 1 0 - made ≡ room σ = omega (arith, room-is) in
       (λ j. i j ∷ f j ∷ l j ∷ []) ∙ ap placeWords (sym (place-newest σ a) ∙ ap (λ τ. place τ (length σ)) (sym e))
 
-pub made-shapely : (m : State) (σ : Store) (zs : List ℤ) → m .store ≡ σ ++ ints zs ∷ [] → Shapely (m .store) 0 (leaf (length σ))
-made-shapely m σ zs e = shapely-leaf zs (ap (λ τ. τ ! length σ) e ∙ newest σ (ints zs))
+pub made-shapely : (m : State) (σ : Store) (b : Base) (vs : List (Element b)) → m .store ≡ σ ++ dataOf b vs ∷ [] → Shapely (m .store) (scalar b) (leaf (length σ))
+made-shapely m σ b vs e = shapely-leaf vs (ap (λ τ. τ ! length σ) e ∙ newest σ (dataOf b vs))
 
--- of one instruction that gives ints
+-- of one instruction that gives data
 module _ {cap n : ℕ} {t : Transducer} {m : State} {k : Sink} {old new : List ℤ} {state text : List ℕ} {made : ℕ} (u : Making cap n t m k old new state text made)
-    (g : signature t .output ≡ Ints) where
-  given : (zs : List ℤ) × (u .added-to .stream ≡ ints zs)
-  given = ints-of (u .added-to .stream) (u .added-to .kind ∙ g)
+    (b : Base) (g : signature (carried (m .store) t) t .output ≡ dataKind b) where
+  given : (vs : List (Element b)) × (u .added-to .stream ≡ dataOf b vs)
+  given = data-of b (u .added-to .stream) (u .added-to .kind ∙ g)
 
-  pub items : List ℤ
+  pub items : List (Element b)
   items = given .0
 
-  pub items-stored : u .after .store ≡ m .store ++ ints items ∷ []
+  pub items-stored : u .after .store ≡ m .store ++ dataOf b items ∷ []
   unfolding items
   items-stored = u .added-to .store ∙ ap (λ a. m .store ++ a ∷ []) (given .1)
 
-  pub items-long : made ≡ length items
+  pub items-long : made ≡ len (dataOf b items)
   unfolding items
   items-long = u .long ∙ ap len (given .1)
 
 -- ---- a form by its shape
 
-module _ {Γ : List ℕ} {names : All Name Γ} {δ : All (Tree ℕ) Γ} where
+module _ {Γ : List ValueType} {names : All Name Γ} {δ : All IdTree Γ} where
   const-of : {f : Form} {t : Transducer} {z : ℤ} → Named names δ f t → f ≡ form.Const z → t ≡ Const z
   const-of {z = z} (named-const {z = w}) e = let same : w ≡ z = cc in ap Const same
   const-of (named-plus p q) e = never (cc)
   const-of (named-sum p) e = never (cc)
 
   plus-of : {f : Form} {t : Transducer} {x y : Variable} → Named names δ f t → f ≡ form.Plus x y
-      → (v : Γ ∋ 0) × (w : Γ ∋ 0) × (find x names ≡ found 0 v) × (find y names ≡ found 0 w) × (t ≡ MapTwoPlus (id (root (lookup v δ))) (id (root (lookup w δ))))
+      → (v : Γ ∋ int) × (w : Γ ∋ int) × (find x names ≡ found int v) × (find y names ≡ found int w) × (t ≡ MapTwo Plus (id (root (lookup v δ))) (id (root (lookup w δ))))
   plus-of named-const e = never (cc)
   plus-of {x = x} {y = y} (named-plus {x = x′} {y = y′} {v = v} {w = w} p q) e =
       let one : x ≡ x′ = cc in
@@ -134,23 +138,23 @@ module _ {Γ : List ℕ} {names : All Name Γ} {δ : All (Tree ℕ) Γ} where
   plus-of (named-sum p) e = never (cc)
 
   sum-of : {f : Form} {t : Transducer} {x : Variable} → Named names δ f t → f ≡ form.Sum x
-      → (v : Γ ∋ 1) × (find x names ≡ found 1 v) × (t ≡ SumPlus (id (outer (lookup v δ))) (id (root (inner (lookup v δ)))))
+      → (v : Γ ∋ braces int) × (find x names ≡ found (braces int) v) × (t ≡ SumPlus (id (outer (lookup v δ))) (id (root (inner (lookup v δ)))))
   sum-of named-const e = never (cc)
   sum-of (named-plus p q) e = never (cc)
   sum-of {x = x} (named-sum {x = x′} {v = v} p) e = let one : x ≡ x′ = cc in (v, ap (λ z. find z names) one ∙ p, refl)
 
-  gives-ints : {f : Form} {t : Transducer} → Named names δ f t → signature t .output ≡ Ints
-  gives-ints named-const = refl
-  gives-ints (named-plus p q) = refl
-  gives-ints (named-sum p) = refl
+  gives-ints : {f : Form} {t : Transducer} → Named names δ f t → (b : Base) → signature b t .output ≡ Ints
+  gives-ints named-const b = refl
+  gives-ints (named-plus p q) b = refl
+  gives-ints (named-sum p) b = refl
 
 module _ {f : Form} {sp : ℕ} {env : List ℕ} {buf : List ℤ} {state text : List ℕ} (g : Sole f sp env buf state text) where
   placed-as : (at : Operands) {t : Transducer} → g .transducer ≡ t
-      → Placed (g .scene .machine .store) env (signature t .inputs) (operands t) (positions at) → Located g at
+      → Placed (g .scene .machine .store) env (signature base.Int t .inputs) (operands t) (positions at) → Located g at
   placed-as at e p =
       record {
         placed =
-            subst (λ t. Placed (g .scene .machine .store) env (signature t .inputs) (operands t) (positions at)) (sym e)
+            subst (λ t. Placed (g .scene .machine .store) env (signature base.Int t .inputs) (operands t) (positions at)) (sym e)
             p;
       }
 
@@ -171,7 +175,7 @@ module _ {f : Form} {sp : ℕ} {env : List ℕ} {buf : List ℤ} {state text : L
   plus-located {p = p} {q = q} e h i =
       let o = plus-of (g .named) e in
       placed-as (record { first = p + 2; second = q + 2 }) (o .4)
-      (int-placed (g .scene) (o .0) (h (sought (g .scene) (o .0) (o .2))), (int-placed (g .scene) (o .1) (i (sought (g .scene) (o .1) (o .3))), tt))
+      (scalar-placed (g .scene) (o .0) (h (sought (g .scene) (o .0) (o .2))), (scalar-placed (g .scene) (o .1) (i (sought (g .scene) (o .1) (o .3))), tt))
 
   pub sum-located : {x : Variable} {p : ℕ} → f ≡ form.Sum x → ((s : Sought env sp x) → Entry env sp p (lookup (s .pointer) (s .trees)))
       → Located g (record { first = p + 2 + 3; second = p + 2 })
@@ -182,17 +186,17 @@ module _ {f : Form} {sp : ℕ} {env : List ℕ} {buf : List ℤ} {state text : L
 
   -- the transducer that is made, from the words at those places
   module _ {at : Operands} (l : Located g at) where
-    placed-of : {t : Transducer} → g .transducer ≡ t → Placed (g .scene .machine .store) env (signature t .inputs) (operands t) (positions at)
-    placed-of e = subst (λ t. Placed (g .scene .machine .store) env (signature t .inputs) (operands t) (positions at)) e (l .placed)
+    placed-of : {t : Transducer} → g .transducer ≡ t → Placed (g .scene .machine .store) env (signature base.Int t .inputs) (operands t) (positions at)
+    placed-of e = subst (λ t. Placed (g .scene .machine .store) env (signature base.Int t .inputs) (operands t) (positions at)) e (l .placed)
 
     pub const-chosen : {z : ℤ} → f ≡ form.Const z → SFits w32 z → Const (toZ w32 (ofZ w32 z)) ≡ g .transducer
     const-chosen e h = ap Const (toZ-ofZ h) ∙ sym (const-of (g .named) e)
 
-    pub plus-chosen : {x y : Variable} → f ≡ form.Plus x y → MapTwoPlus (id (getD env (at .first) 0)) (id (getD env (at .second) 0)) ≡ g .transducer
+    pub plus-chosen : {x y : Variable} → f ≡ form.Plus x y → MapTwo Plus (id (getD env (at .first) 0)) (id (getD env (at .second) 0)) ≡ g .transducer
     plus-chosen e =
         let o = plus-of (g .named) e in
         let p = placed-of (o .4) in
-        ap₂ (λ a b. MapTwoPlus (id a) (id b)) (named-there (p .0)) (named-there (p .1 .0)) ∙ sym (o .4)
+        ap₂ (λ a b. MapTwo Plus (id a) (id b)) (named-there (p .0)) (named-there (p .1 .0)) ∙ sym (o .4)
 
     pub sum-chosen : {x : Variable} → f ≡ form.Sum x → SumPlus (id (getD env (at .first) 0)) (id (getD env (at .second) 0)) ≡ g .transducer
     sum-chosen e =
@@ -215,7 +219,7 @@ module _ {f : Form} {sp : ℕ} {env : List ℕ} {buf : List ℤ} {state text : L
         record {
           executable =
               subst (λ t. Executable t at env buf state (g .scene .machine)) (sym e)
-              (record { held = g .scene .held; placed = l .placed; more = omega (arith, g .few) });
+              (record { held = g .scene .held; base = base.Int; placed = l .placed; more = omega (arith, g .few) });
           sunk = g .scene .sunk;
         }
 
@@ -242,12 +246,12 @@ module _ {f : Form} {sp : ℕ} {env : List ℕ} {buf : List ℤ} {state text : L
       done-so : Making (length buf) n (g .transducer) (g .scene .machine) (g .scene .sink) buf new state₁ text₁ made
       done-so = making (length buf) n (g .transducer) own made e
 
-      ints-so : signature (g .transducer) .output ≡ Ints
-      ints-so = gives-ints (g .named)
+      ints-so : signature (carried (g .scene .machine .store) (g .transducer)) (g .transducer) .output ≡ Ints
+      ints-so = gives-ints (g .named) (carried (g .scene .machine .store) (g .transducer))
 
       pub single-push : (4 ≤ length state₁) × (1 ≤ getD state₁ 0 0) × (getD state₁ 0 0 < 4294967296) × (made ≤ getD state₁ 1 0) × (getD state₁ 1 0 < 4294967296)
       single-push =
-          pushable (done-so .held) (g .scene .machine .store) (ints (items done-so ints-so)) (items-stored done-so ints-so) refl (items-long done-so ints-so)
+          pushable (done-so .held) (g .scene .machine .store) (dataOf base.Int (items done-so base.Int ints-so)) (items-stored done-so base.Int ints-so) refl (items-long done-so base.Int ints-so)
 
       pub single-made : {env′ : List ℕ} (next : ℕ) → env′ ≡ written (sp - 3) ((getD state₁ 0 0 - 1) ∷ (getD state₁ 1 0 - made) ∷ made ∷ []) env
           → Runs (g .scene) (g .term) n next env′ new state₁ text₁ (walked-as.Tree 0 next)
@@ -260,10 +264,10 @@ module _ {f : Form} {sp : ℕ} {env : List ℕ} {buf : List ℤ} {state text : L
             held = u .held;
             sunk = u .sunk;
             kept = u .kept;
-            shapely = made-shapely (u .after) (g .scene .machine .store) (items u ints-so) (items-stored u ints-so);
+            shapely = made-shapely (u .after) (g .scene .machine .store) base.Int (items u base.Int ints-so) (items-stored u base.Int ints-so);
             words =
                 ap (drop (sp - 3)) w
                 ∙ (lowered env sp 3 ((getD state₁ 0 0 - 1) ∷ (getD state₁ 1 0 - made) ∷ made ∷ []) refl (g .low) (g .scene .within)
                 ∙ ap (λ l. l ++ drop sp env)
-                (pushed-words (u .held) (g .scene .machine .store) (ints (items u ints-so)) (items-stored u ints-so) refl (items-long u ints-so)));
+                (pushed-words (u .held) (g .scene .machine .store) (dataOf base.Int (items u base.Int ints-so)) (items-stored u base.Int ints-so) refl (items-long u base.Int ints-so)));
           }))

@@ -9,9 +9,12 @@ use Rattle.snesl.specs.declared.code.Kind.the-variants.{Flags}
 use Rattle.snesl.specs.declared.code.Variable.{Variable}
 use Rattle.snesl.specs.declared.code.Transducer.{Transducer}
 use Rattle.snesl.specs.declared.code.Transducer.the-variants as transducer
+use Rattle.snesl.specs.declared.code.Base.the-variants.{Int}
+use Rattle.snesl.specs.declared.code.Operation.the-variants.{Plus}
+use Rattle.snesl.specs.Values.{ValueType, braces, int}
 use Rattle.snesl.specs.Terms.{_∋_, Term, All, lookup}
 use Rattle.snesl.specs.Checking.{Name, find, found}
-use Rattle.snesl.specs.Trees.{Tree, leaf, root, inner, outer}
+use Rattle.snesl.specs.Trees.{IdTree, leaf, root, inner, outer}
 use Rattle.snesl.specs.Transducers.{operands, signature}
 use Rattle.snesl.specs.Streams.{Stream, ints, Store}
 use Rattle.snesl.specs.Programs.{Program, define, done, _⨾_}
@@ -30,17 +33,17 @@ use Rattle.leaves.specs.declared.Form.the-variants as form
 use Rattle.leaves.specs.Scenes.{Scene}
 
 -- the transducer that a form stands for, over the variables that it names
-pub data Named {Γ : List ℕ} (names : All Name Γ) (δ : All (Tree ℕ) Γ) : Form → Transducer → Type 0 where
+pub data Named {Γ : List ValueType} (names : All Name Γ) (δ : All IdTree Γ) : Form → Transducer → Type 0 where
   named-const : {z : ℤ} → Named names δ (form.Const z) (transducer.Const z)
-  named-plus : {x y : Variable} {v w : Γ ∋ 0} → find x names ≡ found 0 v → find y names ≡ found 0 w
-      → Named names δ (form.Plus x y) (transducer.MapTwoPlus (id (root (lookup v δ))) (id (root (lookup w δ))))
-  named-sum : {x : Variable} {v : Γ ∋ 1} → find x names ≡ found 1 v
+  named-plus : {x y : Variable} {v w : Γ ∋ int} → find x names ≡ found int v → find y names ≡ found int w
+      → Named names δ (form.Plus x y) (transducer.MapTwo Plus (id (root (lookup v δ))) (id (root (lookup w δ))))
+  named-sum : {x : Variable} {v : Γ ∋ braces int} → find x names ≡ found (braces int) v
       → Named names δ (form.Sum x) (transducer.SumPlus (id (outer (lookup v δ))) (id (root (inner (lookup v δ)))))
 
 -- a record that stands for one instruction, whose output is the whole result
 pub record Sole (f : Form) (sp : ℕ) (env : List ℕ) (buf : List ℤ) (state text : List ℕ) : Type 0 where
   pub scene : Scene env sp buf state text
-  pub term : Term (scene .context) 0
+  pub term : Term (scene .context) int
   pub transducer : Transducer
   pub named : Named (scene .names) (scene .trees) f transducer
   pub code-is : (s : ℕ) → code term (scene .trees) s ≡ define transducer done
@@ -48,15 +51,15 @@ pub record Sole (f : Form) (sp : ℕ) (env : List ℕ) (buf : List ℤ) (state t
   pub low : 3 ≤ sp
   pub few : length (scene .machine .store) + 1 ≤ mostStreams
 
--- its operands have their places there
+-- its operands have their places there; no form carries data of either base on
 pub record Located {f : Form} {sp : ℕ} {env : List ℕ} {buf : List ℤ} {state text : List ℕ} (g : Sole f sp env buf state text) (at : Operands) : Type 0 where
-  pub placed : Placed (g .scene .machine .store) env (signature (g .transducer) .inputs) (operands (g .transducer)) (positions at)
+  pub placed : Placed (g .scene .machine .store) env (signature Int (g .transducer) .inputs) (operands (g .transducer)) (positions at)
 
 -- an iota over the int x
 pub record Counting (x : Variable) (sp : ℕ) (env : List ℕ) (buf : List ℤ) (state text : List ℕ) : Type 0 where
   pub scene : Scene env sp buf state text
-  pub pointer : scene .context ∋ 0
-  pub finds : find x (scene .names) ≡ found 0 pointer
+  pub pointer : scene .context ∋ int
+  pub finds : find x (scene .names) ≡ found int pointer
   pub low : 6 ≤ sp
   pub few : length (scene .machine .store) + 4 ≤ mostStreams
 

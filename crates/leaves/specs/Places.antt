@@ -4,31 +4,32 @@ use mathlib.Core.Bool.{Bool}
 use mathlib.Core.List.{List, [], _∷_}
 use mathlib.Core.Option.{some}
 use mathlib.Core.Path.{_≡_}
-use lib.IntN.{ℤ}
 use Rattle.snesl.specs.Limits.{mostInputs, mostNesting, mostDepth}
+use Rattle.snesl.specs.declared.code.Base.{Base}
+use Rattle.snesl.specs.Values.{ValueType, scalar, braces, depthOf, Element}
 use Rattle.snesl.specs.Terms.{All, ∅, _▹_}
-use Rattle.snesl.specs.Trees.{Tree, leaf, node, mapTree}
-use Rattle.snesl.specs.Streams.{ints, flags, Store, _!_}
-use Rattle.environment.specs.Words.{Place}
+use Rattle.snesl.specs.Trees.{IdTree, leaf, node, mapTree}
+use Rattle.snesl.specs.Streams.{dataOf, flags, Store, _!_}
+use Rattle.environment.specs.Words.{PlaceTree}
 use Rattle.steps.specs.Holding.{place}
 
-unfoldable pub places : {Γ : List ℕ} → Store → All (Tree ℕ) Γ → All (Tree Place) Γ
+unfoldable pub places : {Γ : List ValueType} → Store → All IdTree Γ → All PlaceTree Γ
 places σ ∅ = ∅
 places σ (t ▹ δ) = mapTree (place σ) t ▹ places σ δ
 
--- each leaf of a tree names ints in the store, and each node flags
-pub data Shapely (σ : Store) : (d : ℕ) → Tree ℕ d → Type 0 where
-  shapely-leaf : {s : ℕ} → (zs : List ℤ) → σ ! s ≡ some (ints zs) → Shapely σ 0 (leaf s)
-  shapely-node : {d s : ℕ} {t : Tree ℕ d} → (bs : List Bool) → Shapely σ d t → σ ! s ≡ some (flags bs) → Shapely σ (suc d) (node t s)
+-- the leaf of a tree names data of its type's base in the store, and each node flags
+pub data Shapely (σ : Store) : (τ : ValueType) → IdTree τ → Type 0 where
+  shapely-leaf : {b : Base} {s : ℕ} → (vs : List (Element b)) → σ ! s ≡ some (dataOf b vs) → Shapely σ (scalar b) (leaf s)
+  shapely-node : {τ : ValueType} {s : ℕ} {t : IdTree τ} → (bs : List Bool) → Shapely σ τ t → σ ! s ≡ some (flags bs) → Shapely σ (braces τ) (node t s)
 
-pub data Shaped (σ : Store) : (Γ : List ℕ) → All (Tree ℕ) Γ → Type 0 where
+pub data Shaped (σ : Store) : (Γ : List ValueType) → All IdTree Γ → Type 0 where
   shaped-none : Shaped σ [] ∅
-  shaped-more : {d : ℕ} {Γ : List ℕ} {t : Tree ℕ d} {δ : All (Tree ℕ) Γ} → Shapely σ d t → Shaped σ Γ δ → Shaped σ (d ∷ Γ) (t ▹ δ)
+  shaped-more : {τ : ValueType} {Γ : List ValueType} {t : IdTree τ} {δ : All IdTree Γ} → Shapely σ τ t → Shaped σ Γ δ → Shaped σ (τ ∷ Γ) (_▹_ {τ = τ} t δ)
 
 -- no variable's type is deeper than is allowed
-pub data Shallow : List ℕ → Type 0 where
+pub data Shallow : List ValueType → Type 0 where
   shallow-none : Shallow []
-  shallow-more : {d : ℕ} {Γ : List ℕ} → d ≤ mostDepth → Shallow Γ → Shallow (d ∷ Γ)
+  shallow-more : {τ : ValueType} {Γ : List ValueType} → depthOf τ ≤ mostDepth → Shallow Γ → Shallow (τ ∷ Γ)
 
 -- How many words below sp the walk of an expression may take that has so many nestings left, its result's tree among them: an EA takes three words for its
 -- flags, five for each of eight listed variables, and twenty-six for its x (two and a tree of depth 7); a LT takes twenty-nine (two and a tree of depth 8).

@@ -8,6 +8,7 @@ ghost use lib.ListN.{length, getD, drop};
 ghost use Rattle.laws.specs.Parts.{written};
 ghost use Rattle.snesl.specs.declared.code.Transducer.the-variants.{Const};
 ghost use Rattle.snesl.specs.Limits.{mostDepth};
+ghost use Rattle.snesl.specs.Values.{depthOf};
 ghost use Rattle.snesl.specs.Terms as terms;
 ghost use Rattle.snesl.specs.Terms.{lookup};
 ghost use Rattle.snesl.specs.Machine.{State};
@@ -23,6 +24,7 @@ use environment::put_place;
 use sink::openings::open_one;
 use sink::tell;
 use snesl::code::Instruction;
+use snesl::code::Operation;
 use snesl::code::StreamId;
 use snesl::code::Transducer;
 use snesl::code::Variable;
@@ -46,8 +48,8 @@ pub enum Form {
 
 // A variable's tree, as it stands in its entry.
 pub fn variable(x: Variable, next: usize, sp: usize, env: &mut [u32]) -> Walked
-    requires { ⌜ ((g : Sought (now env) sp x) × (g .depth ≤ mostDepth) × (treeSize (g .depth) ≤ sp)) × (sp ≤ length (now env)) ⌝ }
-    ensures { λ r. ⌜ ((g : Sought (now (env .entry)) sp x) → (r ≡ Walked.Tree (g .depth) next) × (drop (sp - treeSize (g .depth)) (now (env .exit)) ≡ treeWords (lookup (g .pointer) (g .trees)) ++ drop sp (now (env .entry)))) ⌝ }
+    requires { ⌜ ((g : Sought (now env) sp x) × (depthOf (g .type) ≤ mostDepth) × (treeSize (depthOf (g .type)) ≤ sp)) × (sp ≤ length (now env)) ⌝ }
+    ensures { λ r. ⌜ ((g : Sought (now (env .entry)) sp x) → (r ≡ Walked.Tree (depthOf (g .type)) next) × (drop (sp - treeSize (depthOf (g .type))) (now (env .exit)) ≡ treeWords (lookup (g .pointer) (g .trees)) ++ drop sp (now (env .entry)))) ⌝ }
 {
     let p = find(env, sp, x);
     let depth = env[p + 1] as usize;
@@ -120,7 +122,8 @@ fn choose(form: Form, at: Operands, env: &[u32]) -> Transducer
     let q = at.second;
     match form {
         Form::Const(z) => Transducer::Const(z),
-        Form::Plus(_, _) => Transducer::MapTwoPlus(
+        Form::Plus(_, _) => Transducer::MapTwo(
+            Operation::Plus,
             StreamId(env[p] as usize),
             StreamId(env[q] as usize),
         ),

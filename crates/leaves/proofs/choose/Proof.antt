@@ -11,44 +11,44 @@ enum-known-form c = search needs
 enum-told : tie.Need-enum-told
 enum-told c = search needs
 
-mul-t8 : tie.Need-mul-t8
-mul-t8 c = omega (arith, (plus-within (c .before .before .pre .4) (c .before .before .pre .5) (c .enum-told .given .1)) .0)
+mul-t9 : tie.Need-mul-t9
+mul-t9 c = omega (arith, (plus-within (c .before .before .pre .4) (c .before .before .pre .5) (c .enum-told .given .1)) .0)
 
-shared-slice-read-t10 : tie.Need-shared-slice-read-t10
-shared-slice-read-t10 c = omega (arith, (plus-within (c .before .before .before .pre .4) (c .before .before .before .pre .5) (c .before .enum-told .given .1)) .0)
+shared-slice-read-t11 : tie.Need-shared-slice-read-t11
+shared-slice-read-t11 c = omega (arith, (plus-within (c .before .before .before .pre .4) (c .before .before .before .pre .5) (c .before .enum-told .given .1)) .0)
 
-cast-t11 : tie.Need-cast-t11
-cast-t11 c = omega (arith, c .shared-slice-known .given (c .before .before .before .args .at .first))
+cast-t12 : tie.Need-cast-t12
+cast-t12 c = omega (arith, c .shared-slice-known .given (c .before .before .before .args .at .first))
 
-mul-t13 : tie.Need-mul-t13
-mul-t13 c = omega (arith, (plus-within (c .before .before .before .pre .4) (c .before .before .before .pre .5) (c .before .enum-told .given .1)) .1)
+mul-t14 : tie.Need-mul-t14
+mul-t14 c = omega (arith, (plus-within (c .before .before .before .pre .4) (c .before .before .before .pre .5) (c .before .enum-told .given .1)) .1)
 
-shared-slice-read-t15 : tie.Need-shared-slice-read-t15
-shared-slice-read-t15 c = omega (arith, (plus-within (c .before .before .before .before .pre .4) (c .before .before .before .before .pre .5) (c .before .before .enum-told .given .1)) .1)
+shared-slice-read-t16 : tie.Need-shared-slice-read-t16
+shared-slice-read-t16 c = omega (arith, (plus-within (c .before .before .before .before .pre .4) (c .before .before .before .before .pre .5) (c .before .before .enum-told .given .1)) .1)
 
-cast-t16 : tie.Need-cast-t16
-cast-t16 c = omega (arith, c .shared-slice-known2 .given (c .before .before .before .before .args .at .second))
+cast-t17 : tie.Need-cast-t17
+cast-t17 c = omega (arith, c .shared-slice-known2 .given (c .before .before .before .before .args .at .second))
 
 enum-told-2 : tie.Need-enum-told-2
 enum-told-2 c = search needs
 
-mul-t18 : tie.Need-mul-t18
-mul-t18 c = omega (arith, (sum-within (c .before .before .pre .4) (c .before .before .pre .5) (c .enum-told2 .given .1)) .0)
+mul-t19 : tie.Need-mul-t19
+mul-t19 c = omega (arith, (sum-within (c .before .before .pre .4) (c .before .before .pre .5) (c .enum-told2 .given .1)) .0)
 
-shared-slice-read-t20 : tie.Need-shared-slice-read-t20
-shared-slice-read-t20 c = omega (arith, (sum-within (c .before .before .before .pre .4) (c .before .before .before .pre .5) (c .before .enum-told2 .given .1)) .0)
+shared-slice-read-t21 : tie.Need-shared-slice-read-t21
+shared-slice-read-t21 c = omega (arith, (sum-within (c .before .before .before .pre .4) (c .before .before .before .pre .5) (c .before .enum-told2 .given .1)) .0)
 
-cast-t21 : tie.Need-cast-t21
-cast-t21 c = omega (arith, c .shared-slice-known3 .given (c .before .before .before .args .at .first))
+cast-t22 : tie.Need-cast-t22
+cast-t22 c = omega (arith, c .shared-slice-known3 .given (c .before .before .before .args .at .first))
 
-mul-t23 : tie.Need-mul-t23
-mul-t23 c = omega (arith, (sum-within (c .before .before .before .pre .4) (c .before .before .before .pre .5) (c .before .enum-told2 .given .1)) .1)
+mul-t24 : tie.Need-mul-t24
+mul-t24 c = omega (arith, (sum-within (c .before .before .before .pre .4) (c .before .before .before .pre .5) (c .before .enum-told2 .given .1)) .1)
 
-shared-slice-read-t25 : tie.Need-shared-slice-read-t25
-shared-slice-read-t25 c = omega (arith, (sum-within (c .before .before .before .before .pre .4) (c .before .before .before .before .pre .5) (c .before .before .enum-told2 .given .1)) .1)
+shared-slice-read-t26 : tie.Need-shared-slice-read-t26
+shared-slice-read-t26 c = omega (arith, (sum-within (c .before .before .before .before .pre .4) (c .before .before .before .before .pre .5) (c .before .before .enum-told2 .given .1)) .1)
 
-cast-t26 : tie.Need-cast-t26
-cast-t26 c = omega (arith, c .shared-slice-known4 .given (c .before .before .before .before .args .at .second))
+cast-t27 : tie.Need-cast-t27
+cast-t27 c = omega (arith, c .shared-slice-known4 .given (c .before .before .before .before .args .at .second))
 
 returns : tie.Need-returns
 returns c = λ p b s t g l. const-chosen g l (c .before .form .given .1) (record { sfits = c .known-told .given .0 .1 })
@@ -65,19 +65,19 @@ choose-spec =
     (tie.spec
     enum-known-form
     enum-told
-    mul-t8
-    shared-slice-read-t10
-    cast-t11
-    mul-t13
-    shared-slice-read-t15
-    cast-t16
+    mul-t9
+    shared-slice-read-t11
+    cast-t12
+    mul-t14
+    shared-slice-read-t16
+    cast-t17
     enum-told-2
-    mul-t18
-    shared-slice-read-t20
-    cast-t21
-    mul-t23
-    shared-slice-read-t25
-    cast-t26
+    mul-t19
+    shared-slice-read-t21
+    cast-t22
+    mul-t24
+    shared-slice-read-t26
+    cast-t27
     returns
     returns-2
     returns-3)
