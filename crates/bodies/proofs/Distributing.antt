@@ -14,14 +14,17 @@ use Rattle.snesl.specs.declared.code.Variable.{Variable}
 use Rattle.snesl.specs.declared.code.Transducer.{Transducer}
 use Rattle.snesl.specs.declared.code.Transducer.the-variants.{Distr}
 use Rattle.snesl.specs.declared.refusal.Refusal.{Refusal}
-use Rattle.snesl.specs.Terms.{_∋_, listedTypes, All, lookup}
+use Rattle.snesl.specs.declared.code.Base.{Base}
+use Rattle.snesl.specs.Values.{ValueType, scalar, Element}
+use Rattle.snesl.specs.Terms.{_∋_, anyType, listedTypes, All, lookup}
 use Rattle.snesl.specs.Trees.{root, mapTree}
-use Rattle.snesl.specs.Streams.{ints, Store, _!_}
+use Rattle.snesl.specs.Streams.{dataOf, dataKind, len, Store, _!_}
+use Rattle.snesl.specs.Transducers.{signature, carried}
 use Rattle.snesl.specs.Programs.{define, done}
 use Rattle.snesl.specs.Machine.{State, Result, went, stopped, onward}
 use Rattle.snesl.specs.Outcome.{refusalOf}
 use Rattle.snesl.specs.Records.{byteAt, variableAt, variablesAt}
-use Rattle.snesl.specs.Checking.{Name, find, found, asInt, listedInts, listedNames, pointers}
+use Rattle.snesl.specs.Checking.{Name, find, found, asScalar, NamedScalars, listedScalars, listedNames, pointers}
 use Rattle.snesl.specs.Translation.{id, numbered, distrs}
 use Rattle.environment.specs.Words.{placeWords, treeWords, spelled, Entry}
 use Rattle.environment.proofs.Stack.{drop-written, length-written, written-then}
@@ -32,6 +35,7 @@ use Rattle.steps.specs.Holding.{Held, keeps, place, PlacedAt, Stopping}
 use Rattle.steps.specs.declared.Executed.{Executed}
 use Rattle.steps.specs.declared.Executed.the-variants.{Made, Stopped}
 use Rattle.steps.proofs.Stores.{nothing-written, kept, newest}
+use Rattle.steps.proofs.Stepping.{carried-kind}
 use Rattle.steps.proofs.Walking.{walked-done, walked-define, walked-grown}
 use Rattle.steps.proofs.Performing.{stopping-as}
 use Rattle.leaves.specs.Places.{places, shapely-leaf, Shaped, shaped-none, shaped-more}
@@ -40,11 +44,11 @@ use Rattle.leaves.specs.Making.{Makes, Instructed}
 use Rattle.bodies.specs.Bodies.{Spreading, spreadBy, Spread, Distributing, Bound, Distributed, listedAnswer}
 use Rattle.bodies.specs.declared.Listed.{Listed}
 use Rattle.bodies.specs.declared.Listed.the-variants as listed
-use Rattle.bodies.proofs.Lists.{found-int, listed-first, length-listed}
+use Rattle.bodies.proofs.Lists.{found-scalar, listed-first, length-listed}
 use Rattle.records.proofs.Variables.{length-variables}
-use Rattle.leaves.proofs.Places.{place-kept}
+use Rattle.leaves.proofs.Places.{data-full, place-kept}
 use Rattle.leaves.proofs.Growing.{keeps-then, onward-as, onward-stop}
-use Rattle.leaves.proofs.Operands.{int-placed, named-there}
+use Rattle.leaves.proofs.Operands.{scalar-placed, named-there}
 use Rattle.leaves.proofs.Making.{Making, making, stopping}
 use Rattle.leaves.proofs.Told.{define-fed}
 use Rattle.leaves.proofs.CountingUp.{placed-later}
@@ -57,13 +61,13 @@ use Rattle.bodies.proofs.Scenes.{later}
 module _ {u : Variable} {to sp : ℕ} {env : List ℕ} {buf : List ℤ} {state text : List ℕ} (g : Spreading u to sp env buf state text) {p : ℕ}
     (e : Entry env sp p (lookup (g .pointer) (places (g .scene .machine .store) (g .scene .trees)))) where
   made-is : Distr (id (getD env (sp - 3) 0)) (id (getD env (p + 2) 0)) ≡ spreadBy g
-  made-is = ap₂ (λ a b. Distr (id a) (id b)) (named-there (g .placed)) (named-there (int-placed (g .scene) (g .pointer) e))
+  made-is = ap₂ (λ a b. Distr (id a) (id b)) (named-there (g .placed)) (named-there (scalar-placed (g .scene) (g .pointer) e))
 
   pub spread-ready : Makes (Distr (id (getD env (sp - 3) 0)) (id (getD env (p + 2) 0))) (record { first = sp - 3; second = p + 2 }) env buf state text (g .scene .machine) (g .scene .sink)
   spread-ready =
       subst (λ t. Makes t (record { first = sp - 3; second = p + 2 }) env buf state text (g .scene .machine) (g .scene .sink)) (sym made-is)
       (record {
-        executable = record { held = g .scene .held; placed = (g .placed, (int-placed (g .scene) (g .pointer) e, tt)); more = g .few };
+        executable = record { held = g .scene .held; base = g .base; placed = (g .placed, (scalar-placed (g .scene) (g .pointer) e, tt)); more = g .few };
         sunk = g .scene .sunk;
       })
 
@@ -84,8 +88,24 @@ module _ {u : Variable} {to sp : ℕ} {env : List ℕ} {buf : List ℤ} {state t
       copy : Making (length buf) n (spreadBy g) (g .scene .machine) (g .scene .sink) buf buf₁ state₁ text₁ made
       copy = making (length buf) n (spreadBy g) own made f
 
+      -- the copy is of the base of what it is a copy of
+      copy-data : signature (carried (g .scene .machine .store) (spreadBy g)) (spreadBy g) .output ≡ dataKind (g .base)
+      copy-data =
+          carried-kind (g .scene .machine .store) env (g .base) (spreadBy g) (sp - 3) (p + 2) (g .placed, (scalar-placed (g .scene) (g .pointer) e, tt))
+
+      copies : List (Element (g .base))
+      copies = items copy (g .base) copy-data
+
+      stored : copy .after .store ≡ g .scene .machine .store ++ dataOf (g .base) copies ∷ []
+      unfolding copies
+      stored = items-stored copy (g .base) copy-data
+
+      long : made ≡ len (dataOf (g .base) copies)
+      unfolding copies
+      long = items-long copy (g .base) copy-data
+
       pub spread-push : (4 ≤ length state₁) × (1 ≤ getD state₁ 0 0) × (getD state₁ 0 0 < 4294967296) × (made ≤ getD state₁ 1 0) × (getD state₁ 1 0 < 4294967296)
-      spread-push = pushable (copy .held) (g .scene .machine .store) (ints (items copy refl)) (items-stored copy refl) refl (items-long copy refl)
+      spread-push = pushable (copy .held) (g .scene .machine .store) (dataOf (g .base) copies) stored (data-full (g .base) copies) long
 
       pub spread-made : {env₁ env₂ : List ℕ} → env₁ ≡ written to (u .0 ∷ 0 ∷ []) env
           → env₂ ≡ written (to + 5 - 3) ((getD state₁ 0 0 - 1) ∷ (getD state₁ 1 0 - made) ∷ made ∷ []) env₁ → Spread g n env₂ buf₁ state₁ text₁ (Made made)
@@ -93,7 +113,7 @@ module _ {u : Variable} {to sp : ℕ} {env : List ℕ} {buf : List ℤ} {state t
           let copyW : List ℕ = placeWords (place (copy .after .store) (length (g .scene .machine .store))) in
           let entry : env₂ ≡ written to (u .0 ∷ 0 ∷ copyW) env =
           w₂
-          ∙ (ap (λ l. written (to + 5 - 3) l env₁) (pushed-words (copy .held) (g .scene .machine .store) (ints (items copy refl)) (items-stored copy refl) refl (items-long copy refl))
+          ∙ (ap (λ l. written (to + 5 - 3) l env₁) (pushed-words (copy .held) (g .scene .machine .store) (dataOf (g .base) copies) stored (data-full (g .base) copies) long)
           ∙ (ap (written (to + 5 - 3) copyW) w₁
           ∙ written-then env to (u .0 ∷ 0 ∷ []) copyW (to + 5 - 3) (omega arith) (omega (arith, g .space, g .scene .within)))) in
           record {
@@ -103,15 +123,15 @@ module _ {u : Variable} {to sp : ℕ} {env : List ℕ} {buf : List ℤ} {state t
                 let same : copy .after ≡ m = cc in
                 subst
                 (λ q.
-                (zs : List ℤ) × (q .store ≡ g .scene .machine .store ++ ints zs ∷ []) × (Made made ≡ Made (length zs)) × Held q buf₁ state₁ × keeps (q .store) buf buf₁
+                (vs : List (Element (g .base))) × (q .store ≡ g .scene .machine .store ++ dataOf (g .base) vs ∷ []) × (Made made ≡ Made (len (dataOf (g .base) vs))) × Held q buf₁ state₁ × keeps (q .store) buf buf₁
                 × Sunk (defined (length (g .scene .machine .store)) (spreadBy g) (g .scene .sink)) text₁ state₁
                 × (env₂ ≡ written to (u .0 ∷ 0 ∷ placeWords (place (q .store) (length (g .scene .machine .store)))) env))
-                same (items copy refl, items-stored copy refl, ap Made (items-long copy refl), copy .held, copy .kept, copy .sunk, entry);
+                same (copies, stored, ap Made long, copy .held, copy .kept, copy .sunk, entry);
             gave-up = λ why i h. sym f ∙ own .gave-up why i h;
           }
 
 -- the entries of listed variables take five words each
-pub length-entries : {Γ : List ℕ} → (ls : List (Variable × (Γ ∋ 0))) (σ : Store) (s : ℕ)
+pub length-entries : {Γ : List ValueType} → (ls : NamedScalars Γ) (σ : Store) (s : ℕ)
     → length (spelled (listedNames ls) (places σ (numbered s (pointers ls)))) ≡ 5 * length (pointers ls)
 unfolding spelled listedNames places numbered treeWords mapTree
 length-entries [] σ s = refl
@@ -124,32 +144,34 @@ unfolding variablesAt
 first-variables t at zero h = absurd (omega arith)
 first-variables t at (suc l) h = rw (add-one, sub-one)
 
-pub record First {Γ : List ℕ} (names : All Name Γ) (t : List ℕ) (at left : ℕ) (ls : List (Variable × (Γ ∋ 0))) : Type 0 where
-  pub pointer : Γ ∋ 0
-  pub others : List (Variable × (Γ ∋ 0))
-  pub finds : find (variableAt t at) names ≡ found 0 pointer
-  pub lists : listedInts names (variablesAt t (at + 1) (left - 1)) ≡ some others
-  pub is : (variableAt t at, pointer) ∷ others ≡ ls
+pub record First {Γ : List ValueType} (names : All Name Γ) (t : List ℕ) (at left : ℕ) (ls : NamedScalars Γ) : Type 0 where
+  pub base : Base
+  pub pointer : Γ ∋ scalar base
+  pub others : NamedScalars Γ
+  pub finds : find (variableAt t at) names ≡ found (scalar base) pointer
+  pub lists : listedScalars names (variablesAt t (at + 1) (left - 1)) ≡ some others
+  pub is : (variableAt t at, (base, pointer)) ∷ others ≡ ls
 
-pub first : {Γ : List ℕ} → (names : All Name Γ) (t : List ℕ) (at left : ℕ) (ls : List (Variable × (Γ ∋ 0))) → listedInts names (variablesAt t at left) ≡ some ls
+pub first : {Γ : List ValueType} → (names : All Name Γ) (t : List ℕ) (at left : ℕ) (ls : NamedScalars Γ) → listedScalars names (variablesAt t at left) ≡ some ls
     → 0 < left → First names t at left ls
-unfolding listedInts
+unfolding listedScalars
 first names t at left ls e h =
-    let f = listed-first (variableAt t at) (asInt (find (variableAt t at) names)) (listedInts names (variablesAt t (at + 1) (left - 1))) ls
-    (ap (listedInts names) (sym (first-variables t at left h)) ∙ e) in
+    let f = listed-first (variableAt t at) (asScalar (find (variableAt t at) names)) (listedScalars names (variablesAt t (at + 1) (left - 1))) ls
+    (ap (listedScalars names) (sym (first-variables t at left h)) ∙ e) in
     record {
-      pointer = f .0;
-      others = f .1;
-      finds = found-int (find (variableAt t at) names) (f .2);
-      lists = f .3;
-      is = f .4;
+      base = f .0;
+      pointer = f .1;
+      others = f .2;
+      finds = found-scalar (find (variableAt t at) names) (f .3);
+      lists = f .4;
+      is = f .5;
     }
 
 -- ---- nothing listed
 
-none-listed : {Γ : List ℕ} → (names : All Name Γ) (t : List ℕ) (at left : ℕ) (ls : List (Variable × (Γ ∋ 0))) → listedInts names (variablesAt t at left) ≡ some ls
+none-listed : {Γ : List ValueType} → (names : All Name Γ) (t : List ℕ) (at left : ℕ) (ls : NamedScalars Γ) → listedScalars names (variablesAt t at left) ≡ some ls
     → left ≡ 0 → [] ≡ ls
-unfolding listedInts variablesAt
+unfolding listedScalars variablesAt
 none-listed names t at zero ls e z = cc
 none-listed names t at (suc l) ls e z = absurd (omega arith)
 
@@ -185,6 +207,7 @@ module _ {t : List ℕ} {at left base sp : ℕ} {env : List ℕ} {buf : List ℤ
       record {
         scene = g .scene;
         flags = g .flags;
+        base = the-first .base;
         pointer = the-first .pointer;
         finds = the-first .finds;
         placed = g .placed;
@@ -218,7 +241,7 @@ module _ {t : List ℕ} {at left base sp : ℕ} {env : List ℕ} {buf : List ℤ
           }
         where
           go : (x : Result) → stepped (length buf) n (spreadBy spreading) (g .scene .machine) ≡ x → Stopping (stepped (length buf) n (spreadBy spreading) (g .scene .machine)) q
-          go (went m) h = let same : Stopped q ≡ Made (length (w .went-on m h .0)) = sym f ∙ w .went-on m h .2 in never (cc)
+          go (went m) h = let same : Stopped q ≡ Made (len (dataOf (the-first .base) (w .went-on m h .0))) = sym f ∙ w .went-on m h .2 in never (cc)
           go (stopped why i) h =
               let same : Stopped q ≡ Stopped (refusalOf why i) = sym f ∙ w .gave-up why i h in
               record { why = why; where-at = i; stops = h; refuses = cc }
@@ -226,8 +249,8 @@ module _ {t : List ℕ} {at left base sp : ℕ} {env : List ℕ} {buf : List ℤ
       pub record Gave : Type 0 where
         pub after : State
         pub went-to : stepped (length buf) n (spreadBy spreading) (g .scene .machine) ≡ went after
-        pub zs : List ℤ
-        pub store : after .store ≡ g .scene .machine .store ++ ints zs ∷ []
+        pub copies : List (Element (the-first .base))
+        pub store : after .store ≡ g .scene .machine .store ++ dataOf (the-first .base) copies ∷ []
         pub held : Held after buf₁ state₁
         pub behind : keeps (after .store) buf buf₁
         pub sunk : Sunk (defined (length (g .scene .machine .store)) (spreadBy spreading) (g .scene .sink)) text₁ state₁
@@ -239,7 +262,7 @@ module _ {t : List ℕ} {at left base sp : ℕ} {env : List ℕ} {buf : List ℤ
           go : (x : Result) → stepped (length buf) n (spreadBy spreading) (g .scene .machine) ≡ x → Gave
           go (went m) h =
               let o = w .went-on m h in
-              record { after = m; went-to = h; zs = o .0; store = o .1; held = o .3; behind = o .4; sunk = o .5; words = o .6 }
+              record { after = m; went-to = h; copies = o .0; store = o .1; held = o .3; behind = o .4; sunk = o .5; words = o .6 }
           go (stopped why i) h = let same : Made l ≡ Stopped (refusalOf why i) = sym f ∙ w .gave-up why i h in never (cc)
 
       module _ {l : ℕ} (f : r ≡ Made l) where
@@ -263,16 +286,16 @@ module _ {t : List ℕ} {at left base sp : ℕ} {env : List ℕ} {buf : List ℤ
 
         abbrev pub scene₂ : Scene env₂ sp buf₁ state₁ text₁
         scene₂ =
-            later (g .scene) (copied .after) (ints (copied .zs) ∷ []) (copied .store) (copied .held) (same-above sp (omega (arith, g .space)) (g .scene .within)) same-long
+            later (g .scene) (copied .after) (dataOf (the-first .base) (copied .copies) ∷ []) (copied .store) (copied .held) (same-above sp (omega (arith, g .space)) (g .scene .within)) same-long
             (defined (length (g .scene .machine .store)) (spreadBy spreading) (g .scene .sink)) (copied .sunk)
             (like-defined (g .scene .sink) (length (g .scene .machine .store)) (spreadBy spreading))
 
         pub next-is : length (copied .after .store) ≡ suc (length (g .scene .machine .store))
-        next-is = ap length (copied .store) ∙ (length-append (g .scene .machine .store) (ints (copied .zs) ∷ []) ∙ omega arith)
+        next-is = ap length (copied .store) ∙ (length-append (g .scene .machine .store) (dataOf (the-first .base) (copied .copies) ∷ []) ∙ omega arith)
 
         pub others-placed : PlacedAt (copied .after .store) env₂ Flags (g .flags) (sp - 3)
         others-placed =
-            placed-later (ints (copied .zs) ∷ []) (g .placed) (copied .store) (same-above (sp - 3) (omega (arith, g .space, some-left)) (omega (arith, g .scene .within)))
+            placed-later (dataOf (the-first .base) (copied .copies) ∷ []) (g .placed) (copied .store) (same-above (sp - 3) (omega (arith, g .space, some-left)) (omega (arith, g .scene .within)))
 
         abbrev pub others-ready : Distributing t (at + 1) (left - 1) (base + 5) sp env₂ buf₁ state₁ text₁
         others-ready =
@@ -294,13 +317,13 @@ module _ {t : List ℕ} {at left base sp : ℕ} {env : List ℕ} {buf : List ℤ
         -- the first entry and the others
         module _ {env₃ : List ℕ} {buf₃ : List ℤ} {state₃ text₃ : List ℕ} {m : State} (τ : Store) (more : m .store ≡ copied .after .store ++ τ)
             (b : Bound scene₂ (g .flags) (the-first .others) (base + 5) env₃ buf₃ state₃ text₃ m) where
-          first-here : (copied .after .store) ! length (g .scene .machine .store) ≡ some (ints (copied .zs))
-          first-here = ap (λ σ. σ ! length (g .scene .machine .store)) (copied .store) ∙ newest (g .scene .machine .store) (ints (copied .zs))
+          first-here : (copied .after .store) ! length (g .scene .machine .store) ≡ some (dataOf (the-first .base) (copied .copies))
+          first-here = ap (λ σ. σ ! length (g .scene .machine .store)) (copied .store) ∙ newest (g .scene .machine .store) (dataOf (the-first .base) (copied .copies))
 
           first-place : place (m .store) (length (g .scene .machine .store)) ≡ place (copied .after .store) (length (g .scene .machine .store))
           first-place =
               ap (λ σ. place σ (length (g .scene .machine .store))) more
-              ∙ place-kept (copied .after .store) τ (length (g .scene .machine .store)) (ints (copied .zs)) first-here
+              ∙ place-kept (copied .after .store) τ (length (g .scene .machine .store)) (dataOf (the-first .base) (copied .copies)) first-here
 
           others : List ℕ
           others = spelled (listedNames (the-first .others)) (places (m .store) (numbered (suc (length (g .scene .machine .store))) (pointers (the-first .others))))
@@ -328,7 +351,7 @@ module _ {t : List ℕ} {at left base sp : ℕ} {env : List ℕ} {buf : List ℤ
               ∙ sym first-fed)
               (b .sunk)
 
-          both-bound : Bound (g .scene) (g .flags) ((variableAt t at, the-first .pointer) ∷ the-first .others) base env₃ buf₃ state₃ text₃ m
+          both-bound : Bound (g .scene) (g .flags) ((variableAt t at, (the-first .base, the-first .pointer)) ∷ the-first .others) base env₃ buf₃ state₃ text₃ m
           unfolding entry others numbered listedNames places spelled treeWords mapTree
           both-bound =
               record {
@@ -338,9 +361,9 @@ module _ {t : List ℕ} {at left base sp : ℕ} {env : List ℕ} {buf : List ℤ
                 kept = keeps-then (copied .after .store) τ (m .store) buf buf₁ buf₃ (copied .behind) (b .kept) more;
                 shaped =
                     shaped-more
-                    (shapely-leaf (copied .zs)
-                    (ap (λ σ. σ ! length (g .scene .machine .store)) more ∙ kept (copied .after .store) τ (length (g .scene .machine .store)) (ints (copied .zs)) first-here))
-                    (subst (λ i. Shaped (m .store) (listedTypes (pointers (the-first .others))) (numbered i (pointers (the-first .others)))) next-is (b .shaped));
+                    (shapely-leaf (copied .copies)
+                    (ap (λ σ. σ ! length (g .scene .machine .store)) more ∙ kept (copied .after .store) τ (length (g .scene .machine .store)) (dataOf (the-first .base) (copied .copies)) first-here))
+                    (subst (λ i. Shaped (m .store) (listedTypes (anyType (pointers (the-first .others)))) (numbered i (pointers (the-first .others)))) next-is (b .shaped));
                 words = words-are ∙ ap (λ q. written base (byteAt t at ∷ 0 ∷ (placeWords q ++ others)) env) (sym first-place);
               }
 

@@ -13,15 +13,17 @@ use Rattle.snesl.specs.declared.code.Variable.{Variable}
 use Rattle.snesl.specs.declared.code.Kind.the-variants.{Flags}
 use Rattle.snesl.specs.declared.code.Transducer.the-variants.{Usum, Distr}
 use Rattle.snesl.specs.declared.refusal.Refusal.{Refusal}
+use Rattle.snesl.specs.declared.code.Base.the-variants.{Int}
+use Rattle.snesl.specs.Values.{ValueType, depthOf}
 use Rattle.snesl.specs.Terms as terms
-use Rattle.snesl.specs.Terms.{_∋_, listedTypes, All, _▹_, lookup}
-use Rattle.snesl.specs.Trees.{Tree, root, inner, outer, mapTree}
+use Rattle.snesl.specs.Terms.{Scalars, anyType, listedTypes, All, _▹_, lookup}
+use Rattle.snesl.specs.Trees.{IdTree, root, inner, outer, mapTree}
 use Rattle.snesl.specs.Streams.{units, flags, len, Store, _!_}
 use Rattle.snesl.specs.Programs.{Program, define, done, _⨾_, count}
 use Rattle.snesl.specs.Machine.{State, Result, went, stopped, onward}
 use Rattle.snesl.specs.Outcome.{refusalOf}
 use Rattle.snesl.specs.Records.{byteAt, variableAt, variablesAt}
-use Rattle.snesl.specs.Checking.{listedNames, pointers}
+use Rattle.snesl.specs.Checking.{NamedScalars, listedNames, pointers}
 use Rattle.snesl.specs.Translation.{id, within, numbered, tree, controlled, distrs, code}
 use Rattle.environment.specs.Words.{placeWords, treeWords, treeSize, spelled, Entry}
 use Rattle.environment.specs.Needs.{words}
@@ -60,7 +62,7 @@ use Rattle.bodies.proofs.Distributing.{length-entries}
 
 -- ---- what `distribute` answered
 
-module _ {env : List ℕ} {sp : ℕ} {buf : List ℤ} {state text : List ℕ} {s : Scene env sp buf state text} {b : ℕ} {ls : List (Variable × (s .context ∋ 0))} {n base : ℕ}
+module _ {env : List ℕ} {sp : ℕ} {buf : List ℤ} {state text : List ℕ} {s : Scene env sp buf state text} {b : ℕ} {ls : NamedScalars (s .context)} {n base : ℕ}
     {env′ : List ℕ} {buf′ : List ℤ} {state′ text′ : List ℕ} {r : Listed} (d : Distributed s b ls n base env′ buf′ state′ text′ r) where
   pub record Ended : Type 0 where
     pub after : State
@@ -97,10 +99,10 @@ enters-stopped {q = q} s =
     }
 
 -- the code of a comprehension, its Distrs by themselves
-distrs-then : {Γ : List ℕ} → (b : ℕ) (us : List (Γ ∋ 0)) (δ : All (Tree ℕ) Γ) (p : Program) → distrs b us δ p ≡ distrs b us δ done ⨾ p
+distrs-then : {Γ : List ValueType} → (b : ℕ) (us : Scalars Γ) (δ : All IdTree Γ) (p : Program) → distrs b us δ p ≡ distrs b us δ done ⨾ p
 unfolding distrs _⨾_
 distrs-then b [] δ p = refl
-distrs-then b (u ∷ us) δ p = ap (define (Distr (id b) (id (root (lookup u δ))))) (distrs-then b us δ p)
+distrs-then b (u ∷ us) δ p = ap (define (Distr (id b) (id (root (lookup (u .1) δ))))) (distrs-then b us δ p)
 
 module _ {t : List ℕ} {k sp : ℕ} {env : List ℕ} {buf : List ℤ} {state text : List ℕ} (g : Each t k sp env buf state text)
     {p : ℕ} (e : Entry env sp p (lookup (g .pointer) (places (g .scene .machine .store) (g .scene .trees)))) where
@@ -116,13 +118,13 @@ module _ {t : List ℕ} {k sp : ℕ} {env : List ℕ} {buf : List ℤ} {state te
   abbrev x : Variable
   x = variableAt t (k + 2)
 
-  depth-is : getD env (p + 1) 0 - 1 ≡ g .inside
+  depth-is : getD env (p + 1) 0 - 1 ≡ depthOf (g .inside)
   depth-is = omega (arith, e .depth)
 
   pub depth-some : 1 ≤ getD env (p + 1) 0
   depth-some = omega (arith, e .depth)
 
-  pub depth-most : g .inside + 1 ≤ 8
+  pub depth-most : depthOf (g .inside) + 1 ≤ 8
   depth-most = omega (arith, lookup-shallow (g .pointer) (g .scene .shallow))
 
   pub depth-few : getD env (p + 1) 0 ≤ 8
@@ -173,12 +175,12 @@ module _ {t : List ℕ} {k sp : ℕ} {env : List ℕ} {buf : List ℤ} {state te
     usum-ready q =
         subst (λ i. Makes (Usum (id i)) (record { first = sp - 3; second = q }) env₁ buf state text (g .scene .machine) (g .scene .sink)) (sym named)
         (record {
-          executable = record { held = g .scene .held; placed = (flags-placed, tt); more = omega (arith, g .few, g .bytes) };
+          executable = record { held = g .scene .held; base = Int; placed = (flags-placed, tt); more = omega (arith, g .few, g .bytes) };
           sunk = g .scene .sunk;
         })
 
     module _ (n : ℕ) where
-      abbrev us : List (g .scene .context ∋ 0)
+      abbrev us : Scalars (g .scene .context)
       us = pointers (g .list)
 
       abbrev inside-at : ℕ
@@ -353,7 +355,7 @@ module _ {t : List ℕ} {k sp : ℕ} {env : List ℕ} {buf : List ℤ} {state te
               above-still : drop sp env₂ ≡ drop sp env
               above-still = drop-above env₂ env₁ (sp - 3) sp flags-still (omega arith) ∙ same-above
 
-              itemsTree : Tree ℕ (g .inside)
+              itemsTree : IdTree (g .inside)
               itemsTree = inner (lookup (g .pointer) (g .scene .trees))
 
               items-shapely : Shapely store (g .inside) itemsTree
@@ -363,21 +365,21 @@ module _ {t : List ℕ} {k sp : ℕ} {env : List ℕ} {buf : List ℤ} {state te
               items : List ℕ
               items = treeWords (mapTree (place (end .after .store)) itemsTree)
 
-              items-are : part (p + 2) (treeSize (g .inside)) env₂ ≡ items
+              items-are : part (p + 2) (treeSize (depthOf (g .inside))) env₂ ≡ items
               unfolding items itemsTree
               items-are =
-                  part-drop env₂ env (p + 2) (treeSize (g .inside)) (drop-above env₂ env sp (p + 2) above-still (omega (arith, e .above)))
+                  part-drop env₂ env (p + 2) (treeSize (depthOf (g .inside))) (drop-above env₂ env sp (p + 2) above-still (omega (arith, e .above)))
                   ∙ (items-words (g .scene) (g .pointer) e
                   ∙ ap treeWords (sym (ap (λ σ. mapTree (place σ) itemsTree) stored ∙ tree-kept store all-streams items-shapely)))
 
-              items-long : length items ≡ treeSize (g .inside)
+              items-long : length items ≡ treeSize (depthOf (g .inside))
               unfolding items
               items-long = length-tree (mapTree (place (end .after .store)) itemsTree)
 
               abbrev itemsAt : ℕ
-              itemsAt = base - treeSize (g .inside)
+              itemsAt = base - treeSize (depthOf (g .inside))
 
-              room-below : treeSize (g .inside) + 2 + words (g .body) ≤ base
+              room-below : treeSize (depthOf (g .inside)) + 2 + words (g .body) ≤ base
               room-below = omega (arith, g .space, g .most, depth-most)
 
               base-within : base ≤ length env₂
@@ -386,17 +388,17 @@ module _ {t : List ℕ} {k sp : ℕ} {env : List ℕ} {buf : List ℤ} {state te
               env₂′ : List ℕ
               env₂′ = written itemsAt items env₂
 
-              bound-written : env₃ ≡ written (itemsAt - 2) (x .0 ∷ g .inside ∷ []) env₂′
+              bound-written : env₃ ≡ written (itemsAt - 2) (x .0 ∷ depthOf (g .inside) ∷ []) env₂′
               unfolding env₂′
               bound-written =
                   w₃
                   ∙ (ap (λ c. written (base - treeSize c - 2) (x .0 ∷ c ∷ []) (written (base - treeSize c) (part (p + 2) (treeSize c) env₂) env₂)) depth-is
-                  ∙ ap (λ l. written (itemsAt - 2) (x .0 ∷ g .inside ∷ []) (written itemsAt l env₂)) items-are)
+                  ∙ ap (λ l. written (itemsAt - 2) (x .0 ∷ depthOf (g .inside) ∷ []) (written itemsAt l env₂)) items-are)
 
               from-items : drop itemsAt env₂′ ≡ items ++ (entries ++ drop (sp - 3) env₁)
               unfolding env₂′
               from-items =
-                  lowered env₂ base (treeSize (g .inside)) items items-long (omega (arith, room-below)) base-within ∙ ap (λ l. items ++ l) from-base
+                  lowered env₂ base (treeSize (depthOf (g .inside))) items items-long (omega (arith, room-below)) base-within ∙ ap (λ l. items ++ l) from-base
 
               items-fit : itemsAt + length items ≤ length env₂
               items-fit = omega (arith, items-long, room-below, base-within)
@@ -406,10 +408,10 @@ module _ {t : List ℕ} {k sp : ℕ} {env : List ℕ} {buf : List ℤ} {state te
               long₂′ = length-written env₂ itemsAt items items-fit
 
               two-up : itemsAt - 2 + 2 ≡ itemsAt
-              two-up = back-up base (treeSize (g .inside)) (omega (arith, room-below))
+              two-up = back-up base (treeSize (depthOf (g .inside))) (omega (arith, room-below))
 
               name-fits : itemsAt - 2 + 2 ≤ length env₂′
-              name-fits = subst (λ a. a ≤ length env₂′) (sym two-up) (fits-below base (treeSize (g .inside)) (length env₂) (length env₂′) base-within long₂′)
+              name-fits = subst (λ a. a ≤ length env₂′) (sym two-up) (fits-below base (treeSize (depthOf (g .inside))) (length env₂) (length env₂′) base-within long₂′)
 
               place-is : sp′ ≡ itemsAt - 2
               place-is = at ∙ ap (λ c. base - treeSize c - 2) depth-is
@@ -419,7 +421,7 @@ module _ {t : List ℕ} {k sp : ℕ} {env : List ℕ} {buf : List ℤ} {state te
               spells-it =
                   ap (λ a. drop a env₃) place-is
                   ∙ (ap (drop (itemsAt - 2)) bound-written
-                  ∙ bound env₂′ (itemsAt - 2) x (listedNames (g .list)) (mapTree (place (end .after .store)) (inner (lookup (g .pointer) (g .scene .trees))))
+                  ∙ bound (g .inside) env₂′ (itemsAt - 2) x (listedNames (g .list)) (mapTree (place (end .after .store)) (inner (lookup (g .pointer) (g .scene .trees))))
                   (places (end .after .store) (numbered (suc (length store)) us)) (drop (sp - 3) env₁) name-fits
                   (ap (λ a. drop a env₂′) two-up ∙ from-items))
 
@@ -427,18 +429,18 @@ module _ {t : List ℕ} {k sp : ℕ} {env : List ℕ} {buf : List ℤ} {state te
               unfolding env₂′
               flags-there-still =
                   ap (drop (sp - 3)) bound-written
-                  ∙ (drop-written env₂′ (itemsAt - 2) (sp - 3) (x .0 ∷ g .inside ∷ []) (subst (λ a. a ≤ sp - 3) (sym two-up) (sub-twice (sp - 3) (5 * j) (treeSize (g .inside)))) (omega (arith, long₂′, long₂, same-long, g .scene .within))
+                  ∙ (drop-written env₂′ (itemsAt - 2) (sp - 3) (x .0 ∷ depthOf (g .inside) ∷ []) (subst (λ a. a ≤ sp - 3) (sym two-up) (sub-twice (sp - 3) (5 * j) (treeSize (depthOf (g .inside))))) (omega (arith, long₂′, long₂, same-long, g .scene .within))
                   ∙ (drop-written env₂ itemsAt (sp - 3) items (omega (arith, items-long, room-below)) (omega (arith, long₂, same-long, g .scene .within))
                   ∙ (flags-still
                   ∙ (upper
                   ∙ ap (λ q. placeWords q ++ drop sp env)
                   (sym (ap (λ σ. place σ flagsId) stored ∙ place-kept store all-streams flagsId (flags (flags-stream .0)) (flags-stream .1)))))))
 
-              inside-shaped : Shaped (end .after .store) (g .inside ∷ listedTypes us) (innerTrees g)
+              inside-shaped : Shaped (end .after .store) (g .inside ∷ listedTypes (anyType us)) (innerTrees g)
               unfolding itemsTree
               inside-shaped =
                   shaped-more (subst (λ σ. Shapely σ (g .inside) (inner (lookup (g .pointer) (g .scene .trees)))) (sym stored) (shapely-kept store all-streams items-shapely))
-                  (subst (λ a. Shaped (end .after .store) (listedTypes us) (numbered a us)) units-next (end .left .shaped))
+                  (subst (λ a. Shaped (end .after .store) (listedTypes (anyType us)) (numbered a us)) units-next (end .left .shaped))
 
               pub inside : Inside g n sp′ i env₃ buf₂ state₂ text₂
               inside =
@@ -458,8 +460,8 @@ module _ {t : List ℕ} {k sp : ℕ} {env : List ℕ} {buf : List ℤ} {state te
                     shaped = inside-shaped;
                     spells = spells-it;
                     flags = flags-there-still;
-                    space = subst (λ q. words (g .body) ≤ q) (sym place-is) (low-enough base (treeSize (g .inside)) (words (g .body)) room-below);
-                    below = subst (λ q. q + 3 ≤ sp) (sym place-is) (far-below sp (5 * j) (treeSize (g .inside)) (words (g .body)) room-below);
+                    space = subst (λ q. words (g .body) ≤ q) (sym place-is) (low-enough base (treeSize (depthOf (g .inside))) (words (g .body)) room-below);
+                    below = subst (λ q. q + 3 ≤ sp) (sym place-is) (far-below sp (5 * j) (treeSize (depthOf (g .inside))) (words (g .body)) room-below);
                   }
 
               pub enters-inside : Enters g n env₃ buf₂ state₂ text₂ (entered.Body sp′ i)

@@ -1,6 +1,6 @@
 -- What the walk needs before a comprehension's body, and what it then finds: the flags' place just below sp, under it an entry for each listed variable and
 -- one for x, and under the control of the flags' units the body's own expression.
-use Prim.Native.Nat.{ℕ, suc, _+_, _*_, _-_, _≤_, _<_}
+use Prim.Native.Nat.{ℕ, _+_, _*_, _-_, _≤_, _<_}
 use mathlib.Core.List.{List, [], _∷_, _++_}
 use mathlib.Core.Option.{some}
 use mathlib.Core.Path.{_≡_}
@@ -13,15 +13,17 @@ use Rattle.snesl.specs.declared.code.Transducer.{Transducer}
 use Rattle.snesl.specs.declared.code.Transducer.the-variants.{Distr}
 use Rattle.snesl.specs.declared.refusal.Refusal.{Refusal}
 use Rattle.snesl.specs.Limits.{mostBytes, mostListed, mostDepth}
+use Rattle.snesl.specs.declared.code.Base.{Base}
+use Rattle.snesl.specs.Values.{ValueType, scalar, braces, depthOf, Element}
 use Rattle.snesl.specs.Terms as terms
-use Rattle.snesl.specs.Terms.{_∋_, Term, listedTypes, All, _▹_, lookup}
-use Rattle.snesl.specs.Trees.{Tree, root, outer, order}
-use Rattle.snesl.specs.Streams.{ints, Store}
+use Rattle.snesl.specs.Terms.{_∋_, Term, anyType, listedTypes, All, _▹_, lookup}
+use Rattle.snesl.specs.Trees.{IdTree, root, outer, order}
+use Rattle.snesl.specs.Streams.{dataOf, len, Store}
 use Rattle.snesl.specs.Programs.{Program, done, dv, fv, among, ascending}
 use Rattle.snesl.specs.Machine.{State, Stop, Result, went, stopped}
 use Rattle.snesl.specs.Outcome.{refusalOf}
 use Rattle.snesl.specs.Records.{byteAt, variableAt, variablesAt}
-use Rattle.snesl.specs.Checking.{find, found, listedInts, listedNames, pointers}
+use Rattle.snesl.specs.Checking.{find, found, NamedScalars, listedScalars, listedNames, pointers}
 use Rattle.snesl.specs.Translation.{id, numbered, within, tree, code, distrs}
 use Rattle.snesl.specs.Formed.{Formed}
 use Rattle.environment.specs.Words.{placeWords, treeSize, spelled}
@@ -41,12 +43,13 @@ use Rattle.bodies.specs.declared.Entered.the-variants as entered
 
 -- ---- one listed variable
 
--- The int u is to be distributed over the flags whose place stands below sp, with its entry at `to`.
+-- The scalar u is to be distributed over the flags whose place stands below sp, with its entry at `to`.
 pub record Spreading (u : Variable) (to sp : ℕ) (env : List ℕ) (buf : List ℤ) (state text : List ℕ) : Type 0 where
   pub scene : Scene env sp buf state text
   pub flags : ℕ
-  pub pointer : scene .context ∋ 0
-  pub finds : find u (scene .names) ≡ found 0 pointer
+  pub base : Base
+  pub pointer : scene .context ∋ scalar base
+  pub finds : find u (scene .names) ≡ found (scalar base) pointer
   pub placed : PlacedAt (scene .machine .store) env Flags flags (sp - 3)
   pub space : to + 8 ≤ sp
   pub few : length (scene .machine .store) < mostStreams
@@ -54,11 +57,11 @@ pub record Spreading (u : Variable) (to sp : ℕ) (env : List ℕ) (buf : List �
 abbrev pub spreadBy : {u : Variable} {to sp : ℕ} {env : List ℕ} {buf : List ℤ} {state text : List ℕ} → Spreading u to sp env buf state text → Transducer
 spreadBy g = Distr (id (g .flags)) (id (root (lookup (g .pointer) (g .scene .trees))))
 
--- Its copy is the newest stream, and its entry stands at `to`.
+-- Its copy, which is of its base, is the newest stream, and its entry stands at `to`.
 pub record Spread {u : Variable} {to sp : ℕ} {env : List ℕ} {buf : List ℤ} {state text : List ℕ} (g : Spreading u to sp env buf state text) (n : ℕ)
     (env′ : List ℕ) (buf′ : List ℤ) (state′ text′ : List ℕ) (r : Executed) : Type 0 where
   pub went-on : (m : State) → stepped (length buf) n (spreadBy g) (g .scene .machine) ≡ went m
-      → (zs : List ℤ) × (m .store ≡ g .scene .machine .store ++ ints zs ∷ []) × (r ≡ Made (length zs)) × Held m buf′ state′ × keeps (m .store) buf buf′
+      → (vs : List (Element (g .base))) × (m .store ≡ g .scene .machine .store ++ dataOf (g .base) vs ∷ []) × (r ≡ Made (len (dataOf (g .base) vs))) × Held m buf′ state′ × keeps (m .store) buf buf′
       × Sunk (defined (length (g .scene .machine .store)) (spreadBy g) (g .scene .sink)) text′ state′
       × (env′ ≡ written to (u .0 ∷ 0 ∷ placeWords (place (m .store) (length (g .scene .machine .store)))) env)
   pub gave-up : (why : Stop) (s : ℕ) → stepped (length buf) n (spreadBy g) (g .scene .machine) ≡ stopped why s → r ≡ Stopped (refusalOf why s)
@@ -69,8 +72,8 @@ pub record Spread {u : Variable} {to sp : ℕ} {env : List ℕ} {buf : List ℤ}
 pub record Distributing (t : List ℕ) (at left base sp : ℕ) (env : List ℕ) (buf : List ℤ) (state text : List ℕ) : Type 0 where
   pub scene : Scene env sp buf state text
   pub flags : ℕ
-  pub list : List (Variable × (scene .context ∋ 0))
-  pub lists : listedInts (scene .names) (variablesAt t at left) ≡ some list
+  pub list : NamedScalars (scene .context)
+  pub lists : listedScalars (scene .names) (variablesAt t at left) ≡ some list
   pub placed : PlacedAt (scene .machine .store) env Flags flags (sp - 3)
   pub bytes : at + left ≤ length t
   pub space : base + 5 * left + 3 ≤ sp
@@ -81,15 +84,15 @@ listedAnswer (went m) = listed.Bound
 listedAnswer (stopped why s) = listed.Stopped (refusalOf why s)
 
 -- After the Distr of each: their streams are the newest, and the entries' words stand from `base` on.
-pub record Bound {env : List ℕ} {sp : ℕ} {buf : List ℤ} {state text : List ℕ} (s : Scene env sp buf state text) (b : ℕ) (ls : List (Variable × (s .context ∋ 0))) (base : ℕ)
+pub record Bound {env : List ℕ} {sp : ℕ} {buf : List ℤ} {state text : List ℕ} (s : Scene env sp buf state text) (b : ℕ) (ls : NamedScalars (s .context)) (base : ℕ)
     (env′ : List ℕ) (buf′ : List ℤ) (state′ text′ : List ℕ) (m : State) : Type 0 where
   pub held : Held m buf′ state′
   pub sunk : Sunk (feed (length (s .machine .store)) (distrs b (pointers ls) (s .trees) done) (s .sink)) text′ state′
   pub kept : keeps (m .store) buf buf′
-  pub shaped : Shaped (m .store) (listedTypes (pointers ls)) (numbered (length (s .machine .store)) (pointers ls))
+  pub shaped : Shaped (m .store) (listedTypes (anyType (pointers ls))) (numbered (length (s .machine .store)) (pointers ls))
   pub words : env′ ≡ written base (spelled (listedNames ls) (places (m .store) (numbered (length (s .machine .store)) (pointers ls)))) env
 
-pub record Distributed {env : List ℕ} {sp : ℕ} {buf : List ℤ} {state text : List ℕ} (s : Scene env sp buf state text) (b : ℕ) (ls : List (Variable × (s .context ∋ 0))) (n base : ℕ)
+pub record Distributed {env : List ℕ} {sp : ℕ} {buf : List ℤ} {state text : List ℕ} (s : Scene env sp buf state text) (b : ℕ) (ls : NamedScalars (s .context)) (n base : ℕ)
     (env′ : List ℕ) (buf′ : List ℤ) (state′ text′ : List ℕ) (r : Listed) : Type 0 where
   pub says : r ≡ listedAnswer (walked (length buf) n (distrs b (pointers ls) (s .trees) done) (s .machine))
   pub leaves : (m : State) → walked (length buf) n (distrs b (pointers ls) (s .trees) done) (s .machine) ≡ went m → Bound s b ls base env′ buf′ state′ text′ m
@@ -107,25 +110,25 @@ entriesAt t k sp = sp - 3 - 5 * byteAt t (k + 4)
 pub record Each (t : List ℕ) (k sp : ℕ) (env : List ℕ) (buf : List ℤ) (state text : List ℕ) : Type 0 where
   pub scene : Scene env sp buf state text
   pub levels : ℕ
-  pub inside : ℕ
-  pub pointer : scene .context ∋ suc inside
-  pub list : List (Variable × (scene .context ∋ 0))
-  pub depth : ℕ
-  pub body : Term (inside ∷ listedTypes (pointers list)) depth
+  pub inside : ValueType
+  pub pointer : scene .context ∋ braces inside
+  pub list : NamedScalars (scene .context)
+  pub type : ValueType
+  pub body : Term (inside ∷ listedTypes (anyType (pointers list))) type
   pub next : ℕ
-  pub finds : find (variableAt t (k + 3)) (scene .names) ≡ found (suc inside) pointer
-  pub lists : listedInts (scene .names) (variablesAt t (k + 5) (byteAt t (k + 4))) ≡ some list
-  pub formed : Formed t levels (k + 5 + byteAt t (k + 4)) (inside ∷ listedTypes (pointers list)) (variableAt t (k + 2) ▹ listedNames list) depth body next
+  pub finds : find (variableAt t (k + 3)) (scene .names) ≡ found (braces inside) pointer
+  pub lists : listedScalars (scene .names) (variablesAt t (k + 5) (byteAt t (k + 4))) ≡ some list
+  pub formed : Formed t levels (k + 5 + byteAt t (k + 4)) (inside ∷ listedTypes (anyType (pointers list))) (variableAt t (k + 2) ▹ listedNames list) type body next
   pub most : byteAt t (k + 4) ≤ mostListed
   pub bytes : k + 5 + byteAt t (k + 4) ≤ length t
   pub short : length t ≤ mostBytes
-  pub shallow : depth < mostDepth
-  pub space : 3 + 5 * byteAt t (k + 4) + (treeSize inside + 2) + words body ≤ sp
+  pub shallow : depthOf type < mostDepth
+  pub space : 3 + 5 * byteAt t (k + 4) + (treeSize (depthOf inside) + 2) + words body ≤ sp
   pub few : length (scene .machine .store) + 2 * (length t - k) ≤ mostStreams
 
 -- the trees of the body's environment
 abbrev pub innerTrees : {t : List ℕ} {k sp : ℕ} {env : List ℕ} {buf : List ℤ} {state text : List ℕ} → (g : Each t k sp env buf state text)
-    → All (Tree ℕ) (g .inside ∷ listedTypes (pointers (g .list)))
+    → All IdTree (g .inside ∷ listedTypes (anyType (pointers (g .list))))
 innerTrees g = within (g .pointer) (pointers (g .list)) (g .scene .trees) (length (g .scene .machine .store))
 
 -- the opening of its WithCtrl, whose body's ids start at s
@@ -152,7 +155,7 @@ pub record Inside {t : List ℕ} {k sp : ℕ} {env : List ℕ} {buf : List ℤ} 
   pub sunk : Sunk sink text′ state′
   pub wide : Wide sink
   pub kept : keeps (after .store) buf buf′
-  pub shaped : Shaped (after .store) (g .inside ∷ listedTypes (pointers (g .list))) (innerTrees g)
+  pub shaped : Shaped (after .store) (g .inside ∷ listedTypes (anyType (pointers (g .list)))) (innerTrees g)
   pub spells : drop sp′ env′ ≡ spelled (variableAt t (k + 2) ▹ listedNames (g .list)) (places (after .store) (innerTrees g)) ++ rest
   pub flags : drop (sp - 3) env′ ≡ placeWords (place (after .store) (outer (lookup (g .pointer) (g .scene .trees)))) ++ drop sp env
   pub space : words (g .body) ≤ sp′

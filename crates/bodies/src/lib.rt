@@ -31,7 +31,7 @@ pub enum Entered {
     Stopped(Refusal),
 }
 
-// The int u distributed over the flags whose place stands below sp, and its entry at `to`.
+// The scalar u distributed over the flags whose place stands below sp, and its entry at `to`.
 fn spread_one(
     u: Variable,
     to: usize,
