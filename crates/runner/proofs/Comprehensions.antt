@@ -10,9 +10,10 @@ use lib.ListN.{length, drop, length-append}
 use Rattle.laws.specs.Parts.{part, written}
 use Rattle.snesl.specs.declared.code.Instruction.the-variants.{Close}
 use Rattle.snesl.specs.declared.refusal.Refusal.{Refusal}
+use Rattle.snesl.specs.Values.{ValueType, braces, depthOf}
 use Rattle.snesl.specs.Terms as terms
-use Rattle.snesl.specs.Terms.{_∋_, listedTypes, _▹_, lookup}
-use Rattle.snesl.specs.Trees.{Tree, leaf, node, inner, outer, order, mapTree}
+use Rattle.snesl.specs.Terms.{Scalars, anyType, listedTypes, _▹_, lookup}
+use Rattle.snesl.specs.Trees.{Tree, IdTree, leaf, node, inner, outer, order, mapTree}
 use Rattle.snesl.specs.Programs.{dv, fv, among, ascending}
 use Rattle.snesl.specs.Ids.{idsOf}
 use Rattle.snesl.specs.Streams.{_!_, flags}
@@ -41,7 +42,7 @@ use Rattle.bodies.specs.declared.Entered.the-variants as entered
 use Rattle.bodies.proofs.Lists.{length-listed}
 use Rattle.bodies.proofs.Feeding.{like-opened, wide-like}
 use Rattle.leaves.proofs.Making.{held-told}
-use Rattle.runner.proofs.Measures.{ints-shallow, words-hold}
+use Rattle.runner.proofs.Measures.{scalars-shallow, words-hold}
 use Rattle.leaves.proofs.Places.{place-kept, lookup-shapely, lookup-shallow, outer-flags}
 use Rattle.leaves.proofs.Growing.{keeps-then}
 use Rattle.leaves.proofs.Running.{ran-through, ran-stopped, Through, through, halted, ran-answer}
@@ -53,12 +54,12 @@ unfolding order
 order-long (leaf a) = refl
 order-long (node t a) = length-append (order t) (a ∷ []) ∙ omega (arith, order-long t)
 
-numbered-long : {Γ : List ℕ} → (s : ℕ) (us : List (Γ ∋ 0)) → length (idsOf (numbered s us)) ≡ length us
+numbered-long : {Γ : List ValueType} → (s : ℕ) (us : Scalars Γ) → length (idsOf (numbered s us)) ≡ length us
 unfolding idsOf numbered order
 numbered-long s [] = refl
 numbered-long s (u ∷ us) = ap suc (numbered-long (suc s) us)
 
-abbrev inner-of : {t : List ℕ} {k sp : ℕ} {env : List ℕ} {buf : List ℤ} {state text : List ℕ} → (g : Each t k sp env buf state text) → Tree ℕ (g .inside)
+abbrev inner-of : {t : List ℕ} {k sp : ℕ} {env : List ℕ} {buf : List ℤ} {state text : List ℕ} → (g : Each t k sp env buf state text) → IdTree (g .inside)
 inner-of g = inner (lookup (g .pointer) (g .scene .trees))
 
 module _ {t : List ℕ} {k sp : ℕ} {env : List ℕ} {buf : List ℤ} {state text : List ℕ} (g : Each t k sp env buf state text) {n : ℕ} where
@@ -70,8 +71,8 @@ module _ {t : List ℕ} {k sp : ℕ} {env : List ℕ} {buf : List ℤ} {state te
     pub inside-within : inner ≤ length env₁
     inside-within = omega (arith, long₁, i .below, g .scene .within)
 
-    pub inside-shallow : Shallow (g .inside ∷ listedTypes (pointers (g .list)))
-    inside-shallow = shallow-more {d = g .inside} (omega (arith, lookup-shallow (g .pointer) (g .scene .shallow))) (ints-shallow (pointers (g .list)))
+    pub inside-shallow : Shallow (g .inside ∷ listedTypes (anyType (pointers (g .list))))
+    inside-shallow = shallow-more {τ = g .inside} (omega (arith, lookup-shallow (g .pointer) (g .scene .shallow))) (scalars-shallow (pointers (g .list)))
 
     pub as-many : length (pointers (g .list)) ≡ byteAt t (k + 4)
     as-many = length-listed (g .scene .names) (variablesAt t (k + 5) (byteAt t (k + 4))) (g .list) (g .lists) ∙ length-variables t (k + 5) (byteAt t (k + 4))
@@ -84,7 +85,7 @@ module _ {t : List ℕ} {k sp : ℕ} {env : List ℕ} {buf : List ℤ} {state te
         record {
           scene =
               record {
-                context = g .inside ∷ listedTypes (pointers (g .list));
+                context = g .inside ∷ listedTypes (anyType (pointers (g .list)));
                 names = variableAt t (k + 2) ▹ listedNames (g .list);
                 trees = innerTrees g;
                 machine = i .after;
@@ -99,7 +100,7 @@ module _ {t : List ℕ} {k sp : ℕ} {env : List ℕ} {buf : List ℤ} {state te
                 wide = i .wide;
               };
           levels = g .levels;
-          depth = g .depth;
+          type = g .type;
           term = g .body;
           next = g .next;
           formed = g .formed;
@@ -160,7 +161,7 @@ module _ {t : List ℕ} {k sp : ℕ} {env : List ℕ} {buf : List ℤ} {state te
           record {
             scene =
                 record {
-                  context = g .inside ∷ listedTypes (pointers (g .list));
+                  context = g .inside ∷ listedTypes (anyType (pointers (g .list)));
                   names = variableAt t (k + 2) ▹ listedNames (g .list);
                   trees = innerTrees g;
                   machine = i .after;
@@ -175,7 +176,7 @@ module _ {t : List ℕ} {k sp : ℕ} {env : List ℕ} {buf : List ℤ} {state te
                   wide = told-wide;
                 };
             levels = g .levels;
-            depth = g .depth;
+            type = g .type;
             term = g .body;
             next = g .next;
             formed = g .formed;
@@ -200,10 +201,10 @@ module _ {t : List ℕ} {k sp : ℕ} {env : List ℕ} {buf : List ℤ} {state te
           pub close-sunk : (j : Sink) × Sunk j text₃ state₃
           close-sunk = (_, body-end .left .sunk)
 
-          pub body-depth : d ≡ g .depth
+          pub body-depth : d ≡ depthOf (g .type)
           body-depth = body-end .depth-is
 
-          low : treeSize (g .depth) ≤ inner
+          low : treeSize (depthOf (g .type)) ≤ inner
           low = omega (arith, i .space, words-hold (g .body))
 
           pub lift-fits : length env₃ ≡ length env₂ → (d < 4294967296) × (treeSize d ≤ inner) × (inner ≤ sp - 3) × (sp - 3 ≤ length env₃)
@@ -213,7 +214,7 @@ module _ {t : List ℕ} {k sp : ℕ} {env : List ℕ} {buf : List ℤ} {state te
           pub one-deeper : d + 1 ≤ 8
           one-deeper = omega (arith, body-depth, g .shallow)
 
-          abbrev body-tree : Tree ℕ (g .depth)
+          abbrev body-tree : IdTree (g .type)
           body-tree = tree (g .body) (innerTrees g) (length (i .after .store))
 
           abbrev flags-id : ℕ
@@ -243,14 +244,14 @@ module _ {t : List ℕ} {k sp : ℕ} {env : List ℕ} {buf : List ℤ} {state te
               → Runs (g .scene) (terms.each (g .pointer) (pointers (g .list)) (g .body)) n (g .next) env₄ buf₃ state₄ text₄ (walked-as.Tree (d + 1) end)
           unfolding treeWords mapTree
           each-runs {env₄} {state₄} {text₄} long₃ c w₄ =
-              let moved : env₄ ≡ written (sp - 3 - treeSize (g .depth)) (part (inner - treeSize (g .depth)) (treeSize (g .depth)) env₃) env₃ =
+              let moved : env₄ ≡ written (sp - 3 - treeSize (depthOf (g .type))) (part (inner - treeSize (depthOf (g .type))) (treeSize (depthOf (g .type))) env₃) env₃ =
               w₄ ∙ ap (λ c. written (sp - 3 - treeSize c) (part (inner - treeSize c) (treeSize c) env₃) env₃) body-depth in
               let since : keeps (i .after .store) buf buf₂ = o .kept ∙ i .kept in
               let below : inner ≤ sp - 3 = omega (arith, i .below) in
-              let lifted : drop (sp - 3 - treeSize (g .depth)) env₄ ≡ treeWords (mapTree (place (body-end .after .store)) body-tree) ++ drop (sp - 3) env₂ =
+              let lifted : drop (sp - 3 - treeSize (depthOf (g .type))) env₄ ≡ treeWords (mapTree (place (body-end .after .store)) body-tree) ++ drop (sp - 3) env₂ =
               lifted-words body-tree (body-end .after) inner (sp - 3) env₂ env₃ env₄ (body-end .left .words) low below (omega (arith, long₃, long₂, long₁, g .scene .within)) moved in
-              let three : sp - treeSize (suc (g .depth)) ≡ sp - 3 - treeSize (g .depth) = omega arith in
-              let words : drop (sp - treeSize (suc (g .depth))) env₄
+              let three : sp - treeSize (suc (depthOf (g .type))) ≡ sp - 3 - treeSize (depthOf (g .type)) = omega arith in
+              let words : drop (sp - treeSize (suc (depthOf (g .type)))) env₄
               ≡ (treeWords (mapTree (place (body-end .after .store)) body-tree) ++ placeWords (place (body-end .after .store) flags-id)) ++ drop sp env =
               ap (λ a. drop a env₄) three
               ∙ (lifted
@@ -264,11 +265,11 @@ module _ {t : List ℕ} {k sp : ℕ} {env : List ℕ} {buf : List ℤ} {state te
                 sunk = subst (λ z. Sunk z text₄ state₄) (sym (i .fed)) (c _ (body-end .left .sunk) .sunk);
                 kept = keeps-then (i .after .store) (gr .streams) (body-end .after .store) buf buf₂ buf₃ since (body-end .left .kept) (gr .store);
                 shapely =
-                    subst (Shapely (body-end .after .store) (suc (g .depth))) tree-is
+                    subst (Shapely (body-end .after .store) (braces (g .type))) tree-is
                     (shapely-node (flags-stream .0) (body-end .left .shapely)
                     (ap (λ σ. σ ! flags-id) all-stored ∙ kept (g .scene .machine .store) (i .streams ++ gr .streams) flags-id (flags (flags-stream .0)) (flags-stream .1)));
                 words = words ∙ ap (λ u. treeWords (mapTree (place (body-end .after .store)) u) ++ drop sp env) tree-is;
               }))
             where
-              deeper : suc (g .depth) ≡ d + 1
+              deeper : suc (depthOf (g .type)) ≡ d + 1
               deeper = omega (arith, body-depth)

@@ -10,8 +10,10 @@ use lib.ListN.{length, drop}
 use Rattle.laws.proofs.Never.{never}
 use Rattle.snesl.specs.declared.code.Variable.{Variable}
 use Rattle.snesl.specs.Limits.{mostDepth, mostListed}
+use Rattle.snesl.specs.declared.code.Operation.the-variants.{Plus}
+use Rattle.snesl.specs.Values.{ValueType, int, depthOf}
 use Rattle.snesl.specs.Terms as terms
-use Rattle.snesl.specs.Terms.{Term, listedTypes, _▹_, lookup}
+use Rattle.snesl.specs.Terms.{Term, anyType, listedTypes, _▹_, lookup}
 use Rattle.snesl.specs.declared.code.Transducer.{Transducer}
 use Rattle.snesl.specs.declared.code.Transducer.the-variants as transducer
 use Rattle.snesl.specs.Trees.{leaf, root, inner, outer}
@@ -41,11 +43,11 @@ use Rattle.leaves.proofs.Places.{lookup-places, lookup-shapely, lookup-shallow}
 use Rattle.leaves.proofs.Operands.{sought}
 use Rattle.leaves.proofs.Running.{ran-through, ran-answer}
 use Rattle.bodies.proofs.Fields.{let-field, each-fields}
-use Rattle.bodies.proofs.Lists.{found-int, length-listed}
+use Rattle.bodies.proofs.Lists.{length-listed}
 use Rattle.records.proofs.Variables.{length-variables}
 use Rattle.runner.specs.declared.Route.the-variants as route
 use Rattle.runner.specs.Walks.{routed, Ready, Binding}
-use Rattle.runner.proofs.Reading.{found-sequence, found-ints}
+use Rattle.runner.proofs.Reading.{found-int, found-sequence, found-ints}
 use Rattle.runner.proofs.Measures.{spans}
 
 -- ---- a route comes from its heads alone
@@ -131,21 +133,21 @@ module _ {t : List ℕ} {k sp : ℕ} {env : List ℕ} {buf : List ℤ} {state te
 
   -- ---- a variable
 
-  pub name-sought : {x : Variable} → route.Name x ≡ routed k (headOf (headAt t k)) → ((s : Sought env sp x) × (s .depth ≤ mostDepth) × (treeSize (s .depth) ≤ sp)) × (sp ≤ length env)
+  pub name-sought : {x : Variable} → route.Name x ≡ routed k (headOf (headAt t k)) → ((s : Sought env sp x) × (depthOf (s .type) ≤ mostDepth) × (treeSize (depthOf (s .type)) ≤ sp)) × (sp ≤ length env)
   unfolding words
   name-sought {x} h = (
-    by-var (λ d e next. words e ≤ sp → (s : Sought env sp x) × (s .depth ≤ mostDepth) × (treeSize (s .depth) ≤ sp)) (g .formed) (told t k (head.Var x) (named-head k _ h) .0)
-        (λ c v f w. (sought (g .scene) v f, lookup-shallow v (g .scene .shallow), w)) (g .space),
+    by-var (λ τ e next. words e ≤ sp → (s : Sought env sp x) × (depthOf (s .type) ≤ mostDepth) × (treeSize (depthOf (s .type)) ≤ sp)) (g .formed) (told t k (head.Var x) (named-head k _ h) .0)
+        (λ τ v f w. (sought (g .scene) v f, lookup-shallow v (g .scene .shallow), w)) (g .space),
     g .scene .within,
   )
 
   pub name-runs : {env′ : List ℕ} {r : Walked} {x : Variable} (n : ℕ) → route.Name x ≡ routed k (headOf (headAt t k))
-      → ((s : Sought env sp x) → (r ≡ walked-as.Tree (s .depth) (k + 3)) × (drop (sp - treeSize (s .depth)) env′ ≡ treeWords (lookup (s .pointer) (s .trees)) ++ drop sp env))
+      → ((s : Sought env sp x) → (r ≡ walked-as.Tree (depthOf (s .type)) (k + 3)) × (drop (sp - treeSize (depthOf (s .type))) env′ ≡ treeWords (lookup (s .pointer) (s .trees)) ++ drop sp env))
       → Runs (g .scene) (g .term) n (g .next) env′ buf state text r
   unfolding code tree feed
   name-runs {env′} {r} {x} n h w =
-      by-var (λ d e next. Runs (g .scene) e n next env′ buf state text r) (g .formed) (told t k (head.Var x) (named-head k _ h) .0)
-      (λ c v f.
+      by-var (λ τ e next. Runs (g .scene) e n next env′ buf state text r) (g .formed) (told t k (head.Var x) (named-head k _ h) .0)
+      (λ τ v f.
       let a = w (sought (g .scene) v f) in
       ran-answer (sym (a .0))
       (ran-through (g .scene .machine) (walked-done (length buf) n (g .scene .machine))
@@ -160,12 +162,12 @@ module _ {t : List ℕ} {k sp : ℕ} {env : List ℕ} {buf : List ℤ} {state te
   -- ---- one instruction
 
   -- a form at k, and that its walk is the walk of what stands there
-  pub record SoleAt (f : Form) (i : ℕ) {d : ℕ} (e : Term (g .scene .context) d) (next : ℕ) : Type 0 where
+  pub record SoleAt (f : Form) (i : ℕ) {τ : ValueType} (e : Term (g .scene .context) τ) (next : ℕ) : Type 0 where
     pub sole : Sole f sp env buf state text
     pub runs : (n : ℕ) {env′ : List ℕ} {buf′ : List ℤ} {state′ text′ : List ℕ} {r : Walked} → Runs (sole .scene) (sole .term) n i env′ buf′ state′ text′ r
         → Runs (g .scene) e n next env′ buf′ state′ text′ r
 
-  sole-of : {f : Form} (e : Term (g .scene .context) 0) (t₁ : Transducer) → Named (g .scene .names) (g .scene .trees) f t₁ → ((s : ℕ) → code e (g .scene .trees) s ≡ define t₁ done)
+  sole-of : {f : Form} (e : Term (g .scene .context) int) (t₁ : Transducer) → Named (g .scene .names) (g .scene .trees) f t₁ → ((s : ℕ) → code e (g .scene .trees) s ≡ define t₁ done)
       → ((s : ℕ) → tree e (g .scene .trees) s ≡ leaf s) → 3 ≤ sp → length (g .scene .machine .store) + 1 ≤ mostStreams → (i : ℕ) → SoleAt f i e i
   sole-of e t₁ m c u low few i =
       record {
@@ -176,22 +178,22 @@ module _ {t : List ℕ} {k sp : ℕ} {env : List ℕ} {buf : List ℤ} {state te
   const-at : (z : ℤ) → head.Const z ≡ headOf (headAt t k) → SoleAt (form.Const z) (k + 6) (g .term) (g .next)
   unfolding code tree words
   const-at z e =
-      by-const (λ d e next. words e ≤ sp → SoleAt (form.Const z) (k + 6) e next) (g .formed) (told t k (head.Const z) e .0)
+      by-const (λ τ e next. words e ≤ sp → SoleAt (form.Const z) (k + 6) e next) (g .formed) (told t k (head.Const z) e .0)
       (λ w. sole-of (terms.const z) (transducer.Const z) named-const (λ s. refl) (λ s. refl) w (omega (arith, g .few, told t k (head.Const z) e .1)) (k + 6)) (g .space)
 
   plus-at : (x y : Variable) → head.Plus x y ≡ headOf (headAt t k) → SoleAt (form.Plus x y) (k + 4) (g .term) (g .next)
   unfolding code tree words
   plus-at x y e =
-      by-plus (λ d e next. words e ≤ sp → SoleAt (form.Plus x y) (k + 4) e next) (g .formed) (told t k (head.Plus x y) e .0)
+      by-plus (λ τ e next. words e ≤ sp → SoleAt (form.Plus x y) (k + 4) e next) (g .formed) (told t k (head.Plus x y) e .0)
       (λ v w p q r.
-      sole-of (terms.plus v w) (transducer.MapTwoPlus (id (root (lookup v (g .scene .trees)))) (id (root (lookup w (g .scene .trees))))) (named-plus (found-int _ p) (found-int _ q)) (λ s. refl) (λ s. refl) r
+      sole-of (terms.plus v w) (transducer.MapTwo Plus (id (root (lookup v (g .scene .trees)))) (id (root (lookup w (g .scene .trees))))) (named-plus (found-int _ p) (found-int _ q)) (λ s. refl) (λ s. refl) r
       (omega (arith, g .few, told t k (head.Plus x y) e .1)) (k + 4))
       (g .space)
 
   sum-at : (x : Variable) → head.Sum x ≡ headOf (headAt t k) → SoleAt (form.Sum x) (k + 3) (g .term) (g .next)
   unfolding code tree words
   sum-at x e =
-      by-sum (λ d e next. words e ≤ sp → SoleAt (form.Sum x) (k + 3) e next) (g .formed) (told t k (head.Sum x) e .0)
+      by-sum (λ τ e next. words e ≤ sp → SoleAt (form.Sum x) (k + 3) e next) (g .formed) (told t k (head.Sum x) e .0)
       (λ v p r.
       sole-of (terms.sum v) (transducer.SumPlus (id (outer (lookup v (g .scene .trees)))) (id (root (inner (lookup v (g .scene .trees)))))) (named-sum (found-ints _ p)) (λ s. refl) (λ s. refl) r
       (omega (arith, g .few, told t k (head.Sum x) e .1)) (k + 3))
@@ -206,7 +208,7 @@ module _ {t : List ℕ} {k sp : ℕ} {env : List ℕ} {buf : List ℤ} {state te
 
   -- ---- iota
 
-  pub record CountingAt (x : Variable) {d : ℕ} (e : Term (g .scene .context) d) (next : ℕ) : Type 0 where
+  pub record CountingAt (x : Variable) {τ : ValueType} (e : Term (g .scene .context) τ) (next : ℕ) : Type 0 where
     pub counting : Counting x sp env buf state text
     pub runs : (n : ℕ) {env′ : List ℕ} {buf′ : List ℤ} {state′ text′ : List ℕ} {r : Walked} → Runs (counting .scene) (terms.iota (counting .pointer)) n (k + 3) env′ buf′ state′ text′ r
         → Runs (g .scene) e n next env′ buf′ state′ text′ r
@@ -214,7 +216,7 @@ module _ {t : List ℕ} {k sp : ℕ} {env : List ℕ} {buf : List ℤ} {state te
   pub counting-at : {x : Variable} → route.Iota x ≡ routed k (headOf (headAt t k)) → CountingAt x (g .term) (g .next)
   unfolding words
   counting-at {x} h =
-      by-iota (λ d e next. words e ≤ sp → CountingAt x e next) (g .formed) (told t k (head.Iota x) (iota-head k _ h) .0)
+      by-iota (λ τ e next. words e ≤ sp → CountingAt x e next) (g .formed) (told t k (head.Iota x) (iota-head k _ h) .0)
       (λ v p w.
       record {
         counting = record { scene = g .scene; pointer = v; finds = found-int _ p; low = w; few = enough (told t k (head.Iota x) (iota-head k _ h) .1) };
@@ -224,7 +226,7 @@ module _ {t : List ℕ} {k sp : ℕ} {env : List ℕ} {buf : List ℤ} {state te
 
   -- ---- let
 
-  pub record BindingAt {d : ℕ} (e : Term (g .scene .context) d) (next : ℕ) : Type 0 where
+  pub record BindingAt {τ : ValueType} (e : Term (g .scene .context) τ) (next : ℕ) : Type 0 where
     pub binding : Binding t k sp env buf state text
     pub runs : (n : ℕ) {env′ : List ℕ} {buf′ : List ℤ} {state′ text′ : List ℕ} {r : Walked}
         → Runs (binding .scene) (terms.bind (binding .bound) (binding .body)) n (binding .next) env′ buf′ state′ text′ r → Runs (g .scene) e n next env′ buf′ state′ text′ r
@@ -233,21 +235,21 @@ module _ {t : List ℕ} {k sp : ℕ} {env : List ℕ} {buf : List ℤ} {state te
   unfolding words
   binding-at h =
       let l = let-head k (headOf (headAt t k)) h in
-      by-bind (λ d e next. words e ≤ sp → BindingAt e next) (g .formed) (told t k (head.Let (l .0)) (l .1) .0)
-      (λ c d e₁ e₂ k₁ k₂ some f₁ f₂ w.
+      by-bind (λ τ e next. words e ≤ sp → BindingAt e next) (g .formed) (told t k (head.Let (l .0)) (l .1) .0)
+      (λ υ τ e₁ e₂ k₁ k₂ some f₁ f₂ w.
       record {
         binding =
             record {
               scene = g .scene;
               levels = g .levels - 1;
-              depth₁ = c;
-              depth = d;
+              type₁ = υ;
+              type = τ;
               bound = e₁;
               body = e₂;
               middle = k₁;
               next = k₂;
               first = f₁;
-              second = subst (λ x. Formed t (g .levels - 1) k₁ (c ∷ g .scene .context) (x ▹ g .scene .names) d e₂ k₂) (let-field t k (l .0) (l .1)) f₂;
+              second = subst (λ x. Formed t (g .levels - 1) k₁ (υ ∷ g .scene .context) (x ▹ g .scene .names) τ e₂ k₂) (let-field t k (l .0) (l .1)) f₂;
               short = g .short;
               space = w;
               few = g .few;
@@ -258,7 +260,7 @@ module _ {t : List ℕ} {k sp : ℕ} {env : List ℕ} {buf : List ℤ} {state te
 
   -- ---- a comprehension
 
-  pub record EachAt {d : ℕ} (e : Term (g .scene .context) d) (next : ℕ) : Type 0 where
+  pub record EachAt {τ : ValueType} (e : Term (g .scene .context) τ) (next : ℕ) : Type 0 where
     pub each : Each t k sp env buf state text
     pub runs : (n : ℕ) {env′ : List ℕ} {buf′ : List ℤ} {state′ text′ : List ℕ} {r : Walked}
         → Runs (each .scene) (terms.each (each .pointer) (pointers (each .list)) (each .body)) n (each .next) env′ buf′ state′ text′ r → Runs (g .scene) e n next env′ buf′ state′ text′ r
@@ -275,8 +277,8 @@ module _ {t : List ℕ} {k sp : ℕ} {env : List ℕ} {buf : List ℤ} {state te
   unfolding words
   each-at h =
       let p = each-fields-at h in
-      by-each (λ d e next. words e ≤ sp → EachAt e next) (g .formed) (p .0)
-      (λ c d n v ls e some f i body deep w.
+      by-each (λ τ e next. words e ≤ sp → EachAt e next) (g .formed) (p .0)
+      (λ υ τ n v ls e some f i body deep w.
       let at : k + (5 + byteAt t (k + 4)) ≡ k + 5 + byteAt t (k + 4) = omega arith in
       let long : length (pointers ls) ≡ byteAt t (k + 4) = length-listed (g .scene .names) (variablesAt t (k + 5) (byteAt t (k + 4))) ls i ∙ length-variables t (k + 5) (byteAt t (k + 4)) in
       record {
@@ -284,19 +286,19 @@ module _ {t : List ℕ} {k sp : ℕ} {env : List ℕ} {buf : List ℤ} {state te
             record {
               scene = g .scene;
               levels = g .levels - 1;
-              inside = c;
+              inside = υ;
               pointer = v;
               list = ls;
-              depth = d;
+              type = τ;
               body = e;
               next = n;
               finds = found-sequence _ f;
               lists = i;
-              formed = subst (λ m. Formed t (g .levels - 1) m (c ∷ listedTypes (pointers ls)) (variableAt t (k + 2) ▹ listedNames ls) d e n) at body;
+              formed = subst (λ m. Formed t (g .levels - 1) m (υ ∷ listedTypes (anyType (pointers ls))) (variableAt t (k + 2) ▹ listedNames ls) τ e n) at body;
               most = p .2;
               bytes = omega (arith, p .1);
               short = g .short;
-              shallow = ltb-true d mostDepth deep;
+              shallow = ltb-true (depthOf τ) mostDepth deep;
               space = omega (arith, w, long);
               few = g .few;
             };
@@ -310,5 +312,5 @@ module _ {t : List ℕ} {k sp : ℕ} {env : List ℕ} {buf : List ℤ} {state te
   no-record {X} h = go (no-head k (headOf (headAt t k)) h)
     where
       go : (head.Absent ≡ headOf (headAt t k)) ⊎ (head.Over ≡ headOf (headAt t k)) → X
-      go (inl e) = not-absent (λ d e next. X) (g .formed) (told t k head.Absent e)
-      go (inr e) = not-over (λ d e next. X) (g .formed) (told t k head.Over e)
+      go (inl e) = not-absent (λ τ e next. X) (g .formed) (told t k head.Absent e)
+      go (inr e) = not-over (λ τ e next. X) (g .formed) (told t k head.Over e)

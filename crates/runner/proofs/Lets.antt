@@ -8,9 +8,10 @@ use lib.ListN.{length, drop, length-append}
 use Rattle.laws.specs.Parts.{part, written}
 use Rattle.snesl.specs.declared.code.Variable.{Variable}
 use Rattle.snesl.specs.declared.refusal.Refusal.{Refusal}
+use Rattle.snesl.specs.Values.{depthOf}
 use Rattle.snesl.specs.Terms as terms
 use Rattle.snesl.specs.Terms.{_▹_}
-use Rattle.snesl.specs.Trees.{Tree, mapTree}
+use Rattle.snesl.specs.Trees.{IdTree, mapTree}
 use Rattle.snesl.specs.Programs.{count}
 use Rattle.snesl.specs.Machine.{onward}
 use Rattle.snesl.specs.Records.{byteAt, variableAt}
@@ -51,7 +52,7 @@ module _ {t : List ℕ} {k sp : ℕ} {env : List ℕ} {buf : List ℤ} {state te
       record {
         scene = g .scene;
         levels = g .levels;
-        depth = g .depth₁;
+        type = g .type₁;
         term = g .bound;
         next = g .middle;
         formed = g .first;
@@ -63,7 +64,7 @@ module _ {t : List ℕ} {k sp : ℕ} {env : List ℕ} {buf : List ℤ} {state te
   abbrev start : ℕ
   start = length (g .scene .machine .store)
 
-  abbrev tree₁ : Tree ℕ (g .depth₁)
+  abbrev tree₁ : IdTree (g .type₁)
   tree₁ = tree (g .bound) (g .scene .trees) (length (g .scene .machine .store))
 
   pub let-bytes : (k + 3 < length t) × (length t ≤ 65536)
@@ -85,7 +86,7 @@ module _ {t : List ℕ} {k sp : ℕ} {env : List ℕ} {buf : List ℤ} {state te
         pub first-end : Through w c i
         first-end = through w c i e
 
-        pub first-depth : c ≡ g .depth₁
+        pub first-depth : c ≡ depthOf (g .type₁)
         first-depth = first-end .depth-is
 
         pub first-next : i ≡ g .middle
@@ -95,7 +96,7 @@ module _ {t : List ℕ} {k sp : ℕ} {env : List ℕ} {buf : List ℤ} {state te
         second-later =
             (omega (arith, first-next, spans (g .first) .some-bytes), omega (arith, first-next, spans (g .first) .within))
 
-        pub first-shallow : g .depth₁ ≤ 8
+        pub first-shallow : depthOf (g .type₁) ≤ 8
         first-shallow = shallow-type (g .first) (g .scene .shallow)
 
         pub bind-fits : length env₁ ≡ length env → (c < 4294967296) × (treeSize c + 2 ≤ sp) × (sp ≤ length env₁)
@@ -113,7 +114,7 @@ module _ {t : List ℕ} {k sp : ℕ} {env : List ℕ} {buf : List ℤ} {state te
         module _ {env₂ : List ℕ} {inner : ℕ} (at : inner ≡ sp - treeSize c - 2) (w₂ : env₂ ≡ written (sp - treeSize c - 2) (byteAt t (k + 2) ∷ c ∷ []) env₁)
             (long₁ : length env₁ ≡ length env) where
           abbrev size₁ : ℕ
-          size₁ = treeSize (g .depth₁)
+          size₁ = treeSize (depthOf (g .type₁))
 
           room-below : size₁ + 2 + words (g .body) ≤ sp
           room-below = omega (arith, g .space)
@@ -121,7 +122,7 @@ module _ {t : List ℕ} {k sp : ℕ} {env : List ℕ} {buf : List ℤ} {state te
           inner-is : inner ≡ sp - size₁ - 2
           inner-is = at ∙ ap (λ d. sp - treeSize d - 2) first-depth
 
-          named : env₂ ≡ written (sp - size₁ - 2) (x .0 ∷ g .depth₁ ∷ []) env₁
+          named : env₂ ≡ written (sp - size₁ - 2) (x .0 ∷ depthOf (g .type₁) ∷ []) env₁
           named = w₂ ∙ ap (λ d. written (sp - treeSize d - 2) (x .0 ∷ d ∷ []) env₁) first-depth
 
           two-up : sp - size₁ - 2 + 2 ≡ sp - size₁
@@ -137,18 +138,18 @@ module _ {t : List ℕ} {k sp : ℕ} {env : List ℕ} {buf : List ℤ} {state te
           spells₁ = grown-spells (g .scene) (first-end .after) (gr .streams) (gr .store) env refl
 
           pub second-spells : drop inner env₂
-              ≡ spelled (variableAt t (k + 2) ▹ g .scene .names) (places (first-end .after .store) (tree (g .bound) (g .scene .trees) (length (g .scene .machine .store)) ▹ g .scene .trees)) ++ g .scene .rest
+              ≡ spelled (variableAt t (k + 2) ▹ g .scene .names) (places (first-end .after .store) (_▹_ {τ = g .type₁} (tree (g .bound) (g .scene .trees) (length (g .scene .machine .store))) (g .scene .trees))) ++ g .scene .rest
           unfolding places
           second-spells =
               ap (λ a. drop a env₂) inner-is
               ∙ (ap (drop (sp - size₁ - 2)) named
-              ∙ bound env₁ (sp - size₁ - 2) x (g .scene .names) (mapTree (place (first-end .after .store)) tree₁)
+              ∙ bound (g .type₁) env₁ (sp - size₁ - 2) x (g .scene .names) (mapTree (place (first-end .after .store)) tree₁)
               (places (first-end .after .store) (g .scene .trees)) (g .scene .rest) fits
               (ap (λ a. drop a env₁) two-up
               ∙ (first-end .left .words ∙ ap (λ l. treeWords (mapTree (place (first-end .after .store)) tree₁) ++ l) spells₁)))
 
           pub second-long : length env₂ ≡ length env
-          second-long = ap length named ∙ (length-written env₁ (sp - size₁ - 2) (x .0 ∷ g .depth₁ ∷ []) fits ∙ long₁)
+          second-long = ap length named ∙ (length-written env₁ (sp - size₁ - 2) (x .0 ∷ depthOf (g .type₁) ∷ []) fits ∙ long₁)
 
           pub second-within : inner ≤ length env₂
           second-within = subst (λ a. a ≤ length env₂) (sym inner-is) (omega (arith, second-long, g .scene .within))
@@ -156,8 +157,8 @@ module _ {t : List ℕ} {k sp : ℕ} {env : List ℕ} {buf : List ℤ} {state te
           pub second-space : words (g .body) ≤ inner
           second-space = subst (λ a. words (g .body) ≤ a) (sym inner-is) (omega (arith, room-below))
 
-          pub second-formed : Formed t (g .levels) i (g .depth₁ ∷ g .scene .context) (variableAt t (k + 2) ▹ g .scene .names) (g .depth) (g .body) (g .next)
-          second-formed = subst (λ a. Formed t (g .levels) a (g .depth₁ ∷ g .scene .context) (x ▹ g .scene .names) (g .depth) (g .body) (g .next)) (sym first-next) (g .second)
+          pub second-formed : Formed t (g .levels) i (g .type₁ ∷ g .scene .context) (variableAt t (k + 2) ▹ g .scene .names) (g .type) (g .body) (g .next)
+          second-formed = subst (λ a. Formed t (g .levels) a (g .type₁ ∷ g .scene .context) (x ▹ g .scene .names) (g .type) (g .body) (g .next)) (sym first-next) (g .second)
 
           pub second-few : length (first-end .after .store) + 2 * (length t - i) ≤ mostStreams
           second-few =
@@ -165,7 +166,7 @@ module _ {t : List ℕ} {k sp : ℕ} {env : List ℕ} {buf : List ℤ} {state te
               let z = spans (g .second) in
               omega (arith, first-next, number, s .sized, s .within, s .some-bytes, z .within, z .some-bytes, g .few)
 
-          pub second-shaped : Shaped (first-end .after .store) (g .depth₁ ∷ g .scene .context) (tree (g .bound) (g .scene .trees) (length (g .scene .machine .store)) ▹ g .scene .trees)
+          pub second-shaped : Shaped (first-end .after .store) (g .type₁ ∷ g .scene .context) (tree (g .bound) (g .scene .trees) (length (g .scene .machine .store)) ▹ g .scene .trees)
           second-shaped = shaped-more (first-end .left .shapely) (grown-shaped (g .scene) (first-end .after) (gr .streams) (gr .store))
 
           abbrev pub second-ready : Ready t i inner env₂ buf₁ state₁ text₁
@@ -173,7 +174,7 @@ module _ {t : List ℕ} {k sp : ℕ} {env : List ℕ} {buf : List ℤ} {state te
               record {
                 scene =
                     record {
-                      context = g .depth₁ ∷ g .scene .context;
+                      context = g .type₁ ∷ g .scene .context;
                       names = variableAt t (k + 2) ▹ g .scene .names;
                       trees = tree (g .bound) (g .scene .trees) (length (g .scene .machine .store)) ▹ g .scene .trees;
                       machine = first-end .after;
@@ -188,7 +189,7 @@ module _ {t : List ℕ} {k sp : ℕ} {env : List ℕ} {buf : List ℤ} {state te
                       wide = wide-like (like-fed (length (g .scene .machine .store)) (code (g .bound) (g .scene .trees) (length (g .scene .machine .store))) (g .scene .sink)) (g .scene .wide);
                     };
                 levels = g .levels;
-                depth = g .depth;
+                type = g .type;
                 term = g .body;
                 next = g .next;
                 formed = second-formed;
@@ -214,13 +215,13 @@ module _ {t : List ℕ} {k sp : ℕ} {env : List ℕ} {buf : List ℤ} {state te
               second-end : Through w₃ d end
               second-end = through w₃ d end f
 
-              pub second-depth : d ≡ g .depth
+              pub second-depth : d ≡ depthOf (g .type)
               second-depth = second-end .depth-is
 
-              pub second-shallow : g .depth ≤ 8
+              pub second-shallow : depthOf (g .type) ≤ 8
               second-shallow = shallow-type (g .second) (shallow-more first-shallow (g .scene .shallow))
 
-              low : treeSize (g .depth) ≤ inner
+              low : treeSize (depthOf (g .type)) ≤ inner
               low = omega (arith, words-hold (g .body), second-space)
 
               below : inner ≤ sp
@@ -230,7 +231,7 @@ module _ {t : List ℕ} {k sp : ℕ} {env : List ℕ} {buf : List ℤ} {state te
               lift-fits long₃ =
                   (omega (arith, second-depth, second-shallow), omega (arith, second-depth, low), below, omega (arith, long₃, second-long, g .scene .within))
 
-              abbrev tree₂ : Tree ℕ (g .depth)
+              abbrev tree₂ : IdTree (g .type)
               tree₂ = tree (g .body) (tree₁ ▹ g .scene .trees) (length (first-end .after .store))
 
               gr₂ : Grown (first-end .after) (code (g .body) (tree₁ ▹ g .scene .trees) (length (first-end .after .store))) (second-end .after)
@@ -245,7 +246,7 @@ module _ {t : List ℕ} {k sp : ℕ} {env : List ℕ} {buf : List ℤ} {state te
               above-second : drop sp env₂ ≡ drop sp env
               above-second =
                   ap (drop sp) named
-                  ∙ (drop-written env₁ (sp - size₁ - 2) sp (x .0 ∷ g .depth₁ ∷ []) (subst (λ a. a ≤ sp) (sym two-up) (omega arith)) (omega (arith, long₁, g .scene .within))
+                  ∙ (drop-written env₁ (sp - size₁ - 2) sp (x .0 ∷ depthOf (g .type₁) ∷ []) (subst (λ a. a ≤ sp) (sym two-up) (omega arith)) (omega (arith, long₁, g .scene .within))
                   ∙ above-first)
 
               fed : feed (length (first-end .after .store)) (code (g .body) (tree₁ ▹ g .scene .trees) (length (first-end .after .store))) (feed start (code (g .bound) (g .scene .trees) start) (g .scene .sink))
@@ -260,19 +261,19 @@ module _ {t : List ℕ} {k sp : ℕ} {env : List ℕ} {buf : List ℤ} {state te
                   → env₄ ≡ written (sp - treeSize d) (part (inner - treeSize d) (treeSize d) env₃) env₃
                   → Runs (g .scene) (terms.bind (g .bound) (g .body)) n (g .next) env₄ buf₂ state₂ text₂ (walked-as.Tree d end)
               let-runs {env₄} long₃ w₄ =
-                  let moved : env₄ ≡ written (sp - treeSize (g .depth)) (part (inner - treeSize (g .depth)) (treeSize (g .depth)) env₃) env₃ =
+                  let moved : env₄ ≡ written (sp - treeSize (depthOf (g .type))) (part (inner - treeSize (depthOf (g .type))) (treeSize (depthOf (g .type))) env₃) env₃ =
                   w₄ ∙ ap (λ c. written (sp - treeSize c) (part (inner - treeSize c) (treeSize c) env₃) env₃) second-depth in
-                  let words : drop (sp - treeSize (g .depth)) env₄ ≡ treeWords (mapTree (place (second-end .after .store)) tree₂) ++ drop sp env₂ =
+                  let words : drop (sp - treeSize (depthOf (g .type))) env₄ ≡ treeWords (mapTree (place (second-end .after .store)) tree₂) ++ drop sp env₂ =
                   lifted-words tree₂ (second-end .after) inner sp env₂ env₃ env₄ (second-end .left .words) low below (omega (arith, long₃, second-long, g .scene .within)) moved in
                   let ran : Ran (walked (length buf) n (code (terms.bind (g .bound) (g .body)) (g .scene .trees) start) (g .scene .machine))
                   (feed start (code (terms.bind (g .bound) (g .body)) (g .scene .trees) start) (g .scene .sink))
-                  (tree (terms.bind (g .bound) (g .body)) (g .scene .trees) start) (g .next) sp env env₄ buf buf₂ state₂ text₂ (walked-as.Tree (g .depth) (g .next)) =
+                  (g .type) (tree (terms.bind (g .bound) (g .body)) (g .scene .trees) start) (g .next) sp env env₄ buf buf₂ state₂ text₂ (walked-as.Tree (depthOf (g .type)) (g .next)) =
                   ran-through (second-end .after) (then-second long ∙ second-end .went-to)
                   (record {
                     held = second-end .left .held;
                     sunk = subst (λ z. Sunk z text₂ state₂) fed (second-end .left .sunk);
                     kept = keeps-then (first-end .after .store) (gr₂ .streams) (second-end .after .store) buf buf₁ buf₂ (first-end .left .kept) (second-end .left .kept) (gr₂ .store);
-                    shapely = subst (Shapely (second-end .after .store) (g .depth)) tree-is (second-end .left .shapely);
+                    shapely = subst (Shapely (second-end .after .store) (g .type)) tree-is (second-end .left .shapely);
                     words =
                         words
                         ∙ (λ j. treeWords (mapTree (place (second-end .after .store)) (tree-is j)) ++ above-second j);

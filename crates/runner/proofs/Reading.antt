@@ -1,23 +1,31 @@
--- What was found where a sequence or a sequence of ints was.
-use Prim.Native.Nat.{ℕ, zero, suc}
+-- What was found where an int, a sequence or a sequence of ints was.
 use mathlib.Core.List.{List}
 use mathlib.Core.Option.{some}
 use mathlib.Core.Path.{_≡_, ap}
 use Rattle.laws.proofs.Never.{never}
+use Rattle.snesl.specs.declared.code.Base.the-variants as base
+use Rattle.snesl.specs.Values.{ValueType, scalar, braces, int}
 use Rattle.snesl.specs.Terms.{_∋_}
-use Rattle.snesl.specs.Checking.{Found, missing, found, asInts, Sequence, noSequence, sequence, asSequence}
+use Rattle.snesl.specs.Checking.{Found, missing, found, asScalar, asInt, asInts, Sequence, noSequence, sequence, asSequence}
 
-abbrev foundIn : {Γ : List ℕ} → Sequence Γ → Found Γ
+pub found-int : {Γ : List ValueType} {v : Γ ∋ int} → (f : Found Γ) → asInt (asScalar f) ≡ some v → f ≡ found int v
+found-int missing e = never (cc)
+found-int (found (scalar base.Int) x) e = cc
+found-int (found (scalar base.Bool) x) e = never (cc)
+found-int (found (braces τ) x) e = never (cc)
+
+abbrev foundIn : {Γ : List ValueType} → Sequence Γ → Found Γ
 foundIn noSequence = missing
-foundIn (sequence c v) = found (suc c) v
+foundIn (sequence υ v) = found (braces υ) v
 
-pub found-sequence : {Γ : List ℕ} {c : ℕ} {v : Γ ∋ suc c} → (f : Found Γ) → asSequence f ≡ sequence c v → f ≡ found (suc c) v
+pub found-sequence : {Γ : List ValueType} {υ : ValueType} {v : Γ ∋ braces υ} → (f : Found Γ) → asSequence f ≡ sequence υ v → f ≡ found (braces υ) v
 found-sequence missing e = never (cc)
-found-sequence (found zero x) e = never (cc)
-found-sequence (found (suc d) x) e = ap foundIn e
+found-sequence (found (scalar b) x) e = never (cc)
+found-sequence (found (braces τ) x) e = ap foundIn e
 
-pub found-ints : {Γ : List ℕ} {v : Γ ∋ 1} → (f : Found Γ) → asInts (asSequence f) ≡ some v → f ≡ found 1 v
+pub found-ints : {Γ : List ValueType} {v : Γ ∋ braces int} → (f : Found Γ) → asInts (asSequence f) ≡ some v → f ≡ found (braces int) v
 found-ints missing e = never (cc)
-found-ints (found zero x) e = never (cc)
-found-ints (found (suc zero) x) e = cc
-found-ints (found (suc (suc d)) x) e = never (cc)
+found-ints (found (scalar b) x) e = never (cc)
+found-ints (found (braces (scalar base.Int)) x) e = cc
+found-ints (found (braces (scalar base.Bool)) x) e = never (cc)
+found-ints (found (braces (braces τ)) x) e = never (cc)

@@ -12,12 +12,13 @@ use lib.Seq.{getD-drop}
 use Rattle.laws.proofs.Never.{never}
 use Rattle.laws.specs.Parts.{part}
 use Rattle.snesl.specs.declared.code.Kind.{Kind}
-use Rattle.snesl.specs.declared.code.Kind.the-variants.{Ints, Flags, Units}
+use Rattle.snesl.specs.declared.code.Kind.the-variants.{Ints, Bools, Flags, Units}
 use Rattle.snesl.specs.declared.refusal.Refusal.{Refusal}
+use Rattle.snesl.specs.Values.{ValueType, depthOf}
 use Rattle.snesl.specs.Terms.{All, ∅, _▹_}
-use Rattle.snesl.specs.Trees.{Tree, leaf, node, order, mapTree}
-use Rattle.snesl.specs.Streams.{Store, _!_, ints, flags, bare, elements, contents, room}
-use Rattle.snesl.specs.Transducers.{signature}
+use Rattle.snesl.specs.Trees.{IdTree, order, mapTree}
+use Rattle.snesl.specs.Streams.{Store, _!_, dataOf, flags, bare, elements, contents, room}
+use Rattle.snesl.specs.Transducers.{signature, carried, empty}
 use Rattle.snesl.specs.Programs.{Program, done, define, withCtrl, dv, fv, among, ascending}
 use Rattle.snesl.specs.Machine.{State, went, stopped, skipped, skip}
 use Rattle.snesl.specs.Ids.{idsOf, Below}
@@ -51,32 +52,39 @@ use Rattle.runner.proofs.Lifting.{behind}
 
 bare-none : (k : Kind) → elements (bare k) ≡ []
 bare-none Ints = refl
+bare-none Bools = refl
 bare-none Flags = refl
 bare-none Units = refl
 
-skipped-none : (p : Program) → contents (skipped p) ≡ []
+skipped-none : (σ : Store) (p : Program) → contents (skipped σ p) ≡ []
 unfolding skipped contents
-skipped-none done = refl
-skipped-none (define t p) = ap (λ l. l ++ contents (skipped p)) (bare-none (signature t .output)) ∙ skipped-none p
-skipped-none (withCtrl outs c ins b p) = contents-append (skipped b) (skipped p) ∙ (ap (λ l. l ++ contents (skipped p)) (skipped-none b) ∙ skipped-none p)
+skipped-none σ done = refl
+skipped-none σ (define t p) =
+    let τ : Store = σ ++ empty σ t ∷ [] in
+    ap (λ l. l ++ contents (skipped τ p)) (bare-none (signature (carried σ t) t .output)) ∙ skipped-none τ p
+skipped-none σ (withCtrl outs c ins b p) =
+    let τ : Store = σ ++ skipped σ b in
+    contents-append (skipped σ b) (skipped τ p) ∙ (ap (λ l. l ++ contents (skipped τ p)) (skipped-none σ b) ∙ skipped-none τ p)
 
-skipped-contents : (p : Program) (m : State) → contents (m .store ++ skipped p) ≡ contents (m .store)
-skipped-contents p m = contents-append (m .store) (skipped p) ∙ (ap (λ l. contents (m .store) ++ l) (skipped-none p) ∙ append-nil (contents (m .store)))
+skipped-contents : (p : Program) (m : State) → contents (m .store ++ skipped (m .store) p) ≡ contents (m .store)
+skipped-contents p m =
+    contents-append (m .store) (skipped (m .store) p)
+    ∙ (ap (λ l. contents (m .store) ++ l) (skipped-none (m .store) p) ∙ append-nil (contents (m .store)))
 
 -- ---- an environment's ids are those of streams that there are
 
-tree-below : {σ : Store} {d : ℕ} {t : Tree ℕ d} → Shapely σ d t → (u : ℕ) → List·Memᴰ u (order t) → u < length σ
-tree-below {σ} (shapely-leaf {s = s} zs e) u h = subst (λ i. i < length σ) (sym (of-leaf h)) (named σ s (ints zs) e)
+tree-below : {σ : Store} {τ : ValueType} {t : IdTree τ} → Shapely σ τ t → (u : ℕ) → List·Memᴰ u (order t) → u < length σ
+tree-below {σ} (shapely-leaf {b = b} {s = s} vs e) u h = subst (λ i. i < length σ) (sym (of-leaf h)) (named σ s (dataOf b vs) e)
 tree-below {σ} (shapely-node {s = s} {t = t} bs i e) u h =
     ⊎-elim (λ m. tree-below i u m) (λ q. subst (λ j. j < length σ) (sym q) (named σ s (flags bs) e)) (of-node t h)
 
-trees-below : {σ : Store} {Γ : List ℕ} {δ : All (Tree ℕ) Γ} → Shaped σ Γ δ → Below (length σ) (idsOf δ)
+trees-below : {σ : Store} {Γ : List ValueType} {δ : All IdTree Γ} → Shaped σ Γ δ → Below (length σ) (idsOf δ)
 unfolding idsOf
 trees-below shaped-none u h = never-in h
   where
     never-in : {u n : ℕ} → List·Memᴰ u [] → u < n
     never-in j = absurd (List·Memᴰ·not-nil j)
-trees-below (shaped-more {t = t} {δ = δ} i s) u h = ⊎-elim (λ m. tree-below i u m) (λ m. trees-below s u m) (of-ids t δ h)
+trees-below (shaped-more {τ = τ} {t = t} {δ = δ} i s) u h = ⊎-elim (λ m. tree-below i u m) (λ m. trees-below s u m) (of-ids τ t δ h)
 
 -- ---- the words
 
@@ -160,7 +168,7 @@ module _ {t : List ℕ} {k sp : ℕ} {env : List ℕ} {buf : List ℤ} {state te
                 wide = record { room = λ e. never (cc) };
               };
           levels = g .ready .levels;
-          depth = g .ready .depth;
+          type = g .ready .type;
           term = g .ready .term;
           next = g .ready .next;
           formed = g .ready .formed;
@@ -184,7 +192,7 @@ module _ {t : List ℕ} {k sp : ℕ} {env : List ℕ} {buf : List ℤ} {state te
         end : Through w d next
         end = through w d next e
 
-        pub depth-is : d ≡ g .ready .depth
+        pub depth-is : d ≡ depthOf (g .ready .type)
         depth-is = end .depth-is
 
         skipped-to : skip body (g .ready .scene .machine) ≡ end .after
@@ -206,13 +214,13 @@ module _ {t : List ℕ} {k sp : ℕ} {env : List ℕ} {buf : List ℤ} {state te
         roomy : length (idsOf (g .ready .scene .trees)) ≤ g .ready .scene .sink .most
         roomy = omega (arith, g .known, g .ready .scene .wide .room (lists (g .ready .scene .sunk) list))
 
-        abbrev the-tree : Tree ℕ (g .ready .depth)
+        abbrev the-tree : IdTree (g .ready .type)
         the-tree = tree (g .ready .term) (g .ready .scene .trees) start
 
         abbrev placing : Placing
         placing = record { place = place (end .after .store); named = λ i. refl }
 
-        abbrev opening-here : length env₁ ≡ length env → Opening env₁ (sp - (3 * g .ready .depth + 3)) (g .ready .depth) after-survey text₂ state₂
+        abbrev opening-here : length env₁ ≡ length env → Opening env₁ (sp - (3 * depthOf (g .ready .type) + 3)) (depthOf (g .ready .type)) after-survey text₂ state₂
         opening-here l =
             record {
               sunk = end .left .sunk;
@@ -220,7 +228,7 @@ module _ {t : List ℕ} {k sp : ℕ} {env : List ℕ} {buf : List ℤ} {state te
               tree = the-tree;
               placing = placing;
               words =
-                  front-is env₁ (sp - treeSize (g .ready .depth)) (treeSize (g .ready .depth)) (treeWords (mapTree (place (end .after .store)) the-tree)) (drop sp env) (end .left .words)
+                  front-is env₁ (sp - treeSize (depthOf (g .ready .type))) (treeSize (depthOf (g .ready .type))) (treeWords (mapTree (place (end .after .store)) the-tree)) (drop sp env) (end .left .words)
                   (length-tree (mapTree (place (end .after .store)) the-tree));
               within = omega (arith, l, words-hold (g .ready .term), g .ready .space, g .ready .scene .within);
               shallow = omega (arith, g .shallow);
@@ -244,7 +252,7 @@ module _ {t : List ℕ} {k sp : ℕ} {env : List ℕ} {buf : List ℤ} {state te
           opens-so : Opens after-survey the-tree c text₃ state₃ state₂
           opens-so = go d depth-is o
             where
-              go : (i : ℕ) → i ≡ g .ready .depth → ((j : Sink) (h : Opening env₁ (sp - (3 * i + 3)) i j text₂ state₂) → Opens j (h .tree) c text₃ state₃ state₂)
+              go : (i : ℕ) → i ≡ depthOf (g .ready .type) → ((j : Sink) (h : Opening env₁ (sp - (3 * i + 3)) i j text₂ state₂) → Opens j (h .tree) c text₃ state₃ state₂)
                   → Opens after-survey (tree (g .ready .term) (g .ready .scene .trees) start) c text₃ state₃ state₂
               go i q f =
                   subst (λ x. ((j : Sink) (h : Opening env₁ (sp - (3 * x + 3)) x j text₂ state₂) → Opens j (h .tree) c text₃ state₃ state₂) → Opens after-survey (tree (g .ready .term) (g .ready .scene .trees) start) c text₃ state₃ state₂)

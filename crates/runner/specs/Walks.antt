@@ -5,6 +5,7 @@ use mathlib.Core.Path.{_≡_}
 use lib.IntN.{ℤ}
 use lib.ListN.{length, drop}
 use Rattle.snesl.specs.Limits.{mostBytes, mostDepth}
+use Rattle.snesl.specs.Values.{ValueType, depthOf}
 use Rattle.snesl.specs.Terms.{Term, _▹_}
 use Rattle.snesl.specs.Trees.{order}
 use Rattle.snesl.specs.Programs.{dv, fv, among, ascending}
@@ -40,10 +41,10 @@ routed k (head.Each x y j) = route.Each
 pub record Ready (t : List ℕ) (k sp : ℕ) (env : List ℕ) (buf : List ℤ) (state text : List ℕ) : Type 0 where
   pub scene : Scene env sp buf state text
   pub levels : ℕ
-  pub depth : ℕ
-  pub term : Term (scene .context) depth
+  pub type : ValueType
+  pub term : Term (scene .context) type
   pub next : ℕ
-  pub formed : Formed t levels k (scene .context) (scene .names) depth term next
+  pub formed : Formed t levels k (scene .context) (scene .names) type term next
   pub short : length t ≤ mostBytes
   pub space : words term ≤ sp
   pub few : length (scene .machine .store) + 2 * (length t - k) ≤ mostStreams
@@ -52,16 +53,16 @@ pub record Ready (t : List ℕ) (k sp : ℕ) (env : List ℕ) (buf : List ℤ) (
 pub record Binding (t : List ℕ) (k sp : ℕ) (env : List ℕ) (buf : List ℤ) (state text : List ℕ) : Type 0 where
   pub scene : Scene env sp buf state text
   pub levels : ℕ
-  pub depth₁ : ℕ
-  pub depth : ℕ
-  pub bound : Term (scene .context) depth₁
-  pub body : Term (depth₁ ∷ scene .context) depth
+  pub type₁ : ValueType
+  pub type : ValueType
+  pub bound : Term (scene .context) type₁
+  pub body : Term (type₁ ∷ scene .context) type
   pub middle : ℕ
   pub next : ℕ
-  pub first : Formed t levels (k + 3) (scene .context) (scene .names) depth₁ bound middle
-  pub second : Formed t levels middle (depth₁ ∷ scene .context) (variableAt t (k + 2) ▹ scene .names) depth body next
+  pub first : Formed t levels (k + 3) (scene .context) (scene .names) type₁ bound middle
+  pub second : Formed t levels middle (type₁ ∷ scene .context) (variableAt t (k + 2) ▹ scene .names) type body next
   pub short : length t ≤ mostBytes
-  pub space : max (words bound) (treeSize depth₁ + 2 + words body) ≤ sp
+  pub space : max (words bound) (treeSize (depthOf type₁) + 2 + words body) ≤ sp
   pub few : length (scene .machine .store) + 2 * (length t - k) ≤ mostStreams
 
 -- The body of the comprehension at k, whose environment stands from sp on: the stream of its control and those of its listed variables were made last.
@@ -70,7 +71,7 @@ pub record Over (t : List ℕ) (k sp : ℕ) (env : List ℕ) (buf : List ℤ) (s
   pub bytes : k + 5 + byteAt t (k + 4) ≤ length t
   pub made : 1 + byteAt t (k + 4) ≤ length (ready .scene .machine .store)
   pub known : length (idsOf (ready .scene .trees)) ≤ mostTaken
-  pub shallow : ready .depth ≤ mostDepth
+  pub shallow : depthOf (ready .type) ≤ mostDepth
 
 -- The opening of its WithCtrl was told; the machine is as it was, and so is its environment.
 pub record Opened {t : List ℕ} {k sp : ℕ} {env : List ℕ} {buf : List ℤ} {state text : List ℕ} (g : Over t k sp env buf state text)
