@@ -10,22 +10,22 @@ use lib.ListN.{length, take, drop, length-drop, drop-of-length-le, take-append-d
 use lib.Seq.{length-take-le, take-append-add, drop-append-add}
 use Rattle.snesl.specs.Limits.{mostDepth, mostElements}
 use Rattle.snesl.specs.Streams.{room}
-use Rattle.snesl.specs.Values.{Val}
+use Rattle.snesl.specs.declared.code.Base.{Base}
+use Rattle.snesl.specs.Values.{ValueType, typeOf, Val}
 use Rattle.snesl.specs.Text.{valueOf}
 use Rattle.snesl.specs.Finder.{spanOf}
 use Rattle.snesl.specs.Records.{byteAt, Input, inputAt, Span, spanAt}
-use Rattle.snesl.specs.Checking.{depths}
 use Rattle.snesl.specs.Inputs.{Values, wrong, right, valueFirst, inputValues}
 use Rattle.decimals.specs.Numbers.{pick}
 use Rattle.decimals.proofs.Parts.{rest-of}
-use Rattle.formula.specs.Declarations.{inputPlace}
+use Rattle.formula.specs.Declarations.{inputPlace, baseAt}
 use Rattle.valuetext.specs.Storing.{valueStore, measured, measuredIf, countsAfter}
 use Rattle.valuetext.specs.declared.storing.Measured.{Measured}
 use Rattle.valuetext.specs.declared.storing.Measured.the-variants.{Elements, Over, No}
 use Rattle.inputs.specs.declared.texts.Texts.{Texts}
 use Rattle.inputs.specs.declared.texts.Texts.the-variants.{Good, Bad}
 use Rattle.inputs.specs.Supply.{textsOf, perInput, tallyFirst, tallied}
-use Rattle.inputs.proofs.Supplying.{Supplied, supplied-none, supplied-more}
+use Rattle.inputs.proofs.Supplying.{typeAt, Supplied, supplied-none, supplied-more}
 
 -- `left` inputs of these, from number i on, are still to be told of, their texts from k on; the counts of those before are kept
 pub record Telling (t : List ℕ) (is : List Input) (ss : List Span) (cs₀ : List ℕ) (left i k : ℕ) (cs : List ℕ) : Type 0 where
@@ -58,65 +58,65 @@ text-span t k next e =
     ap (λ (m : ℕ). take m (drop (k + 4) t)) n
 
 -- what measuring a text says of its value
-none-measured : (d : ℕ) (t : List ℕ) → No ≡ measured d t → valueOf d t ≡ none
-none-measured d t = go (valueOf d t)
+none-measured : (τ : ValueType) (t : List ℕ) → No ≡ measured τ t → valueOf τ t ≡ none
+none-measured τ t = go (valueOf τ t)
   where
     pick-some : (b : Bool) (n : ℕ) → No ≡ pick b (Elements n) Over → _≡_ {A = ℕ} 0 1
     pick-some true n e = cc
     pick-some false n e = cc
 
-    go : (o : Option (Val d)) → No ≡ measuredIf d o → o ≡ none
+    go : (o : Option (Val τ)) → No ≡ measuredIf τ o → o ≡ none
     go none e = refl
-    go (some v) e = absurd (let z : _≡_ {A = ℕ} 0 1 = pick-some (leb (room (valueStore d v)) mostElements) (room (valueStore d v)) e in omega arith)
+    go (some v) e = absurd (let z : _≡_ {A = ℕ} 0 1 = pick-some (leb (room (valueStore τ v)) mostElements) (room (valueStore τ v)) e in omega arith)
 
-pub some-measured : (d : ℕ) (t : List ℕ) (m : Measured) → m ≡ measured d t → (m ≡ No → ⊥) → (v : Val d) × (valueOf d t ≡ some v)
-some-measured d t m = go (valueOf d t) refl
+pub some-measured : (τ : ValueType) (t : List ℕ) (m : Measured) → m ≡ measured τ t → (m ≡ No → ⊥) → (v : Val τ) × (valueOf τ t ≡ some v)
+some-measured τ t m = go (valueOf τ t) refl
   where
-    go : (o : Option (Val d)) → valueOf d t ≡ o → m ≡ measuredIf d o → (m ≡ No → ⊥) → (v : Val d) × (valueOf d t ≡ some v)
+    go : (o : Option (Val τ)) → valueOf τ t ≡ o → m ≡ measuredIf τ o → (m ≡ No → ⊥) → (v : Val τ) × (valueOf τ t ≡ some v)
     go none p e f = absurd (f e)
     go (some v) p e f = (v, p)
 
 -- the first input's value, and the others'
-first-none : (t : List ℕ) (at k : ℕ) (is : List Input) (ss : List Span) → valueOf (byteAt t (at + 3)) (spanOf t (spanAt t k)) ≡ none
-    → textsOf (inputValues t (inputAt t at ∷ is) (spanAt t k ∷ ss)) ≡ Bad k
+first-none : (t : List ℕ) (at k : ℕ) (is : List Input) (ss : List Span) → valueOf (typeAt t at) (spanOf t (spanAt t k)) ≡ none
+    → textsOf (inputValues t (inputAt t at (baseAt t at) ∷ is) (spanAt t k ∷ ss)) ≡ Bad k
 unfolding inputValues
 first-none t at k is ss e =
     let p : k + 4 - 4 ≡ k = omega arith in
     rw e (ap Bad p)
 
-others-tell : (d : ℕ) {ds : List ℕ} (p : ℕ) (v : Val d) (vs : Values ds) → textsOf (valueFirst {d = d} p (some v) vs) ≡ textsOf vs
-others-tell d p v (wrong q) = refl
-others-tell d p v (right vs) = refl
+others-tell : (τ : ValueType) {τs : List ValueType} (p : ℕ) (v : Val τ) (vs : Values τs) → textsOf (valueFirst {τ = τ} p (some v) vs) ≡ textsOf vs
+others-tell τ p v (wrong q) = refl
+others-tell τ p v (right vs) = refl
 
-first-some : (t : List ℕ) (at k : ℕ) (is : List Input) (ss : List Span) (v : Val (byteAt t (at + 3)))
-    → valueOf (byteAt t (at + 3)) (spanOf t (spanAt t k)) ≡ some v
-    → textsOf (inputValues t (inputAt t at ∷ is) (spanAt t k ∷ ss)) ≡ textsOf (inputValues t is ss)
+first-some : (t : List ℕ) (at k : ℕ) (is : List Input) (ss : List Span) (v : Val (typeAt t at))
+    → valueOf (typeAt t at) (spanOf t (spanAt t k)) ≡ some v
+    → textsOf (inputValues t (inputAt t at (baseAt t at) ∷ is) (spanAt t k ∷ ss)) ≡ textsOf (inputValues t is ss)
 unfolding inputValues
 first-some t at k is ss v e =
-    ap (λ (o : Option (Val (byteAt t (at + 3)))). textsOf (valueFirst {d = byteAt t (at + 3)} (k + 4 - 4) o (inputValues t is ss))) e
-    ∙ others-tell (byteAt t (at + 3)) (k + 4 - 4) v (inputValues t is ss)
+    ap (λ (o : Option (Val (typeAt t at))). textsOf (valueFirst {τ = typeAt t at} (k + 4 - 4) o (inputValues t is ss))) e
+    ∙ others-tell (typeAt t at) (k + 4 - 4) v (inputValues t is ss)
 
 -- the counts of the first input, and the others'
-pub first-tallied : (t : List ℕ) (at k : ℕ) (is : List Input) (ss : List Span) (cs : List ℕ) (v : Val (byteAt t (at + 3)))
-    → valueOf (byteAt t (at + 3)) (spanOf t (spanAt t k)) ≡ some v
-    → tallied t (inputAt t at ∷ is) (spanAt t k ∷ ss) cs
-    ≡ take perInput (countsAfter (byteAt t (at + 3)) (spanOf t (spanAt t k)) cs)
-    ++ tallied t is ss (drop perInput (countsAfter (byteAt t (at + 3)) (spanOf t (spanAt t k)) cs))
+pub first-tallied : (t : List ℕ) (at k : ℕ) (is : List Input) (ss : List Span) (cs : List ℕ) (v : Val (typeAt t at))
+    → valueOf (typeAt t at) (spanOf t (spanAt t k)) ≡ some v
+    → tallied t (inputAt t at (baseAt t at) ∷ is) (spanAt t k ∷ ss) cs
+    ≡ take perInput (countsAfter (baseAt t at) (byteAt t (at + 3)) (spanOf t (spanAt t k)) cs)
+    ++ tallied t is ss (drop perInput (countsAfter (baseAt t at) (byteAt t (at + 3)) (spanOf t (spanAt t k)) cs))
 unfolding tallied
 first-tallied t at k is ss cs v e =
     ap
-    (λ (o : Option (Val (byteAt t (at + 3)))).
-    tallyFirst (byteAt t (at + 3)) o (countsAfter (byteAt t (at + 3)) (spanOf t (spanAt t k)) cs) (tallied t is ss))
+    (λ (o : Option (Val (typeAt t at))).
+    tallyFirst (typeAt t at) o (countsAfter (baseAt t at) (byteAt t (at + 3)) (spanOf t (spanAt t k)) cs) (tallied t is ss))
     e
 
 first-untallied : (t : List ℕ) (at k : ℕ) (is : List Input) (ss : List Span) (cs : List ℕ)
-    → valueOf (byteAt t (at + 3)) (spanOf t (spanAt t k)) ≡ none
-    → tallied t (inputAt t at ∷ is) (spanAt t k ∷ ss) cs ≡ countsAfter (byteAt t (at + 3)) (spanOf t (spanAt t k)) cs
+    → valueOf (typeAt t at) (spanOf t (spanAt t k)) ≡ none
+    → tallied t (inputAt t at (baseAt t at) ∷ is) (spanAt t k ∷ ss) cs ≡ countsAfter (baseAt t at) (byteAt t (at + 3)) (spanOf t (spanAt t k)) cs
 unfolding tallied
 first-untallied t at k is ss cs e =
     ap
-    (λ (o : Option (Val (byteAt t (at + 3)))).
-    tallyFirst (byteAt t (at + 3)) o (countsAfter (byteAt t (at + 3)) (spanOf t (spanAt t k)) cs) (tallied t is ss))
+    (λ (o : Option (Val (typeAt t at))).
+    tallyFirst (typeAt t at) o (countsAfter (baseAt t at) (byteAt t (at + 3)) (spanOf t (spanAt t k)) cs) (tallied t is ss))
     e
 
 -- the counts from input i on, as they are lent
@@ -124,14 +124,14 @@ abbrev pub countsFrom : List ℕ → (i : ℕ) → List ℕ
 countsFrom counts i = take (length counts - perInput * i) (drop (perInput * i) counts)
 
 -- and as they come back
-pub counts-back : (d : ℕ) (text cs : List ℕ) (i : ℕ) {new : List ℕ} → new ≡ countsAfter d text (countsFrom cs i)
+pub counts-back : (β : Base) (d : ℕ) (text cs : List ℕ) (i : ℕ) {new : List ℕ} → new ≡ countsAfter β d text (countsFrom cs i)
     → take (perInput * i) cs ++ (new ++ drop (length cs - perInput * i) (drop (perInput * i) cs))
-    ≡ take (perInput * i) cs ++ countsAfter d text (drop (perInput * i) cs)
-counts-back d text cs i {new} e =
+    ≡ take (perInput * i) cs ++ countsAfter β d text (drop (perInput * i) cs)
+counts-back β d text cs i {new} e =
     let long : length (drop (perInput * i) cs) ≤ length cs - perInput * i = omega (arith, length-drop (perInput * i) cs) in
     let none-left : drop (length cs - perInput * i) (drop (perInput * i) cs) ≡ [] = drop-of-length-le (drop (perInput * i) cs) long in
     ap (λ (x : List ℕ). take (perInput * i) cs ++ x)
-    (ap (λ (x : List ℕ). new ++ x) none-left ∙ append-nil new ∙ e ∙ ap (countsAfter d text) (rest-of cs (perInput * i)))
+    (ap (λ (x : List ℕ). new ++ x) none-left ∙ append-nil new ∙ e ∙ ap (countsAfter β d text) (rest-of cs (perInput * i)))
 
 -- some counts in front of others, cut behind nine more
 module _ (cs new : List ℕ) (i : ℕ) (h : perInput * i ≤ length cs) where
@@ -157,20 +157,27 @@ module _ {t : List ℕ} {is : List Input} {ss : List Span} {cs₀ : List ℕ} {n
       go (supplied-more f s g r) e = record { input = f; shallow = s; text = g }
 
   -- its counts are put behind those that are kept
-  module _ (next : ℕ) (e : next ≡ k + 4 + spanAt t k .bytes) {d : ℕ} (as-declared : d ≡ byteAt t (inputPlace i + 3)) {cs′ : List ℕ}
-      (c : cs′ ≡ take (perInput * i) cs ++ countsAfter d (textFrom t k next) (drop (perInput * i) cs)) where
-    counted : cs′ ≡ take (perInput * i) cs ++ countsAfter (byteAt t (inputPlace i + 3)) (spanOf t (spanAt t k)) (drop (perInput * i) cs)
+  module _ (next : ℕ) (e : next ≡ k + 4 + spanAt t k .bytes) {β : Base} (as-based : β ≡ baseAt t (inputPlace i)) {d : ℕ}
+      (as-declared : d ≡ byteAt t (inputPlace i + 3)) {cs′ : List ℕ}
+      (c : cs′ ≡ take (perInput * i) cs ++ countsAfter β d (textFrom t k next) (drop (perInput * i) cs)) where
+    counted : cs′ ≡ take (perInput * i) cs ++ countsAfter (baseAt t (inputPlace i)) (byteAt t (inputPlace i + 3)) (spanOf t (spanAt t k)) (drop (perInput * i) cs)
     counted =
         c
-        ∙ ap₂ (λ (x : ℕ) (y : List ℕ). take (perInput * i) cs ++ countsAfter x y (drop (perInput * i) cs)) as-declared (text-span t k next e)
+        ∙ ap₂ (λ (z : Base) (x : ℕ). take (perInput * i) cs ++ countsAfter z x (textFrom t k next) (drop (perInput * i) cs)) as-based as-declared
+        ∙ ap
+        (λ (y : List ℕ). take (perInput * i) cs ++ countsAfter (baseAt t (inputPlace i)) (byteAt t (inputPlace i + 3)) y (drop (perInput * i) cs))
+        (text-span t k next e)
 
-    pub told-bad : No ≡ measured d (textFrom t k next) → (Bad k ≡ textsOf (inputValues t is ss)) × (cs′ ≡ tallied t is ss cs₀)
+    as-typed : typeOf β d ≡ typeAt t (inputPlace i)
+    as-typed = ap₂ typeOf as-based as-declared
+
+    pub told-bad : No ≡ measured (typeOf β d) (textFrom t k next) → (Bad k ≡ textsOf (inputValues t is ss)) × (cs′ ≡ tallied t is ss cs₀)
     told-bad m = go (h .supplied) (h .same) (h .tally) refl
       where
-        nothing : valueOf (byteAt t (inputPlace i + 3)) (spanOf t (spanAt t k)) ≡ none
+        nothing : valueOf (typeAt t (inputPlace i)) (spanOf t (spanAt t k)) ≡ none
         nothing =
-            none-measured (byteAt t (inputPlace i + 3)) (spanOf t (spanAt t k))
-            (m ∙ ap₂ measured as-declared (text-span t k next e))
+            none-measured (typeAt t (inputPlace i)) (spanOf t (spanAt t k))
+            (m ∙ ap₂ measured as-typed (text-span t k next e))
 
         go : {m : ℕ} {js : List Input} {us : List Span} → Supplied t m (inputPlace i) k js us
             → textsOf (inputValues t is ss) ≡ textsOf (inputValues t js us)
@@ -185,17 +192,17 @@ module _ {t : List ℕ} {is : List Input} {ss : List Span} {cs₀ : List ℕ} {n
               ∙ sym u,
         )
 
-    pub told-on : (m : Measured) → m ≡ measured d (textFrom t k next) → (m ≡ No → ⊥) → length cs′ ≡ length cs
+    pub told-on : (m : Measured) → m ≡ measured (typeOf β d) (textFrom t k next) → (m ≡ No → ⊥) → length cs′ ≡ length cs
         → Telling t is ss cs₀ (n - (i + 1)) (i + 1) next cs′
     told-on m p f long = go (h .supplied) (h .same) (h .tally) refl
       where
-        something : (v : Val (byteAt t (inputPlace i + 3))) × (valueOf (byteAt t (inputPlace i + 3)) (spanOf t (spanAt t k)) ≡ some v)
+        something : (v : Val (typeAt t (inputPlace i))) × (valueOf (typeAt t (inputPlace i)) (spanOf t (spanAt t k)) ≡ some v)
         something =
-            some-measured (byteAt t (inputPlace i + 3)) (spanOf t (spanAt t k)) m
-            (p ∙ ap₂ measured as-declared (text-span t k next e)) f
+            some-measured (typeAt t (inputPlace i)) (spanOf t (spanAt t k)) m
+            (p ∙ ap₂ measured as-typed (text-span t k next e)) f
 
         new : List ℕ
-        new = countsAfter (byteAt t (inputPlace i + 3)) (spanOf t (spanAt t k)) (drop (perInput * i) cs)
+        new = countsAfter (baseAt t (inputPlace i)) (byteAt t (inputPlace i + 3)) (spanOf t (spanAt t k)) (drop (perInput * i) cs)
 
         go : {m : ℕ} {js : List Input} {us : List Span} → Supplied t m (inputPlace i) k js us
             → textsOf (inputValues t is ss) ≡ textsOf (inputValues t js us)

@@ -17,14 +17,16 @@ use Rattle.environment.specs.Words.{Place, placeWords, treeWords, spelled}
 use Rattle.environment.proofs.Stack.{from-written, length-written}
 use Rattle.snesl.specs.declared.code.Variable.{Variable}
 use Rattle.snesl.specs.Limits.{mostDepth, mostElements}
-use Rattle.snesl.specs.Values.{Val}
+use Rattle.snesl.specs.declared.code.Base.{Base}
+use Rattle.snesl.specs.Values.{depthOf, typeOf, Val}
 use Rattle.snesl.specs.Terms.{All, ∅, _▹_}
 use Rattle.snesl.specs.Trees.{Tree, leaf, node, order, mapTree}
-use Rattle.snesl.specs.Streams.{Stream, ints, flags, len, Store, _!_, contents, room}
+use Rattle.snesl.specs.Streams.{Stream, flags, dataOf, len, Store, _!_, contents, room}
 use Rattle.snesl.specs.Machine.{State, sumOf}
 use Rattle.snesl.specs.Representation.{concat, segments, represent}
 use Rattle.snesl.specs.Text.{valueOf}
 use Rattle.snesl.specs.Inputs.{inputTree}
+use Rattle.snesl.proofs.Types.{depth-of-type}
 use Rattle.steps.specs.Holding.{counters, Held, place, keeps}
 use Rattle.steps.proofs.Executing.{next-id, next-element, spent-is, counted-is, four-words}
 use Rattle.steps.proofs.Stores.{contents-append, room-append, newest}
@@ -52,23 +54,23 @@ row-last s at (m ∷ ns) n =
 
 module _ (σ : Store) where
   -- of a store that ends with the streams of these values
-  record Rowed (d : ℕ) (vs : List (Val d)) (ρ : Store) : Type 0 where
-    shapely : Shapely ρ d (inputTree (length σ) d)
-    words : treeWords (mapTree (place ρ) (inputTree (length σ) d)) ≡ rowWords (length σ) (room σ) (map len (order (represent d vs)))
+  record Rowed (β : Base) (d : ℕ) (vs : List (Val (typeOf β d))) (ρ : Store) : Type 0 where
+    shapely : Shapely ρ (typeOf β d) (inputTree (length σ) (depthOf (typeOf β d)))
+    words : treeWords (mapTree (place ρ) (inputTree (length σ) (depthOf (typeOf β d)))) ≡ rowWords (length σ) (room σ) (map len (order (represent (typeOf β d) vs)))
 
-  rowed-more : (d : ℕ) (vs : List (List (Val d))) (ρ : Store) → ρ ≡ σ ++ order (represent d (concat vs)) → Rowed d (concat vs) ρ
-      → Rowed (suc d) vs (ρ ++ flags (segments vs) ∷ [])
+  rowed-more : (β : Base) (d : ℕ) (vs : List (List (Val (typeOf β d)))) (ρ : Store) → ρ ≡ σ ++ order (represent (typeOf β d) (concat vs)) → Rowed β d (concat vs) ρ
+      → Rowed β (suc d) vs (ρ ++ flags (segments vs) ∷ [])
   unfolding inputTree mapTree treeWords represent order
-  rowed-more d vs ρ e r =
+  rowed-more β d vs ρ e r =
       let a = flags (segments vs) in
-      let τ = order (represent d (concat vs)) in
-      let long : length ρ ≡ length σ + suc d = ap length e ∙ (length-append σ τ ∙ ap (λ (n : ℕ). length σ + n) (order-length (represent d (concat vs)))) in
-      let names : (ρ ++ a ∷ []) ! (length σ + suc d) ≡ some a = ap (λ (s : ℕ). (ρ ++ a ∷ []) ! s) (sym long) ∙ newest ρ a in
-      let at : place (ρ ++ a ∷ []) (length σ + suc d) ≡ record { id = length ρ; first = room ρ; second = len a } =
+      let τ = order (represent (typeOf β d) (concat vs)) in
+      let long : length ρ ≡ length σ + suc (depthOf (typeOf β d)) = ap length e ∙ (length-append σ τ ∙ ap (λ (n : ℕ). length σ + n) (order-length (represent (typeOf β d) (concat vs)))) in
+      let names : (ρ ++ a ∷ []) ! (length σ + suc (depthOf (typeOf β d))) ≡ some a = ap (λ (s : ℕ). (ρ ++ a ∷ []) ! s) (sym long) ∙ newest ρ a in
+      let at : place (ρ ++ a ∷ []) (length σ + suc (depthOf (typeOf β d))) ≡ record { id = length ρ; first = room ρ; second = len a } =
       ap (place (ρ ++ a ∷ [])) (sym long) ∙ place-newest ρ a in
-      let id : length ρ ≡ length σ + length (map len τ) = long ∙ ap (λ (n : ℕ). length σ + n) (sym (lens-length d (concat vs))) in
+      let id : length ρ ≡ length σ + length (map len τ) = long ∙ ap (λ (n : ℕ). length σ + n) (ap suc (depth-of-type β d) ∙ sym (lens-length β d (concat vs))) in
       let start : room ρ ≡ room σ + sumOf (map len τ) =
-      ap room e ∙ (room-append σ τ ∙ ap (λ (n : ℕ). room σ + n) (sym (lens-total d (concat vs)))) in
+      ap room e ∙ (room-append σ τ ∙ ap (λ (n : ℕ). room σ + n) (sym (lens-total β d (concat vs)))) in
       record {
         shapely = shapely-node (segments vs) (shapely-kept ρ (a ∷ []) (r .shapely)) names;
         words =
@@ -78,16 +80,16 @@ module _ (σ : Store) where
             ∙ sym (ap (rowWords (length σ) (room σ)) (map-append len τ (a ∷ [])))));
       }
 
-  rowed : (d : ℕ) (vs : List (Val d)) → Rowed d vs (σ ++ order (represent d vs))
+  rowed : (β : Base) (d : ℕ) (vs : List (Val (typeOf β d))) → Rowed β d vs (σ ++ order (represent (typeOf β d) vs))
   unfolding inputTree mapTree treeWords represent order rowWords
-  rowed zero vs =
+  rowed β zero vs =
       record {
-        shapely = shapely-leaf vs (newest σ (ints vs));
-        words = ap placeWords (place-newest σ (ints vs));
+        shapely = shapely-leaf vs (newest σ (dataOf β vs));
+        words = ap placeWords (place-newest σ (dataOf β vs));
       }
-  rowed (suc d) vs =
-      let τ = order (represent d (concat vs)) in
-      subst (λ (ρ : Store). Rowed (suc d) vs ρ) (append-assoc σ τ (flags (segments vs) ∷ [])) (rowed-more d vs (σ ++ τ) refl (rowed d (concat vs)))
+  rowed β (suc d) vs =
+      let τ = order (represent (typeOf β d) (concat vs)) in
+      subst (λ (ρ : Store). Rowed β (suc d) vs ρ) (append-assoc σ τ (flags (segments vs) ∷ [])) (rowed-more β d vs (σ ++ τ) refl (rowed β d (concat vs)))
 
 -- ---- streams stored behind those of a machine
 
@@ -139,13 +141,13 @@ behind-set (p ∷ q ∷ l) a b = refl
 
 -- ---- the input
 
-module _ {text : List ℕ} {x : Variable} {d : ℕ} {counts : List ℕ} {sp : ℕ} {env : List ℕ} {buf : List ℤ} {state : List ℕ}
-    (g : Next text x d counts sp env buf state) where
+module _ {text : List ℕ} {x : Variable} {β : Base} {d : ℕ} {counts : List ℕ} {sp : ℕ} {env : List ℕ} {buf : List ℤ} {state : List ℕ}
+    (g : Next text x β d counts sp env buf state) where
   abbrev σ : Store
   σ = g .store
 
   abbrev τ : Store
-  τ = valueStore d (g .value)
+  τ = valueStore (typeOf β d) (g .value)
 
   pub four : 4 ≤ length state
   four = four-words (g .stands .held)
@@ -161,13 +163,13 @@ module _ {text : List ℕ} {x : Variable} {d : ℕ} {counts : List ℕ} {sp : �
   lengths-counted = ap (λ (k : ℕ). take k counts) (add-one d) ∙ g .counted
 
   pub lengths-long : length (take (d + 1) counts) ≡ suc d
-  lengths-long = ap length lengths-counted ∙ lens-length d (g .value ∷ [])
+  lengths-long = ap length lengths-counted ∙ lens-length β d (g .value ∷ [])
 
   pub levels-within : d + 1 ≤ length counts
   levels-within = omega (arith, lengths-long, length-take (d + 1) counts)
 
   lengths-room : sumOf (take (d + 1) counts) ≡ room τ
-  lengths-room = ap sumOf lengths-counted ∙ lens-total d (g .value ∷ [])
+  lengths-room = ap sumOf lengths-counted ∙ lens-total β d (g .value ∷ [])
 
   pub full-now : Over ≡ totalOf (take (d + 1) counts) (length buf - getD state 1 0) → {env′ : List ℕ} {buf′ : List ℤ} {state′ : List ℕ}
       → Takes g env′ buf′ state′ (Full (getD state 0 0))
@@ -197,7 +199,7 @@ module _ {text : List ℕ} {x : Variable} {d : ℕ} {counts : List ℕ} {sp : �
     fits : room σ + room τ ≤ length buf
     fits = omega (arith, total, added .1, first-room, g .stands .held .fits)
 
-    pub fills : Fillable d text counts (getD state 1 0) (length buf)
+    pub fills : Fillable β d text counts (getD state 1 0) (length buf)
     fills =
         record { value = g .value; reads = g .reads; shallow = g .shallow; counted = g .counted; room-for = omega (arith, fits, first-room) }
 
@@ -209,7 +211,7 @@ module _ {text : List ℕ} {x : Variable} {d : ℕ} {counts : List ℕ} {sp : �
 
     -- the machine and the words afterwards
     grown : length (σ ++ τ) ≡ length σ + suc d
-    grown = length-append σ τ ∙ ap (λ (k : ℕ). length σ + k) (order-length (represent d (g .value ∷ [])))
+    grown = length-append σ τ ∙ ap (λ (k : ℕ). length σ + k) (order-length (represent (typeOf β d) (g .value ∷ [])) ∙ ap suc (depth-of-type β d))
 
     new-state : take 4 (set (set state 0 (getD state 0 0 + (d + 1))) 1 (getD state 1 0 + n)) ≡ counters (unspent (σ ++ τ))
     new-state =
@@ -218,21 +220,21 @@ module _ {text : List ℕ} {x : Variable} {d : ℕ} {counts : List ℕ} {sp : �
         front-set state (getD state 0 0 + (d + 1)) (getD state 1 0 + n) four
         ∙ (λ j. i j ∷ r j ∷ spent-is (g .stands .held) j ∷ counted-is (g .stands .held) j ∷ [])
 
-    module _ (buf′ : List ℤ) (b : buf′ ≡ sets buf (getD state 1 0) (textElements d text)) where
+    module _ (buf′ : List ℤ) (b : buf′ ≡ sets buf (getD state 1 0) (textElements (typeOf β d) text)) where
       stored : buf′ ≡ sets buf (room σ) (contents τ)
       stored =
           b
-          ∙ ap₂ (λ (k : ℕ) (w : List ℤ). sets buf k w) first-room (ap (λ (o : Option (Val d)). contents (valueStoreIf d o)) (g .reads))
+          ∙ ap₂ (λ (k : ℕ) (w : List ℤ). sets buf k w) first-room (ap (λ (o : Option (Val (typeOf β d))). contents (valueStoreIf (typeOf β d) o)) (g .reads))
 
       module _ (env₁ : List ℕ) (top : ℕ) (long : length env₁ ≡ length env) (p : top + 3 * length (take (d + 1) counts) ≡ sp)
           (w : drop top env₁
           ≡ rowWords (getD state 0 0) ((getD state 1 0 + n) - sumOf (take (d + 1) counts)) (take (d + 1) counts) ++ drop sp env) where
         place-words : rowWords (getD state 0 0) ((getD state 1 0 + n) - sumOf (take (d + 1) counts)) (take (d + 1) counts)
-            ≡ treeWords (mapTree (place (σ ++ τ)) (inputTree (length σ) d))
+            ≡ treeWords (mapTree (place (σ ++ τ)) (inputTree (length σ) (depthOf (typeOf β d))))
         place-words =
             let start : (getD state 1 0 + n) - sumOf (take (d + 1) counts) ≡ room σ = omega (arith, added .0, first-room) in
             ap₂ (λ (i s : ℕ). rowWords i s (take (d + 1) counts)) first-free start
-            ∙ (ap (rowWords (length σ) (room σ)) lengths-counted ∙ sym (rowed σ d (g .value ∷ []) .words))
+            ∙ (ap (rowWords (length σ) (room σ)) lengths-counted ∙ sym (rowed σ β d (g .value ∷ []) .words))
 
         pub top-room : (2 ≤ top) × (top ≤ length env₁) × (sp ≤ top + 27)
         top-room = (
@@ -245,14 +247,15 @@ module _ {text : List ℕ} {x : Variable} {d : ℕ} {counts : List ℕ} {sp : �
         before-named = omega (arith, top-room .0, top-room .1)
 
         spelt : drop (top - 2) (written (top - 2) (x .0 ∷ d ∷ []) env₁)
-            ≡ spelled (bindOne (g .bound) x (length σ) d .names) (places (σ ++ τ) (bindOne (g .bound) x (length σ) d .trees))
+            ≡ spelled (bindOne (g .bound) x (length σ) (typeOf β d) .names) (places (σ ++ τ) (bindOne (g .bound) x (length σ) (typeOf β d) .trees))
         unfolding spelled places
         spelt =
             let back : (top - 2) + 2 ≡ top = omega (arith, top-room .0) in
             let others : drop sp env ≡ spelled (g .bound .names) (places (σ ++ τ) (g .bound .trees)) =
             g .stands .spells ∙ ap (spelled (g .bound .names)) (sym (places-kept σ τ (g .stands .shaped))) in
             from-written env₁ (top - 2) (x .0 ∷ d ∷ []) before-named
-            ∙ ap (λ (l : List ℕ). x .0 ∷ d ∷ l) (ap (λ (k : ℕ). drop k env₁) back ∙ (w ∙ ap₂ _++_ place-words others))
+            ∙ ap₂ (λ (n : ℕ) (l : List ℕ). x .0 ∷ n ∷ l) (sym (depth-of-type β d))
+            (ap (λ (k : ℕ). drop k env₁) back ∙ (w ∙ ap₂ _++_ place-words others))
 
         pub taken : {env′ : List ℕ} {state′ : List ℕ} → env′ ≡ written (top - 2) (x .0 ∷ d ∷ []) env₁
             → state′ ≡ set (set state 0 (getD state 0 0 + (d + 1))) 1 (getD state 1 0 + n)
@@ -261,13 +264,13 @@ module _ {text : List ℕ} {x : Variable} {d : ℕ} {counts : List ℕ} {sp : �
             let few : length (σ ++ τ) ≤ mostElements = omega (arith, grown, g .few, g .shallow) in
             let h = behind-held (g .stands .held) τ few fits state′ (ap (take 4) s ∙ new-state) in
             let k = behind-kept (g .stands .held) τ few fits in
-            let r = rowed σ d (g .value ∷ []) in
+            let r = rowed σ β d (g .value ∷ []) in
             takes {top = top - 2}
             fits
             (record {
               spells = ap (drop (top - 2)) v ∙ spelt;
               shaped = shaped-more (r .shapely) (shaped-kept σ τ (g .stands .shaped));
-              shallow = shallow-more (g .shallow) (g .stands .shallow);
+              shallow = shallow-more {τ = typeOf β d} (omega (arith, depth-of-type β d, g .shallow)) (g .stands .shallow);
               held = subst (λ (l : List ℤ). Held (unspent (σ ++ τ)) l state′) (sym stored) h;
               behind = ap (drop 4) s ∙ (behind-set state (getD state 0 0 + (d + 1)) (getD state 1 0 + n) ∙ g .stands .behind);
               within = omega (arith, ap length v, length-written env₁ (top - 2) (x .0 ∷ d ∷ []) before-named, top-room .1);

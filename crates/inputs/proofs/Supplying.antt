@@ -1,21 +1,30 @@
--- The IN and VA records of a job that was read, one input at a time: where they stand, and what they say.
+-- The input and VA records of a job that was read, one input at a time: where they stand, and what they say.
 use Prim.Native.Nat.{ℕ, zero, suc, _+_, _-_, _≤_, _<_}
 use mathlib.Core.Bool.{Bool, true, false, _&&_}
 use mathlib.Core.List.{List, [], _∷_}
+use mathlib.Core.Option.{Option, some, none}
 use mathlib.Core.Path.{_≡_, refl, sym, ap, ap₂, subst, _∙_}
 use native.Mathlib.Omega.{arith}
 use borrow.Author.Tests.{leb-true}
 use lib.Dec.{eqb, leb}
 use lib.ListN.{length}
+use Rattle.snesl.specs.declared.code.Base.{Base}
 use Rattle.snesl.specs.declared.limits.Formula.{Formula}
 use Rattle.snesl.specs.declared.refusal.Refusal.the-variants.{NoRecord, OverLimit, TooMany}
 use Rattle.snesl.specs.Limits.{mostInputs, mostDepth, lastVariable}
-use Rattle.snesl.specs.Records.{markAt, markIN, markVA, byteAt, Raw, Input, inputAt, inputsAt, inputOk, inputFirst, Declared, declared, Span, spanAt, textsAt, spanFirst, Texts, texts, Front, front, frontOf, jobEnd, textsThen, job, readJob}
+use Rattle.snesl.specs.Values.{ValueType, typeOf}
+use Rattle.snesl.specs.Records.{markAt, markVA, byteAt, Raw, Input, inputBase, inputAt, inputsAt, inputOk, inputFirst, Declared, declared, Span, spanAt, textsAt, spanFirst, Texts, texts, Front, front, frontOf, jobEnd, textsThen, job, readJob}
 use Rattle.snesl.specs.Records as records
 use Rattle.snesl.proofs.Formed.{job-read}
+use Rattle.formula.specs.Declarations.{baseAt}
+use Rattle.formula.proofs.Declaring.{base-is}
 use Rattle.inputs.specs.Supply.{Read}
 
--- From `at` on stand the IN records of these inputs, and from k on their texts, `left` of each.
+-- the type that the record at `at` declares
+abbrev pub typeAt : List ℕ → ℕ → ValueType
+typeAt t at = typeOf (baseAt t at) (byteAt t (at + 3))
+
+-- From `at` on stand the records of these inputs, and from k on their texts, `left` of each.
 pub data Supplied (t : List ℕ) : (left at k : ℕ) → List Input → List Span → Type 0 where
   supplied-none : {at k : ℕ} → Supplied t 0 at k [] []
   supplied-more : {n at k : ℕ} {is : List Input} {ss : List Span}
@@ -23,7 +32,7 @@ pub data Supplied (t : List ℕ) : (left at k : ℕ) → List Input → List Spa
       → byteAt t (at + 3) ≤ mostDepth
       → k + 4 + spanAt t k .bytes ≤ length t
       → Supplied t n (at + 4) (k + 4 + spanAt t k .bytes) is ss
-      → Supplied t (suc n) at k (inputAt t at ∷ is) (spanAt t k ∷ ss)
+      → Supplied t (suc n) at k (inputAt t at (baseAt t at) ∷ is) (spanAt t k ∷ ss)
 
 never : {X : Type 0} → _≡_ {A = ℕ} 0 1 → X
 never z = absurd (omega arith)
@@ -65,25 +74,26 @@ module _ (t : List ℕ) where
           q
       go false p q = never (cc)
 
-  -- the first IN record of several
-  record Declares (m at : ℕ) (is : List Input) (e : ℕ) : Type 0 where
+  -- the first input record of several
+  record Declares (m at : ℕ) (b : Base) (is : List Input) (e : ℕ) : Type 0 where
     rest : List Input
-    inputs : is ≡ inputAt t at ∷ rest
+    inputs : is ≡ inputAt t at b ∷ rest
     fits : at + 4 ≤ length t
     shallow : byteAt t (at + 3) ≤ mostDepth
     others : inputsAt m t (at + 4) ≡ declared rest e
 
-  declares : (m at : ℕ) (is : List Input) (e : ℕ) → inputOk t at (inputFirst (inputAt t at) (inputsAt m t (at + 4))) ≡ declared is e → Declares m at is e
-  declares m at is e = whole (leb (at + 4) (length t)) refl
+  declares : (m at : ℕ) (b : Base) (is : List Input) (e : ℕ) → inputOk t at (inputFirst (inputAt t at b) (inputsAt m t (at + 4))) ≡ declared is e
+      → Declares m at b is e
+  declares m at base is e = whole (leb (at + 4) (length t)) refl
     where
-      more : at + 4 ≤ length t → byteAt t (at + 3) ≤ mostDepth → (x : Declared) → inputsAt m t (at + 4) ≡ x → inputFirst (inputAt t at) x ≡ declared is e
-          → Declares m at is e
+      more : at + 4 ≤ length t → byteAt t (at + 3) ≤ mostDepth → (x : Declared) → inputsAt m t (at + 4) ≡ x → inputFirst (inputAt t at base) x ≡ declared is e
+          → Declares m at base is e
       more f s (records.Declared.refused r) p q = never (cc)
       more f s (declared r e′) p q = record { rest = r; inputs = cc; fits = f; shallow = s; others = cc }
 
       limited : at + 4 ≤ length t → (b : Bool) → (leb (byteAt t (at + 2)) lastVariable && leb (byteAt t (at + 3)) mostDepth) ≡ b
-          → elim b [ true ↦ inputFirst (inputAt t at) (inputsAt m t (at + 4)) | false ↦ records.Declared.refused (OverLimit at) ] ≡ declared is e
-          → Declares m at is e
+          → elim b [ true ↦ inputFirst (inputAt t at base) (inputsAt m t (at + 4)) | false ↦ records.Declared.refused (OverLimit at) ] ≡ declared is e
+          → Declares m at base is e
       limited f true p q =
           more f
           (leb-true (byteAt t (at + 3)) mostDepth (and-second (leb (byteAt t (at + 2)) lastVariable) _ p))
@@ -96,11 +106,11 @@ module _ (t : List ℕ) where
           → elim b [
             | true ↦
                 elim (leb (byteAt t (at + 2)) lastVariable && leb (byteAt t (at + 3)) mostDepth)
-                [ true ↦ inputFirst (inputAt t at) (inputsAt m t (at + 4)) | false ↦ records.Declared.refused (OverLimit at) ]
+                [ true ↦ inputFirst (inputAt t at base) (inputsAt m t (at + 4)) | false ↦ records.Declared.refused (OverLimit at) ]
             | false ↦ records.Declared.refused (NoRecord at)
           ]
           ≡ declared is e
-          → Declares m at is e
+          → Declares m at base is e
       whole true p q = limited (leb-true (at + 4) (length t) p) (leb (byteAt t (at + 2)) lastVariable && leb (byteAt t (at + 3)) mostDepth) refl q
       whole false p q = never (cc)
 
@@ -116,13 +126,13 @@ module _ (t : List ℕ) where
       → textsAt (length is) t k ≡ texts ss end
       → Supplied t (length is) at k is ss × (length is ≤ m)
   unfolding inputsAt
-  supplied zero at k end e is ss = go (eqb (markAt t at) markIN) refl
+  supplied zero at k end e is ss = go (inputBase (markAt t at)) refl
     where
-      go : (b : Bool) → eqb (markAt t at) markIN ≡ b
-          → elim b [ true ↦ inputOk t at (records.Declared.refused (TooMany at)) | false ↦ declared [] at ] ≡ declared is e
+      go : (o : Option Base) → inputBase (markAt t at) ≡ o
+          → elim o [ some b ↦ inputOk t at (records.Declared.refused (TooMany at)) | none ↦ declared [] at ] ≡ declared is e
           → textsAt (length is) t k ≡ texts ss end
           → Supplied t (length is) at k is ss × (length is ≤ 0)
-      go true p q x = never (refuse (leb (at + 4) (length t)) (leb (byteAt t (at + 2)) lastVariable && leb (byteAt t (at + 3)) mostDepth) q)
+      go (some b) p q x = never (refuse (leb (at + 4) (length t)) (leb (byteAt t (at + 2)) lastVariable && leb (byteAt t (at + 3)) mostDepth) q)
         where
           refuse : (a b : Bool)
               → elim a [
@@ -134,17 +144,17 @@ module _ (t : List ℕ) where
           refuse true true q = cc
           refuse true false q = cc
           refuse false b q = cc
-      go false p q x =
+      go none p q x =
           let n : is ≡ [] = cc in
           (none-supplied at k end is ss n x, omega (arith, ap length n))
-  supplied (suc m) at k end e is ss = go (supplied m (at + 4)) (eqb (markAt t at) markIN) refl
+  supplied (suc m) at k end e is ss = go (supplied m (at + 4)) (inputBase (markAt t at)) refl
     where
       Others : Type 0
       Others =
           (k end e : ℕ) (is : List Input) (ss : List Span) → inputsAt m t (at + 4) ≡ declared is e → textsAt (length is) t k ≡ texts ss end
           → Supplied t (length is) (at + 4) k is ss × (length is ≤ m)
 
-      rest : Others → (r : List Input) → is ≡ inputAt t at ∷ r → at + 4 ≤ length t → byteAt t (at + 3) ≤ mostDepth → inputsAt m t (at + 4) ≡ declared r e
+      rest : Others → (r : List Input) → is ≡ inputAt t at (baseAt t at) ∷ r → at + 4 ≤ length t → byteAt t (at + 3) ≤ mostDepth → inputsAt m t (at + 4) ≡ declared r e
           → textsAt (length is) t k ≡ texts ss end
           → Supplied t (length is) at k is ss × (length is ≤ suc m)
       rest more r p f s o x =
@@ -152,17 +162,20 @@ module _ (t : List ℕ) where
           let first = texted (length r) k ss end y in
           let others = more (k + 4 + spanAt t k .bytes) end e r (first .rest) o (first .others) in (
             subst (λ (l : List Input). Supplied t (length l) at k l ss) (sym p)
-                (subst (λ (l : List Span). Supplied t (suc (length r)) at k (inputAt t at ∷ r) l) (sym (first .spans))
+                (subst (λ (l : List Span). Supplied t (suc (length r)) at k (inputAt t at (baseAt t at) ∷ r) l) (sym (first .spans))
                 (supplied-more f s (first .fits) (others .0))),
             omega (arith, others .1, ap length p),
           )
 
-      go : Others → (b : Bool) → eqb (markAt t at) markIN ≡ b
-          → elim b [ true ↦ inputOk t at (inputFirst (inputAt t at) (inputsAt m t (at + 4))) | false ↦ declared [] at ] ≡ declared is e
+      go : Others → (o : Option Base) → inputBase (markAt t at) ≡ o
+          → elim o [ some b ↦ inputOk t at (inputFirst (inputAt t at b) (inputsAt m t (at + 4))) | none ↦ declared [] at ] ≡ declared is e
           → textsAt (length is) t k ≡ texts ss end
           → Supplied t (length is) at k is ss × (length is ≤ suc m)
-      go more true p q x = let f = declares m at is e q in rest more (f .rest) (f .inputs) (f .fits) (f .shallow) (f .others) x
-      go more false p q x =
+      go more (some b) p q x =
+          let f = declares m at b is e q in
+          let named = ap (λ (z : Base). inputAt t at z ∷ f .rest) (sym (base-is (markAt t at) b p)) in
+          rest more (f .rest) (f .inputs ∙ named) (f .fits) (f .shallow) (f .others) x
+      go more none p q x =
           let n : is ≡ [] = cc in
           (none-supplied at k end is ss n x, omega (arith, ap length n))
 

@@ -9,14 +9,15 @@ use lib.ListN.{length, take, drop}
 use Rattle.snesl.specs.declared.code.Variable.{Variable}
 use Rattle.snesl.specs.declared.limits.Formula.{Formula}
 use Rattle.snesl.specs.Limits.{mostInputs, mostDepth, mostElements}
-use Rattle.snesl.specs.Values.{Val}
+use Rattle.snesl.specs.declared.code.Base.{Base}
+use Rattle.snesl.specs.Values.{ValueType, depthOf, typeOf, Val}
 use Rattle.snesl.specs.Terms.{All, ∅, _▹_}
-use Rattle.snesl.specs.Trees.{Tree}
+use Rattle.snesl.specs.Trees.{IdTree}
 use Rattle.snesl.specs.Streams.{Store, len, room}
 use Rattle.snesl.specs.Machine.{State}
 use Rattle.snesl.specs.Text.{valueOf}
 use Rattle.snesl.specs.Records.{Input}
-use Rattle.snesl.specs.Checking.{Name, context, depths, turned, inputNames}
+use Rattle.snesl.specs.Checking.{Name, context, inputTypes, turned, inputNames}
 use Rattle.snesl.specs.Inputs.{inputTree, inputTrees, inputStreams, inputOver}
 use Rattle.environment.specs.Words.{spelled}
 use Rattle.steps.specs.Holding.{Held, keeps}
@@ -36,13 +37,13 @@ unspent σ = record { store = σ; work = 0; steps = 0 }
 
 -- some inputs, newest first: their names, and the trees of their streams' ids
 pub record Bound : Type 0 where
-  pub context : List ℕ
+  pub context : List ValueType
   pub names : All Name context
-  pub trees : All (Tree ℕ) context
+  pub trees : All IdTree context
 
--- an input more, whose data has id s
-abbrev pub bindOne : Bound → Variable → (s d : ℕ) → Bound
-bindOne b x s d = record { context = d ∷ b .context; names = x ▹ b .names; trees = inputTree s d ▹ b .trees }
+-- an input of type τ more, whose data has id s
+abbrev pub bindOne : Bound → Variable → (s : ℕ) → ValueType → Bound
+bindOne b x s τ = record { context = τ ∷ b .context; names = x ▹ b .names; trees = inputTree s (depthOf τ) ▹ b .trees }
 
 -- the words behind the machine's four, of a walk that only runs
 abbrev pub idle : List ℕ
@@ -59,35 +60,35 @@ pub record Stands (b : Bound) (σ : Store) (env : List ℕ) (sp : ℕ) (buf : Li
 
 -- ---- one input
 
--- a text that is the value of an input x of depth d, with its counts, behind inputs that are loaded
-pub record Next (text : List ℕ) (x : Variable) (d : ℕ) (counts : List ℕ) (sp : ℕ) (env : List ℕ) (buf : List ℤ) (state : List ℕ) : Type 0 where
+-- a text that is the value of an input x of base β and depth d, with its counts, behind inputs that are loaded
+pub record Next (text : List ℕ) (x : Variable) (β : Base) (d : ℕ) (counts : List ℕ) (sp : ℕ) (env : List ℕ) (buf : List ℤ) (state : List ℕ) : Type 0 where
   pub bound : Bound
   pub store : Store
-  pub value : Val d
+  pub value : Val (typeOf β d)
   pub stands : Stands bound store env sp buf state
-  pub reads : valueOf d text ≡ some value
-  pub counted : take (suc d) counts ≡ map len (valueStore d value)
+  pub reads : valueOf (typeOf β d) text ≡ some value
+  pub counted : take (suc d) counts ≡ map len (valueStore (typeOf β d) value)
   pub shallow : d ≤ mostDepth
   pub low : bindingWords ≤ sp
   pub few : length store + suc mostDepth ≤ mostElements
   pub small : length buf ≤ mostElements
 
 -- its streams fit behind the others, and it is bound to them; or they don't
-pub data Takes {text : List ℕ} {x : Variable} {d : ℕ} {counts : List ℕ} {sp : ℕ} {env : List ℕ} {buf : List ℤ} {state : List ℕ}
-    (g : Next text x d counts sp env buf state)
+pub data Takes {text : List ℕ} {x : Variable} {β : Base} {d : ℕ} {counts : List ℕ} {sp : ℕ} {env : List ℕ} {buf : List ℤ} {state : List ℕ}
+    (g : Next text x β d counts sp env buf state)
     (env′ : List ℕ) (buf′ : List ℤ) (state′ : List ℕ) : Loaded → Type 0 where
   takes : {top : ℕ}
-      → room (g .store) + room (valueStore d (g .value)) ≤ length buf
-      → Stands (bindOne (g .bound) x (length (g .store)) d) (g .store ++ valueStore d (g .value)) env′ top buf′ state′
-      → keeps (g .store ++ valueStore d (g .value)) buf buf′
+      → room (g .store) + room (valueStore (typeOf β d) (g .value)) ≤ length buf
+      → Stands (bindOne (g .bound) x (length (g .store)) (typeOf β d)) (g .store ++ valueStore (typeOf β d) (g .value)) env′ top buf′ state′
+      → keeps (g .store ++ valueStore (typeOf β d) (g .value)) buf buf′
       → sp ≤ top + bindingWords
       → Takes g env′ buf′ state′ (At top)
-  passes : length buf < room (g .store) + room (valueStore d (g .value)) → Takes g env′ buf′ state′ (Full (length (g .store)))
+  passes : length buf < room (g .store) + room (valueStore (typeOf β d) (g .value)) → Takes g env′ buf′ state′ (Full (length (g .store)))
 
 -- ---- all of them
 
 abbrev pub inputsBound : (is : List Input) → Bound
-inputsBound is = record { context = context is; names = turned ∅ (inputNames is); trees = turned ∅ (inputTrees 0 (depths is)) }
+inputsBound is = record { context = context is; names = turned ∅ (inputNames is); trees = turned ∅ (inputTrees 0 (inputTypes is)) }
 
 -- What is answered and left where the room is passed by the input with this first id, or by none. Behind the streams the buffer is as it was.
 pub data Loads {t : List ℕ} {f : Formula} (g : Valued t f) (env env′ : List ℕ) (buf buf′ : List ℤ) (state′ : List ℕ) : Option ℕ → Loaded → Type 0 where

@@ -1,4 +1,4 @@
--- The inputs of a job that was read: what each IN record and its VA record say, and whether all texts are values.
+-- The inputs of a job that was read: what each input's record and its VA record say, and whether all texts are values.
 use Prim.Native.Nat.{ℕ, suc, _*_, _≤_}
 use mathlib.Core.List.{List, [], _∷_, _++_, map}
 use mathlib.Core.Option.{Option, some, none}
@@ -7,12 +7,12 @@ use lib.ListN.{length, take, drop}
 use Rattle.snesl.specs.declared.limits.Formula.{Formula}
 use Rattle.snesl.specs.Limits.{mostInputs, mostDepth}
 use Rattle.snesl.specs.Terms.{All, ∅, _▹_}
-use Rattle.snesl.specs.Values.{Val}
+use Rattle.snesl.specs.Values.{ValueType, depthOf, Val}
 use Rattle.snesl.specs.Streams.{len}
 use Rattle.snesl.specs.Text.{valueOf}
 use Rattle.snesl.specs.Finder.{spanOf}
 use Rattle.snesl.specs.Records.{Raw, Input, Span, job, readJob}
-use Rattle.snesl.specs.Checking.{depths}
+use Rattle.snesl.specs.Checking.{inputType, inputTypes}
 use Rattle.snesl.specs.Inputs.{Values, wrong, right, inputValues}
 use Rattle.valuetext.specs.Storing.{valueStore, countsAfter}
 use Rattle.inputs.specs.declared.texts.Texts.{Texts}
@@ -29,7 +29,7 @@ pub record Read (t : List ℕ) (f : Formula) : Type 0 where
   pub formula : f ≡ record { inputs = length inputs; expression = expression; end = next }
 
 -- 7 over all inputs
-abbrev pub textsOf : {ds : List ℕ} → Values ds → Texts
+abbrev pub textsOf : {τs : List ValueType} → Values τs → Texts
 textsOf (wrong p) = Bad p
 textsOf (right vs) = Good
 
@@ -38,27 +38,27 @@ abbrev pub perInput : ℕ
 perInput = suc mostDepth
 
 -- a text that is a value keeps its counts, and the others follow
-abbrev pub tallyFirst : (d : ℕ) → Option (Val d) → List ℕ → (List ℕ → List ℕ) → List ℕ
-tallyFirst d none counts others = counts
-tallyFirst d (some v) counts others = take perInput counts ++ others (drop perInput counts)
+abbrev pub tallyFirst : (τ : ValueType) → Option (Val τ) → List ℕ → (List ℕ → List ℕ) → List ℕ
+tallyFirst τ none counts others = counts
+tallyFirst τ (some v) counts others = take perInput counts ++ others (drop perInput counts)
 
--- the counts of these inputs' texts, up to the first that is none of its depth
+-- the counts of these inputs' texts, up to the first that is none of its type
 unfoldable pub tallied : (job : List ℕ) → (is : List Input) → List Span → (counts : List ℕ) → List ℕ
 tallied t [] ss counts = counts
 tallied t (i ∷ is) [] counts = counts
 tallied t (i ∷ is) (s ∷ ss) counts =
-    tallyFirst (i .depth) (valueOf (i .depth) (spanOf t s)) (countsAfter (i .depth) (spanOf t s) counts) (tallied t is ss)
+    tallyFirst (inputType i) (valueOf (inputType i) (spanOf t s)) (countsAfter (i .base) (i .depth) (spanOf t s) counts) (tallied t is ss)
 
 -- a job all of whose texts are values
 pub record Valued (t : List ℕ) (f : Formula) : Type 0 where
   pub job : Read t f
-  pub given : All Val (depths (job .inputs))
+  pub given : All Val (inputTypes (job .inputs))
   pub values : inputValues t (job .inputs) (job .spans) ≡ right given
 
 -- the counts of all values, in order
-unfoldable pub Tallies : {ds : List ℕ} → All Val ds → (counts : List ℕ) → Type 0
+unfoldable pub Tallies : {τs : List ValueType} → All Val τs → (counts : List ℕ) → Type 0
 Tallies ∅ counts = Unit
-Tallies (_▹_ {d = d} v vs) counts = (take (suc d) counts ≡ map len (valueStore d v)) × Tallies vs (drop perInput counts)
+Tallies (_▹_ {τ = τ} v vs) counts = (take (suc (depthOf τ)) counts ≡ map len (valueStore τ v)) × Tallies vs (drop perInput counts)
 
 -- they are kept for a job whose texts are values
 pub record Counted (t : List ℕ) (counts : List ℕ) : Type 0 where

@@ -34,16 +34,17 @@ fn load_input(
     buf: &mut [i32],
     state: &mut [usize],
 ) -> Loaded
-    requires { ⌜ Next (now text) (input .name) (input .depth) (now counts) sp (now env) (now buf) (now state) ⌝ }
-    ensures { λ r. ⌜ ((g : Next (now (text .entry)) (input .name) (input .depth) (now (counts .entry)) sp (now (env .entry)) (now (buf .entry)) (now (state .entry))) → Takes g (now (env .exit)) (now (buf .exit)) (now (state .exit)) r) ⌝ }
+    requires { ⌜ Next (now text) (input .name) (input .base) (input .depth) (now counts) sp (now env) (now buf) (now state) ⌝ }
+    ensures { λ r. ⌜ ((g : Next (now (text .entry)) (input .name) (input .base) (input .depth) (now (counts .entry)) sp (now (env .entry)) (now (buf .entry)) (now (state .entry))) → Takes g (now (env .exit)) (now (buf .exit)) (now (state .exit)) r) ⌝ }
 {
+    let base = input.base;
     let depth = input.depth;
     let levels = depth as usize + 1;
     let id = state[0];
     let room = state[1];
     match add_up(&counts[..levels], buf.len() - room) {
         Total::Of(n) => {
-            fill_text(text, depth, counts, room, buf);
+            fill_text(text, base, depth, counts, room, buf);
             let top = push_places(&counts[..levels], id, room + n, sp, env) - 2;
             put_name(env, top, input.name, depth as usize);
             state[0] = id + levels;

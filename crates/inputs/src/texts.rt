@@ -15,7 +15,7 @@ ghost use Rattle.inputs.specs.Supply.{Read, textsOf, perInput, tallied};
 // Places for the counts of the most inputs.
 pub const COUNTS: usize = LEVELS * Formula::INPUTS;
 
-// Each text is a value of its input's depth, or the VA record of the first that is none.
+// Each text is a value of its input's type, or the VA record of the first that is none.
 pub enum Texts {
     Good,
     Bad(usize),
@@ -41,9 +41,10 @@ pub fn measure_texts(job: &[u8], formula: Formula, counts: &mut [usize]) -> Text
     let mut k = formula.end;
     while i < inputs {
         let next = text_end(job, k);
-        let depth = declared(job, i).depth;
+        let input = declared(job, i);
+        let base = input.base;
         let from = LEVELS * i;
-        match measure_text(&job[k + 4..next], depth, &mut counts[from..]) {
+        match measure_text(&job[k + 4..next], base, input.depth, &mut counts[from..]) {
             Measured::No => {
                 return Texts::Bad(k);
             }

@@ -75,7 +75,7 @@ sub-top c =
     let at-add-up = at-n .before .before in
     let at-start = at-add-up .before .before .before .before .before .before .before .before in
     let total = sym (at-n .n .given .1) ∙ at-add-up .add-up .ensures in
-    top-room (at-start .pre) (at-n .n .given .0 .0) total (at-fill-text .fill-text .last .1 .1 .1 .1 .0) (at-fill-text .fill-text .ensures) (at-push-places .push-places .last .1 .1 .1 .1 .0) (at-push-places .push-places .result) (at-push-places .push-places .kept .1 .1 .1 .1 .0) (at-push-places .push-places .ensures .0) (at-push-places .push-places .ensures .1) .0
+    top-room (at-start .pre) (at-n .n .given .0 .0) total (at-fill-text .fill-text .last .1 .1 .1 .1 .1 .0) (at-fill-text .fill-text .ensures) (at-push-places .push-places .last .1 .1 .1 .1 .0) (at-push-places .push-places .result) (at-push-places .push-places .kept .1 .1 .1 .1 .0) (at-push-places .push-places .ensures .0) (at-push-places .push-places .ensures .1) .0
 
 cast-put-name : tie.Need-cast-put-name
 cast-put-name c = search needs
@@ -88,7 +88,7 @@ put-name-requires c κs =
     let at-add-up = at-n .before .before in
     let at-start = at-add-up .before .before .before .before .before .before .before .before in
     let total = sym (at-n .n .given .1) ∙ at-add-up .add-up .ensures in
-    let below = top-room (at-start .pre) (at-n .n .given .0 .0) total (at-fill-text .fill-text .last .1 .1 .1 .1 .0) (at-fill-text .fill-text .ensures) (at-push-places .push-places .last .1 .1 .1 .1 .0) (at-push-places .push-places .result) (at-push-places .push-places .kept .1 .1 .1 .1 .0) (at-push-places .push-places .ensures .0) (at-push-places .push-places .ensures .1) in
+    let below = top-room (at-start .pre) (at-n .n .given .0 .0) total (at-fill-text .fill-text .last .1 .1 .1 .1 .1 .0) (at-fill-text .fill-text .ensures) (at-push-places .push-places .last .1 .1 .1 .1 .0) (at-push-places .push-places .result) (at-push-places .push-places .kept .1 .1 .1 .1 .0) (at-push-places .push-places .ensures .0) (at-push-places .push-places .ensures .1) in
     (omega (arith, below .0, below .1), omega (arith, at-start .pre .shallow))
 
 add-state : tie.Need-add-state
@@ -134,7 +134,7 @@ returns c =
     let at-n = at-fill-text .before .before .before in
     let at-add-up = at-n .before .before in
     let total = sym (at-n .n .given .1) ∙ at-add-up .add-up .ensures in
-    λ g. taken g (at-n .n .given .0 .0) total (at-fill-text .fill-text .last .1 .1 .1 .1 .0) (at-fill-text .fill-text .ensures) (at-push-places .push-places .last .1 .1 .1 .1 .0) (at-push-places .push-places .result) (at-push-places .push-places .kept .1 .1 .1 .1 .0) (at-push-places .push-places .ensures .0) (at-push-places .push-places .ensures .1) (at-put-name .put-name .ensures) refl
+    λ g. taken g (at-n .n .given .0 .0) total (at-fill-text .fill-text .last .1 .1 .1 .1 .1 .0) (at-fill-text .fill-text .ensures) (at-push-places .push-places .last .1 .1 .1 .1 .0) (at-push-places .push-places .result) (at-push-places .push-places .kept .1 .1 .1 .1 .0) (at-push-places .push-places .ensures .0) (at-push-places .push-places .ensures .1) (at-put-name .put-name .ensures) refl
 
 returns-2 : tie.Need-returns-2
 returns-2 c = λ g. full-now g (sym (c .enum-told .given .1) ∙ c .before .before .add-up .ensures)

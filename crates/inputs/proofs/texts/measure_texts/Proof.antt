@@ -109,7 +109,7 @@ same-length : tie.Need-same-length Inv-loop μ-loop
 same-length c =
     let at-measure-text = c .before .before .before .before in
     let at-loop = at-measure-text .before .before .before .before .before .before in
-    same-len-mid (9 * at-loop .loop .i) (length (at-loop .loop .counts) - 9 * at-loop .loop .i) (at-loop .loop .counts) (at-measure-text .measure-text .last .1 .1 .0) (at-measure-text .measure-text .kept .1 .1 .0) ∙ at-loop .loop .inv .0
+    same-len-mid (9 * at-loop .loop .i) (length (at-loop .loop .counts) - 9 * at-loop .loop .i) (at-loop .loop .counts) (at-measure-text .measure-text .last .1 .1 .1 .0) (at-measure-text .measure-text .kept .1 .1 .1 .0) ∙ at-loop .loop .inv .0
 
 returns : tie.Need-returns Inv-loop μ-loop
 returns c =
@@ -120,10 +120,11 @@ returns c =
     let at-loop = at-loop-test .before in
     let at-start = at-loop .before .before .before in
     let none = sym (c .enum-told .given .1) ∙ at-measure-text .measure-text .ensures .0 in
-    let back = counts-back (at-declared .declared .result .depth) (textFrom (at-start .args .job .now) (at-loop .loop .k) (at-text-end .text-end .result)) (at-loop .loop .counts) (at-loop .loop .i) (at-measure-text .measure-text .ensures .1) in
+    let back = counts-back (at-declared .declared .result .base) (at-declared .declared .result .depth) (textFrom (at-start .args .job .now) (at-loop .loop .k) (at-text-end .text-end .result)) (at-loop .loop .counts) (at-loop .loop .i) (at-measure-text .measure-text .ensures .1) in
+    let base = ap (λ (r : Declaration). r .base) (at-declared .declared .ensures) in
     let depth = ap (λ (r : Declaration). r .depth) (at-declared .declared .ensures) in (
-      λ g. told-bad (at-loop .loop .inv .1 (g .inputs) (g .spans) (inputs-supplied g)) (at-loop-test .loop-test .taken) (at-text-end .text-end .result) (at-text-end .text-end .ensures) depth back none .0,
-      λ g. told-bad (at-loop .loop .inv .1 (g .inputs) (g .spans) (inputs-supplied g)) (at-loop-test .loop-test .taken) (at-text-end .text-end .result) (at-text-end .text-end .ensures) depth back none .1,
+      λ g. told-bad (at-loop .loop .inv .1 (g .inputs) (g .spans) (inputs-supplied g)) (at-loop-test .loop-test .taken) (at-text-end .text-end .result) (at-text-end .text-end .ensures) base depth back none .0,
+      λ g. told-bad (at-loop .loop .inv .1 (g .inputs) (g .spans) (inputs-supplied g)) (at-loop-test .loop-test .taken) (at-text-end .text-end .result) (at-text-end .text-end .ensures) base depth back none .1,
     )
 
 add-i : tie.Need-add-i Inv-loop μ-loop
@@ -140,11 +141,12 @@ loop-again c =
     let at-loop-test = at-text-end .before in
     let at-loop = at-loop-test .before in
     let at-start = at-loop .before .before .before in
-    let back = counts-back (at-declared .declared .result .depth) (textFrom (at-start .args .job .now) (at-loop .loop .k) (at-text-end .text-end .result)) (at-loop .loop .counts) (at-loop .loop .i) (at-measure-text .measure-text .ensures .1) in
+    let back = counts-back (at-declared .declared .result .base) (at-declared .declared .result .depth) (textFrom (at-start .args .job .now) (at-loop .loop .k) (at-text-end .text-end .result)) (at-loop .loop .counts) (at-loop .loop .i) (at-measure-text .measure-text .ensures .1) in
+    let base = ap (λ (r : Declaration). r .base) (at-declared .declared .ensures) in
     let depth = ap (λ (r : Declaration). r .depth) (at-declared .declared .ensures) in
-    let long = same-len-mid (9 * at-loop .loop .i) (length (at-loop .loop .counts) - 9 * at-loop .loop .i) (at-loop .loop .counts) (at-measure-text .measure-text .last .1 .1 .0) (at-measure-text .measure-text .kept .1 .1 .0) in (
+    let long = same-len-mid (9 * at-loop .loop .i) (length (at-loop .loop .counts) - 9 * at-loop .loop .i) (at-loop .loop .counts) (at-measure-text .measure-text .last .1 .1 .1 .0) (at-measure-text .measure-text .kept .1 .1 .1 .0) in (
       long ∙ at-loop .loop .inv .0,
-      λ is ss s. told-on (at-loop .loop .inv .1 is ss s) (at-loop-test .loop-test .taken) (at-text-end .text-end .result) (at-text-end .text-end .ensures) depth back
+      λ is ss s. told-on (at-loop .loop .inv .1 is ss s) (at-loop-test .loop-test .taken) (at-text-end .text-end .result) (at-text-end .text-end .ensures) base depth back
           (at-measure-text .measure-text .result) (at-measure-text .measure-text .ensures .0) (λ e. ⊎-elim (λ a. omega (arith, a, ap (tagOf the-type) e)) (λ a. omega (arith, a, ap (tagOf the-type) e)) (c .match .keys2)) long,
     )
 
