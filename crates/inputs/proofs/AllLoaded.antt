@@ -15,7 +15,7 @@ use Rattle.snesl.specs.declared.code.Variable.{Variable}
 use Rattle.snesl.specs.declared.limits.Formula.{Formula}
 use Rattle.snesl.specs.Limits.{mostInputs, mostDepth, mostElements}
 use Rattle.snesl.specs.declared.code.Base.{Base}
-use Rattle.snesl.specs.Values.{ValueType, depthOf, typeOf, Val}
+use Rattle.snesl.specs.Values.{ValueType, depthOf, Val}
 use Rattle.snesl.specs.Terms.{All, ∅, _▹_}
 use Rattle.snesl.specs.Trees.{order}
 use Rattle.snesl.specs.Streams.{Store, len, contents, room}
