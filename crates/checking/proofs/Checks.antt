@@ -23,8 +23,8 @@ use Rattle.checking.specs.declared.check.Judging.the-variants as judging
 use Rattle.formula.specs.declared.read.FormulaRead.the-variants as formula
 use Rattle.formula.specs.declared.read.JobRead.the-variants as job
 use Rattle.formula.specs.Reading.{formulaOf, jobOf}
-use Rattle.scopes.specs.declared.types.ValueType.{ValueType}
-use Rattle.scopes.specs.TypeWords.{toldBy}
+use Rattle.checking.specs.declared.types.ValueType.{ValueType}
+use Rattle.checking.specs.Types.{toldBy}
 use Rattle.scopes.specs.Scopes.{scope}
 use Rattle.checking.specs.Checks.{checkFront, judgeFront, Entry, again, entered, enterIn, enteredBy, Declares, Top, Enters, Judgement, refuses, gives, judge, judgingOf, mostPushed, Judgeable, Judges}
 use Rattle.checking.proofs.Entering.{few, whole}

@@ -28,12 +28,14 @@ use Rattle.checking.specs.declared.check.Single.{Single}
 use Rattle.checking.specs.declared.check.Single.the-variants.{Word, Refused}
 use Rattle.checking.specs.declared.check.Judged.{Judged}
 use Rattle.checking.specs.declared.check.Judged.the-variants as judged
-use Rattle.scopes.specs.TypeWords.{wordOf, told, toldBy}
+use Rattle.scopes.specs.TypeWords.{wordOf}
 use Rattle.scopes.specs.Scopes.{wordIn}
 use Rattle.scopes.specs.UsingLists.{isBoundIn, isScalarIn, firstUsable, usableIn, scalarsIn, wordFound, listedWords, Body, stop, inside, sequenceIn, eachIn}
 use Rattle.environment.specs.Words.{treeSize}
 use Rattle.environment.specs.Needs.{bindingSize, bodySize, words}
-use Rattle.scopes.proofs.TypeWords.{half-is, told-is}
+use Rattle.scopes.proofs.TypeWords.{half-is}
+use Rattle.checking.specs.Types.{toldBy}
+use Rattle.checking.proofs.Telling.{told-is}
 use Rattle.checking.specs.Checks.{checkedOf, checkFront, judgedOf, judgeFront, Judgement, refuses, gives, varIn, wantIn, plusIn, sized, thenTyped, bodyThen, bound, closed, newest, judge, Entry, again, entered, enterFirst, enterIn}
 
 -- the pairs of a scope

@@ -27,9 +27,10 @@ use Rattle.checking.specs.declared.check.Judging.{Judging}
 use Rattle.checking.specs.declared.check.Judging.the-variants as judging
 use Rattle.checking.specs.declared.check.Opened.{Opened}
 use Rattle.checking.specs.declared.check.Opened.the-variants as opened
-use Rattle.scopes.specs.TypeWords.{wordOf, told}
+use Rattle.scopes.specs.TypeWords.{wordOf}
 use Rattle.scopes.specs.Scopes.{scope, wordIn}
 use Rattle.scopes.specs.UsingLists.{Body, stop, inside, eachIn}
+use Rattle.checking.specs.Types.{told}
 use Rattle.environment.specs.Words.{treeSize}
 use Rattle.environment.specs.Needs.{bindingSize, bodySize, words}
 

@@ -1,4 +1,6 @@
 // Checking (document 01, refusals 5 and 6): a formula's type, or why it has none, in one walk over its records.
+use crate::types::ValueType;
+use crate::types::type_of;
 use formula::inputs::declared;
 use formula::read::FormulaRead;
 use formula::read::read_formula;
@@ -12,8 +14,6 @@ use scopes::scope::push;
 use scopes::types::BRACES;
 use scopes::types::INT;
 use scopes::types::INTS;
-use scopes::types::ValueType;
-use scopes::types::type_of;
 use scopes::types::word_of;
 use snesl::code::Variable;
 use snesl::limits::Formula;

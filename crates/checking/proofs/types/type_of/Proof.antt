@@ -1,7 +1,7 @@
 -- Half of the number, and its parity.
-use Rattle.scopes.proofs.TypeWords.{told-int, told-bool}
-use Rattle.scopes.proofs.types.type_of.Statement.{statement}
-use Rattle.scopes.proofs.types.type_of.Tie as tie
+use Rattle.checking.proofs.Telling.{told-int, told-bool}
+use Rattle.checking.proofs.types.type_of.Statement.{statement}
+use Rattle.checking.proofs.types.type_of.Tie as tie
 
 returns : tie.Need-returns
 returns c = told-int _ (c .if1 .taken)
