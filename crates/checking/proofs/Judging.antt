@@ -147,9 +147,9 @@ module _ {Γ : List ValueType} (scope : All Name Γ) where
       ∙ ap₂ (λ a b. a && (not (same x u) && (not (names u us) && b))) (ap isBoundIn (word-is u scope) ∙ bound-is (find u scope)) (usable-is x us))
 
   -- the listed variables are all scalars, and then their scope is theirs, and they are as many
-  abbrev Ints : List Variable → Option (NamedScalars Γ) → Type 0
-  Ints us none = scalarsIn (spelled scope) us ≡ false
-  Ints us (some l) =
+  abbrev AllScalars : List Variable → Option (NamedScalars Γ) → Type 0
+  AllScalars us none = scalarsIn (spelled scope) us ≡ false
+  AllScalars us (some l) =
       (scalarsIn (spelled scope) us ≡ true) × (spelled (listedNames l) ≡ listedWords (spelled scope) us) × (length us ≡ length (pointers l))
 
   abbrev scalarFirst : List Variable → Kind → Bool
@@ -157,7 +157,7 @@ module _ {Γ : List ValueType} (scope : All Name Γ) where
 
   first-is :
       (u : Variable) (us : List Variable) (f : Found Γ) (o : Option (NamedScalars Γ)) → wordIn (u .0) (spelled scope) ≡ kindOf f
-      → Ints us o → Ints (u ∷ us) (listedFirst u (asScalar f) o)
+      → AllScalars us o → AllScalars (u ∷ us) (listedFirst u (asScalar f) o)
   unfolding scalarsIn listedWords listedNames spelled
   first-is u us missing o e h = ap (scalarFirst us) e
   first-is u us (found (scalar b) v) none e h =
@@ -170,10 +170,10 @@ module _ {Γ : List ValueType} (scope : All Name Γ) where
   first-is u us (found (braces τ) v) o e h =
       ap (scalarFirst us) e ∙ ap (λ b. b && scalarsIn (spelled scope) us) (le-ltb (wordOf τ + 2) 2 (omega arith))
 
-  ints-are : (us : List Variable) → Ints us (listedScalars scope us)
+  scalars-are : (us : List Variable) → AllScalars us (listedScalars scope us)
   unfolding scalarsIn listedScalars listedWords listedNames spelled
-  ints-are [] = (refl, refl, refl)
-  ints-are (u ∷ us) = first-is u us (find u scope) (listedScalars scope us) (word-is u scope) (ints-are us)
+  scalars-are [] = (refl, refl, refl)
+  scalars-are (u ∷ us) = first-is u us (find u scope) (listedScalars scope us) (word-is u scope) (scalars-are us)
 
 -- ---- expressions inside
 
@@ -238,7 +238,7 @@ module _
       ∙ go (find y scope) (usable scope x us)
     where
       last :
-          (υ : ValueType) (v : Γ ∋ braces υ) (o : Option (NamedScalars Γ)) → Ints scope us o
+          (υ : ValueType) (v : Γ ∋ braces υ) (o : Option (NamedScalars Γ)) → AllScalars scope us o
           → bodyThen (sequenceIn (spelled scope) p x us (kind.Word (wordOf (braces υ)))) body ≡ judgementOf (typedIf p o (within v))
       last υ v none h = ap₂ (sequence-if (wordOf υ + 2)) (le-leb 2 (wordOf υ + 2) (omega arith)) h
       last υ v (some l) h =
@@ -258,7 +258,7 @@ module _
       go missing b = refl
       go (found τ v) false = refl
       go (found (scalar b) v) true = none-in b
-      go (found (braces υ) v) true = last υ v (listedScalars scope us) (ints-are scope us)
+      go (found (braces υ) v) true = last υ v (listedScalars scope us) (scalars-are scope us)
 
 pub judge-is : {Γ : List ValueType} (scope : All Name Γ) (e : Raw) → judge (spelled scope) e ≡ judgementOf (checking.check scope e)
 unfolding judge checking.check spelled words

@@ -29,7 +29,10 @@ word-of-requires : tie.Need-word-of-requires Inv-loop μ-loop
 word-of-requires c κs = shallow-at _ _ (c .before .before .before .before .before .before .loop .inv) (c .before .before .before .before .before .loop-test .taken) (c .before .before .before .before .declared .ensures)
 
 push-requires : tie.Need-push-requires Inv-loop μ-loop
-push-requires c κs = omega (arith, c .before .before .before .before .before .before .before .before .loop .inv .at, c .before .before .before .before .before .before .before .before .loop .inv .long, c .before .before .before .before .before .before .before .before .before .before .before .pre .1)
+push-requires c κs =
+    let at-loop = c .before .before .before .before .before .before .before .before in
+    let at-start = at-loop .before .before .before in
+    omega (arith, at-loop .loop .inv .at, at-loop .loop .inv .long, at-start .pre .1)
 
 add-i : tie.Need-add-i Inv-loop μ-loop
 add-i c = omega (arith, fits _ _ (c .before .before .before .before .before .before .before .before .before .before .before .loop .inv) (c .before .before .before .before .before .before .before .before .before .before .loop-test .taken) .1)
@@ -38,8 +41,17 @@ loop-less : tie.Need-loop-less Inv-loop μ-loop
 loop-less c = omega (arith, c .before .before .before .before .before .before .before .before .before .before .loop-test .taken)
 
 loop-again : tie.Need-loop-again Inv-loop μ-loop
-loop-again c = turn-at _ _ (c .before .before .before .before .before .before .before .before .before .before .before .loop .inv) (c .before .before .before .before .before .before .before .before .before .before .loop-test .taken) (c .before .before .before .before .before .before .before .before .before .declared .ensures) (sym (c .before .before .before .before .before .enum-told .given .1) ∙ c .before .before .before .before .before .before .before .look .ensures) (c .before .before .before .before .word-of .ensures)
-    (c .before .before .push .ensures) (c .before .before .push .kept .0)
+loop-again c =
+    let at-push = c .before .before in
+    let at-word-of = at-push .before .before in
+    let at-enum-told = at-word-of .before in
+    let at-look = at-enum-told .before .before in
+    let at-declared = at-look .before .before in
+    let at-loop-test = at-declared .before in
+    let at-loop = at-loop-test .before in
+    turn-at _ _ (at-loop .loop .inv) (at-loop-test .loop-test .taken) (at-declared .declared .ensures) (sym (at-enum-told .enum-told .given .1) ∙ at-look .look .ensures) (at-word-of .word-of .ensures)
+    (at-push .push .ensures)
+    (at-push .push .kept .0)
 
 enum-told-2 : tie.Need-enum-told-2 Inv-loop μ-loop
 enum-told-2 c = c .match .keys2

@@ -1,4 +1,4 @@
--- The names' cases, and then the depths' tests.
+-- The names' cases, and then the types' tests.
 use mathlib.Core.Path.{sym, ap, ap₂, _∙_}
 use Rattle.checking.specs.Checks.{plusIn}
 use Rattle.checking.proofs.Turning.{both-ints, second-none, first-none}

@@ -1,4 +1,4 @@
--- The name's case, and then the depth's test.
+-- The name's case, and then the type's test.
 use mathlib.Core.Path.{sym, ap, _∙_}
 use Rattle.checking.specs.Checks.{wantIn}
 use Rattle.checking.proofs.Turning.{wanted-is, wanted-not}
