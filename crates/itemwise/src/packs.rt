@@ -46,8 +46,8 @@ fn trues(buf: &[i32], n: usize, at: usize) -> usize
     let mut i = 0;
     let mut found = 0;
     while i < n {
-        let c = buf[at + i];
-        if c == 0 {
+        let b = buf[at + i];
+        if b == 0 {
             i += 1;
         } else {
             found += 1;

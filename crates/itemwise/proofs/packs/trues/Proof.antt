@@ -55,14 +55,14 @@ abbrev μ-loop : tie.MeasureT-loop
 loop-holds : tie.Need-loop-holds Inv-loop μ-loop
 loop-holds c = begin (c .pre)
 
-add-c : tie.Need-add-c Inv-loop μ-loop
-add-c c = omega (arith, c .before .loop .inv .within)
+add-b : tie.Need-add-b Inv-loop μ-loop
+add-b c = omega (arith, c .before .loop .inv .within)
 
-mul-c : tie.Need-mul-c Inv-loop μ-loop
-mul-c c = omega (arith, c .before .loop .inv .within)
+mul-b : tie.Need-mul-b Inv-loop μ-loop
+mul-b c = omega (arith, c .before .loop .inv .within)
 
-shared-slice-copy-out-c : tie.Need-shared-slice-copy-out-c Inv-loop μ-loop
-shared-slice-copy-out-c c = omega (arith, c .before .loop .inv .within)
+shared-slice-copy-out-b : tie.Need-shared-slice-copy-out-b Inv-loop μ-loop
+shared-slice-copy-out-b c = omega (arith, c .before .loop .inv .within)
 
 add-i : tie.Need-add-i Inv-loop μ-loop
 add-i c = omega arith
@@ -71,7 +71,7 @@ loop-less : tie.Need-loop-less Inv-loop μ-loop
 loop-less c = omega arith
 
 loop-again : tie.Need-loop-again Inv-loop μ-loop
-loop-again c = turn-F (c .before .before .before .loop .inv) (c .before .before .loop-test .taken) (c .before .c .given) (c .if1 .taken)
+loop-again c = turn-F (c .before .before .before .loop .inv) (c .before .before .loop-test .taken) (c .before .b .given) (c .if1 .taken)
 
 add-found : tie.Need-add-found Inv-loop μ-loop
 add-found c = omega (arith, c .before .before .before .loop .inv .few)
@@ -95,9 +95,9 @@ trues-spec =
     Inv-loop
     μ-loop
     loop-holds
-    add-c
-    mul-c
-    shared-slice-copy-out-c
+    add-b
+    mul-b
+    shared-slice-copy-out-b
     add-i
     loop-less
     loop-again
