@@ -4,6 +4,7 @@ ghost use lib.ListN.{length};
 use crate::show::elements;
 use crate::show::number;
 use crate::show::word;
+use snesl::code::Operation;
 use streams::Output;
 
 pub fn run(
@@ -51,10 +52,15 @@ fn call(
         0 => streams::constant(buf, out, n, z),
         1 => itemwise::to_flags(buf, out, n, at1, len1),
         2 => streams::usum(buf, n, at1, len1),
-        3 => itemwise::map_two_plus(buf, out, n, at1, len1, at2, len2),
+        3 => itemwise::map_two(Operation::Plus, buf, out, n, at1, len1, at2, len2),
         4 => segmentwise::scan_plus(buf, out, n, z, at1, len1, at2, len2),
         5 => segmentwise::distr(buf, out, n, at1, len1, at2, len2),
-        _ => segmentwise::sum_plus(buf, out, n, at1, len1, at2, len2),
+        6 => segmentwise::sum_plus(buf, out, n, at1, len1, at2, len2),
+        7 => itemwise::map_two(Operation::LessEqual, buf, out, n, at1, len1, at2, len2),
+        8 => itemwise::map_two(Operation::Equal, buf, out, n, at1, len1, at2, len2),
+        9 => itemwise::map_one_not(buf, out, n, at1, len1),
+        10 => itemwise::pack(buf, out, n, at1, len1, at2, len2),
+        _ => segmentwise::upack(buf, out, n, at1, len1, at2, len2),
     }
 }
 

@@ -1,5 +1,5 @@
 // Runs each transducer on empty segments at the start, in the middle and at the end, on lengths 0, 1 and a buffer that is just full, and at both ends of the
-// number range. Each line has the transducer, its answer and the whole buffer after the call; `stdout` was worked out by hand from document 01.
+// number range. Each line has the transducer, its answer and the whole buffer after the call; `stdout` was worked out by hand from documents 01 and 001.
 mod call;
 mod show;
 
@@ -14,6 +14,10 @@ fn main() {
     scans();
     spreads();
     sums();
+    comparisons();
+    negations();
+    packs();
+    segment_packs();
     let mut three = [1, 2, 3];
     clear(&mut three, 1);
 }
@@ -119,4 +123,70 @@ fn sums() {
     run(6, &mut short, 2, 2, 0, 0, 2, 2, 0);
     let mut none = [9];
     run(6, &mut none, 0, 0, 0, 0, 0, 0, 0);
+}
+
+fn comparisons() {
+    let mut ends = [
+        -2147483648,
+        2147483647,
+        5,
+        2147483647,
+        -2147483648,
+        5,
+        9,
+        9,
+        9,
+    ];
+    run(7, &mut ends, 6, 3, 0, 0, 3, 3, 3);
+    let mut short = [1, 2, 3, 4, 9];
+    run(7, &mut short, 4, 2, 0, 0, 2, 2, 2);
+    let mut none = [9];
+    run(7, &mut none, 0, 0, 0, 0, 0, 0, 0);
+    let mut same = [-1, 0, 2147483647, 1, 0, 2147483647, 9, 9, 9, 9];
+    run(8, &mut same, 6, 3, 0, 0, 3, 3, 3);
+    let mut unfit = [1, 2, 3, 9, 9];
+    run(8, &mut unfit, 3, 2, 0, 0, 2, 2, 1);
+}
+
+fn negations() {
+    let mut bools = [0, 1, 7, -1, 9, 9, 9, 9, 9];
+    run(9, &mut bools, 4, 4, 0, 0, 4, 0, 0);
+    let mut short = [1, 0, 9];
+    run(9, &mut short, 2, 2, 0, 0, 2, 0, 0);
+    let mut unfit = [1, 9];
+    run(9, &mut unfit, 1, 2, 0, 0, 1, 0, 0);
+    let mut none = [9];
+    run(9, &mut none, 0, 0, 0, 0, 0, 0, 0);
+}
+
+fn packs() {
+    let mut ends = [1, 0, 0, 1, 5, 6, 7, -2147483648, 9, 9, 9];
+    run(10, &mut ends, 8, 4, 0, 0, 4, 4, 4);
+    let mut nothing = [0, 0, 5, 6];
+    run(10, &mut nothing, 4, 2, 0, 0, 2, 2, 2);
+    let mut full = [1, 1, 5, 6, 9, 9];
+    run(10, &mut full, 4, 2, 0, 0, 2, 2, 2);
+    let mut short = [1, 1, 5, 6, 9];
+    run(10, &mut short, 4, 2, 0, 0, 2, 2, 2);
+    let mut unfit = [1, 5, 6, 9];
+    run(10, &mut unfit, 3, 2, 0, 0, 1, 1, 2);
+    let mut none = [9];
+    run(10, &mut none, 0, 0, 0, 0, 0, 0, 0);
+}
+
+fn segment_packs() {
+    let mut empties = [1, 0, 1, 1, 1, 0, 0, 1, 1, 0, 1, 9, 9, 9, 9, 9];
+    run(11, &mut empties, 11, 4, 0, 0, 4, 4, 7);
+    let mut nothing = [0, 0, 1];
+    run(11, &mut nothing, 3, 1, 0, 0, 1, 1, 2);
+    let mut last = [0, 1, 0, 1, 1, 9];
+    run(11, &mut last, 5, 2, 0, 0, 2, 2, 3);
+    let mut short = [1, 0, 1, 9];
+    run(11, &mut short, 3, 1, 0, 0, 1, 1, 2);
+    let mut unfit = [1, 1, 1, 9];
+    run(11, &mut unfit, 3, 2, 0, 0, 1, 1, 2);
+    let mut noflag = [1, 2, 9];
+    run(11, &mut noflag, 2, 1, 0, 0, 1, 1, 1);
+    let mut none = [9];
+    run(11, &mut none, 0, 0, 0, 0, 0, 0, 0);
 }

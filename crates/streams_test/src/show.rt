@@ -7,7 +7,12 @@ pub fn word(kind: u8) {
         3 => io::write_all(1, b"MapTwo+"),
         4 => io::write_all(1, b"ScanPlus"),
         5 => io::write_all(1, b"Distr"),
-        _ => io::write_all(1, b"SumPlus"),
+        6 => io::write_all(1, b"SumPlus"),
+        7 => io::write_all(1, b"MapTwo<="),
+        8 => io::write_all(1, b"MapTwo=="),
+        9 => io::write_all(1, b"MapOneNot"),
+        10 => io::write_all(1, b"Pack"),
+        _ => io::write_all(1, b"UPack"),
     }
     ;
 }
