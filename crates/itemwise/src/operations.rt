@@ -5,11 +5,11 @@ ghost use Prim.Native.Nat.{_+_, _≤_};
 ghost use lib.ListN.{drop, length};
 ghost use lib.Seq.{sets};
 ghost use Rattle.laws.specs.Parts.{part};
-ghost use Rattle.snesl.specs.Streams.{bit, bools};
+ghost use Rattle.snesl.specs.Streams.{bit};
 ghost use Rattle.snesl.specs.Transducers as snesl;
-ghost use Rattle.snesl.specs.Transducers.{lengthMisfit, made, pairwise, unfit, unless};
+ghost use Rattle.snesl.specs.Transducers.{pairwise};
 ghost use Rattle.streams.specs.Answers.{Answers};
-ghost use Rattle.itemwise.specs.Tests.{compared};
+ghost use Rattle.itemwise.specs.Tests.{compared, comparison};
 use crate::pluses::map_two_plus;
 use snesl::code::Operation;
 use streams::fit::Misfit;
@@ -49,7 +49,7 @@ fn compare(
     len2: usize,
 ) -> Output
     requires { ⌜ (at1 + len1 ≤ out) × (at2 + len2 ≤ out) × (out ≤ length (now buf)) ⌝ }
-    ensures { λ r. ⌜ Answers out (now (buf .entry)) (unless (lengthMisfit n (length (part at1 len1 (now (buf .entry)))) (length (part at2 len2 (now (buf .entry))))) unfit (made (bools (pairwise (compared equal) (part at1 len1 (now (buf .entry))) (part at2 len2 (now (buf .entry))))))) r (now (buf .exit)) ⌝ }
+    ensures { λ r. ⌜ Answers out (now (buf .entry)) (comparison equal n (part at1 len1 (now (buf .entry))) (part at2 len2 (now (buf .entry)))) r (now (buf .exit)) ⌝ }
     ensures { λ _. ⌜ drop (out + n) (now (buf .exit)) ≡ drop (out + n) (now (buf .entry)) ⌝ }
 {
     let misfit = lengths(n, len1, len2);

@@ -1,5 +1,5 @@
 -- A call works on elements, whatever they are: an answer with the same elements is the same to it. So Const, Distr and Pack on ints serve bools too.
-use Prim.Native.Nat.{ℕ}
+use Prim.Native.Nat.{ℕ, _-_}
 use mathlib.Core.Bool.{true, false}
 use mathlib.Core.List.{List, map}
 use mathlib.Core.Option.{Option, some, none}
@@ -7,7 +7,6 @@ use mathlib.Core.Path.{_≡_, refl, sym, _∙_, ap}
 use lib.Dec.{leb}
 use lib.IntN.{ℤ}
 use lib.ListN.{length, length-map}
-use Prim.Native.Nat.{_-_}
 use Rattle.laws.specs.Parts.{written}
 use Rattle.snesl.specs.declared.code.Base.{Base}
 use Rattle.snesl.specs.declared.code.Base.the-variants.{Int, Bool}

@@ -10,14 +10,13 @@ use lib.Seq.{sets}
 use Rattle.laws.specs.Parts.{part}
 use Rattle.laws.proofs.Parts.{length-part, drop-sets}
 use Rattle.snesl.specs.Streams.{Stream, bit, bools}
-use Rattle.snesl.specs.Transducers as snesl
-use Rattle.snesl.specs.Transducers.{lengthMisfit, pairwise, unless}
+use Rattle.snesl.specs.Transducers.{pairwise}
 use Rattle.streams.specs.Answers.{Answers}
 use Rattle.streams.specs.declared.fit.Misfit.{Misfit}
 use Rattle.streams.specs.declared.fit.Misfit.the-variants.{Nowhere, At}
 use Rattle.streams.specs.declared.output.Output.{Output}
 use Rattle.streams.specs.declared.output.Output.the-variants.{Made, Unfit, NoRoom}
-use Rattle.itemwise.specs.Tests.{compared}
+use Rattle.itemwise.specs.Tests.{compared, comparison}
 use Rattle.itemwise.proofs.Calls.{Call, call, even, inside, unfits, full, makes}
 use Rattle.itemwise.proofs.Lengths.{tests-long}
 use borrow.Author.Needs.{needs}
@@ -31,7 +30,7 @@ module _ (equal : Bool) {old : List ℤ} {out n at1 len1 at2 len2 : ℕ} {r : Mi
   -- what the contract says of an answer
   abbrev Ends : Output → List ℤ → Type 0
   Ends o new =
-      Answers out old (unless (lengthMisfit n (length (part at1 len1 old)) (length (part at2 len2 old))) snesl.unfit (snesl.made output)) o new
+      Answers out old (comparison equal n (part at1 len1 old) (part at2 len2 old)) o new
       × (drop (out + n) new ≡ drop (out + n) old)
 
   long1 : length (part at1 len1 old) ≡ len1
