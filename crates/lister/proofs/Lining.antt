@@ -7,6 +7,7 @@ use lib.IntN.{ℤ}
 use lib.ListN.{length, getD, take, drop, length-append}
 use Rattle.snesl.specs.declared.refusal.Refusal.{Refusal}
 use Rattle.snesl.specs.Limits.{mostNesting}
+use Rattle.snesl.specs.Values.{depthOf}
 use Rattle.snesl.specs.Streams.{contents, room}
 use Rattle.snesl.specs.Programs.{Program}
 use Rattle.snesl.specs.Translation.{tree, code}
@@ -100,7 +101,7 @@ module _ {t : List ℕ} {k : ℕ} {env : List ℕ} {sp s : ℕ} (g : WholeReady 
         record {
           scene = scene;
           levels = suc mostNesting;
-          depth = g .depth;
+          type = g .type;
           term = g .term;
           next = g .next;
           formed = g .formed;
@@ -119,14 +120,14 @@ module _ {t : List ℕ} {k : ℕ} {env : List ℕ} {sp s : ℕ} (g : WholeReady 
       unfolding walked
       through = refl
 
-      says : r ≡ walks.Tree (g .depth) (g .next)
+      says : r ≡ walks.Tree (depthOf (g .type)) (g .next)
       unfolding ready scene
-      says = ran .says ∙ ap (answer (g .depth) (g .next)) through
+      says = ran .says ∙ ap (answer (depthOf (g .type)) (g .next)) through
 
       pub never-stopped : {q : Refusal} → r ≡ walks.Stopped q → ⊥
       never-stopped e = let z : _≡_ {A = ℕ} 0 1 = cc (says) in omega arith
 
-      left : Left (skip p machine) (feed (length (g .store)) p (beginning text)) (tree (g .term) (g .trees) (length (g .store))) sp env env₁ buf buf₁ state₁ text₁
+      left : Left (skip p machine) (feed (length (g .store)) p (beginning text)) (g .type) (tree (g .term) (g .trees) (length (g .store))) sp env env₁ buf buf₁ state₁ text₁
       unfolding ready scene
       left = ran .leaves (skip p machine) through
 
@@ -143,7 +144,7 @@ module _ {t : List ℕ} {k : ℕ} {env : List ℕ} {sp s : ℕ} (g : WholeReady 
 
       pub lined : {d n : ℕ} → r ≡ walks.Tree d n → Lined g env₁ text text₁ (record { depth = d; at = getD state₁ 5 0 })
       lined {d} e =
-          let same : d ≡ g .depth = cc (says) in
+          let same : d ≡ depthOf (g .type) = cc (says) in
           record {
             depth = same;
             writes =
@@ -151,5 +152,5 @@ module _ {t : List ℕ} {k : ℕ} {env : List ℕ} {sp s : ℕ} (g : WholeReady 
                 (record { content = told .text-is; count = at-word told });
             placing = record { place = place (skip p machine .store); named = λ u. refl };
             words =
-                subst (λ n. drop (sp - treeSize (g .depth)) env₁ ≡ treeWords (mapTree (place (skip p machine .store)) (tree (g .term) (g .trees) n)) ++ drop sp env) (g .number) (left .words);
+                subst (λ n. drop (sp - treeSize (depthOf (g .type))) env₁ ≡ treeWords (mapTree (place (skip p machine .store)) (tree (g .term) (g .trees) n)) ++ drop sp env) (g .number) (left .words);
           }

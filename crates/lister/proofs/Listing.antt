@@ -12,18 +12,21 @@ use Rattle.snesl.specs.declared.limits.Formula.{Formula}
 use Rattle.snesl.specs.declared.refusal.Refusal.{Refusal}
 use Rattle.snesl.specs.declared.refusal.Refusal.the-variants.{NoAnswerRoom}
 use Rattle.snesl.specs.Limits.{mostInputs, mostDepth}
+use Rattle.snesl.specs.declared.code.Base.{Base}
+use Rattle.snesl.specs.Values.{ValueType, depthOf}
 use Rattle.snesl.specs.Terms.{All, ∅, _▹_}
-use Rattle.snesl.specs.Trees.{Tree, order}
+use Rattle.snesl.specs.Trees.{IdTree, order}
 use Rattle.snesl.specs.Programs.{count}
 use Rattle.snesl.specs.Translation.{size, tree, code}
 use Rattle.snesl.specs.Ids.{idsOf, Below}
 use Rattle.snesl.specs.Records as records
-use Rattle.snesl.specs.Records.{Input, Raw, declared, inputAt, inputsAt, Front, front, readFormula}
+use Rattle.snesl.specs.Records.{byteAt, Input, Raw, declared, inputAt, inputsAt, Front, front, readFormula}
 use Rattle.snesl.specs.Checking as checking
-use Rattle.snesl.specs.Checking.{Typed, typed, context, turnedOnto, turned, depths, inputNames, checkFormula}
+use Rattle.snesl.specs.Checking.{Typed, typed, context, turnedOnto, turned, inputType, inputTypes, inputNames, checkFormula}
 use Rattle.snesl.specs.Inputs.{inputTree, inputTrees, inputStart}
 use Rattle.snesl.specs.Listing as listing
 use Rattle.snesl.specs.Listing.{linesOf, resultLine, roomFor, listedTyped, listedFront}
+use Rattle.snesl.proofs.Types.{depth-of-type}
 use Rattle.snesl.proofs.Compiled.Members.{_∈_}
 use Rattle.snesl.proofs.Compiled.Freshness.{count-code, defined-next, result-ids}
 use Rattle.snesl.proofs.Formed.{FrontRead, FormulaFormed, formula-read, formula-formed}
@@ -32,6 +35,7 @@ use Rattle.decimals.proofs.Stores.{sets-none}
 use Rattle.formula.specs.declared.read.FormulaRead.the-variants as read
 use Rattle.formula.specs.Reading.{formulaOf}
 use Rattle.checking.specs.declared.check.Checked.the-variants as checked
+use Rattle.checking.specs.declared.types.ValueType as types
 use Rattle.checking.specs.Checks.{checkedOf, checkFront}
 use Rattle.checking.proofs.Entering.{few}
 use Rattle.environment.specs.Words.{spelled}
@@ -49,23 +53,26 @@ use Rattle.lister.proofs.Short.{lines-short, result-short}
 
 -- ---- the inputs
 
-inputs-shallow : (t : List ℕ) {Γ : List ℕ} (is : List Input) (n k : ℕ) {end : ℕ} → inputsAt n t k ≡ declared is end → Shallow Γ → Shallow (turnedOnto Γ (depths is))
+declared-shallow : (t : List ℕ) (k : ℕ) (b : Base) → byteAt t (k + 3) ≤ mostDepth → depthOf (inputType (inputAt t k b)) ≤ mostDepth
+declared-shallow t k b h = omega (arith, depth-of-type b (byteAt t (k + 3)))
+
+inputs-shallow : (t : List ℕ) {Γ : List ValueType} (is : List Input) (n k : ℕ) {end : ℕ} → inputsAt n t k ≡ declared is end → Shallow Γ → Shallow (turnedOnto Γ (inputTypes is))
 inputs-shallow t [] n k e s = s
 inputs-shallow t (i ∷ is) n k {end} e s =
     let f = first-of t k (omega arith) n e in
-    let same : i ≡ inputAt t k = cc (f .whole) in
+    let same : i ≡ inputAt t k (f .base) = cc (f .whole) in
     let rest : is ≡ f .rest = cc (f .whole) in
-    inputs-shallow t is (n - 1) (k + 4) (f .more ∙ ap (λ l. declared l end) (sym rest)) (shallow-more {d = i .depth} (subst (λ (j : Input). j .depth ≤ mostDepth) (sym same) (f .depth)) s)
+    inputs-shallow t is (n - 1) (k + 4) (f .more ∙ ap (λ l. declared l end) (sym rest)) (shallow-more {τ = inputType i} (subst (λ (j : Input). depthOf (inputType j) ≤ mostDepth) (sym same) (declared-shallow t k (f .base) (f .depth))) s)
 
-starts-small : (t : List ℕ) (is : List Input) (n k : ℕ) {end : ℕ} → inputsAt n t k ≡ declared is end → inputStart (depths is) ≤ 9 * length is
+starts-small : (t : List ℕ) (is : List Input) (n k : ℕ) {end : ℕ} → inputsAt n t k ≡ declared is end → inputStart (inputTypes is) ≤ 9 * length is
 unfolding inputStart
 starts-small t [] n k e = omega arith
 starts-small t (i ∷ is) n k {end} e =
     let f = first-of t k (omega arith) n e in
-    let same : i ≡ inputAt t k = cc (f .whole) in
+    let same : i ≡ inputAt t k (f .base) = cc (f .whole) in
     let rest : is ≡ f .rest = cc (f .whole) in
     let more = starts-small t is (n - 1) (k + 4) (f .more ∙ ap (λ l. declared l end) (sym rest)) in
-    let depth : i .depth ≤ mostDepth = subst (λ (j : Input). j .depth ≤ mostDepth) (sym same) (f .depth) in
+    let depth : depthOf (inputType i) ≤ mostDepth = subst (λ (j : Input). depthOf (inputType j) ≤ mostDepth) (sym same) (declared-shallow t k (f .base) (f .depth)) in
     omega arith
 
 input-below : (s d : ℕ) {u : ℕ} → u ∈ order (inputTree s d) → u < s + suc d
@@ -77,17 +84,18 @@ input-below s (suc d) {u} m =
     last : u ≡ s + suc d → u < s + suc (suc d)
     last e = omega arith
 
-inputs-below : (s : ℕ) (ds : List ℕ) → Below (s + inputStart ds) (idsOf (inputTrees s ds))
+inputs-below : (s : ℕ) (τs : List ValueType) → Below (s + inputStart τs) (idsOf (inputTrees s τs))
 unfolding idsOf inputTrees inputStart
 inputs-below s [] u m = absurd (List·Memᴰ·not-nil m)
-inputs-below s (d ∷ ds) u m =
-    ⊎-elim (λ k. let l = input-below s d k in omega arith) (λ k. let l = inputs-below (s + suc d) ds u k in omega arith) (List·Memᴰ·append-cases (order (inputTree s d)) m)
+inputs-below s (τ ∷ τs) u m =
+    ⊎-elim (λ k. let l = input-below s (depthOf τ) k in omega arith) (λ k. let l = inputs-below (s + suc (depthOf τ)) τs u k in omega arith)
+    (List·Memᴰ·append-cases (order (inputTree s (depthOf τ))) m)
 
-turned-below : {Γ ds : List ℕ} (n : ℕ) (δ : All (Tree ℕ) Γ) (ts : All (Tree ℕ) ds) → Below n (idsOf δ) → Below n (idsOf ts) → Below n (idsOf (turned δ ts))
+turned-below : {Γ τs : List ValueType} (n : ℕ) (δ : All IdTree Γ) (ts : All IdTree τs) → Below n (idsOf δ) → Below n (idsOf ts) → Below n (idsOf (turned δ ts))
 unfolding turned idsOf
 turned-below n δ ∅ a b = a
-turned-below n δ (t ▹ ts) a b =
-    turned-below n (t ▹ δ) ts (λ u m. ⊎-elim (λ k. b u (Memᴰ·append-left (idsOf ts) k)) (a u) (List·Memᴰ·append-cases (order t) m))
+turned-below n δ (_▹_ {τ = τ} t ts) a b =
+    turned-below n (_▹_ {τ = τ} t δ) ts (λ u m. ⊎-elim (λ k. b u (Memᴰ·append-left (idsOf ts) k)) (a u) (List·Memᴰ·append-cases (order t) m))
     (λ u m. b u (Memᴰ·append-right (order t) m))
 
 -- ---- room
@@ -116,11 +124,11 @@ module _ {t : List ℕ} {inputs k : ℕ} (g : Found t inputs k) where
   number-few : inputs ≤ 16
   number-few = omega (arith, few t k mostInputs 0 (g .all) (front-of .inputs), g .number)
 
-  abbrev trees : All (Tree ℕ) (context (g .all))
-  trees = turned ∅ (inputTrees 0 (depths (g .all)))
+  abbrev trees : All IdTree (context (g .all))
+  trees = turned ∅ (inputTrees 0 (inputTypes (g .all)))
 
   abbrev start : ℕ
-  start = inputStart (depths (g .all))
+  start = inputStart (inputTypes (g .all))
 
   shallow : Shallow (context (g .all))
   shallow = inputs-shallow t (g .all) mostInputs 0 (front-of .inputs) shallow-none
@@ -128,8 +136,8 @@ module _ {t : List ℕ} {inputs k : ℕ} (g : Found t inputs k) where
   below : Below start (idsOf trees)
   unfolding idsOf
   below =
-      turned-below start ∅ (inputTrees 0 (depths (g .all))) (λ u m. absurd (List·Memᴰ·not-nil m))
-      (λ u m. let l = inputs-below 0 (depths (g .all)) u m in omega arith)
+      turned-below start ∅ (inputTrees 0 (inputTypes (g .all))) (λ u m. absurd (List·Memᴰ·not-nil m))
+      (λ u m. let l = inputs-below 0 (inputTypes (g .all)) u m in omega arith)
 
   ids : start + size (g .term) < 4294967296
   ids =
@@ -184,15 +192,15 @@ module _ {t : List ℕ} {inputs k : ℕ} (g : Found t inputs k) where
           context = context (g .all);
           names = turned ∅ (inputNames (g .all));
           trees = trees;
-          depth = g .depth;
+          type = g .type;
           term = g .term;
           next = g .next;
           formed = formed .formed;
-          store = bareInputs (depths (g .all));
-          bare = inputs-bare (depths (g .all));
-          number = inputs-long (depths (g .all)) ∙ sym id-is;
+          store = bareInputs (inputTypes (g .all));
+          bare = inputs-bare (inputTypes (g .all));
+          number = inputs-long (inputTypes (g .all)) ∙ sym id-is;
           spells = same ∙ spells;
-          shaped = inputs-shaped [] ∅ shaped-none 0 refl (depths (g .all));
+          shaped = inputs-shaped [] ∅ shaped-none 0 refl (inputTypes (g .all));
           shallow = shallow;
           within = omega (arith, entered .within, long, long₂);
           space = omega (arith, words-most (formed .formed) shallow, entered .room, number-few);
@@ -279,18 +287,18 @@ pub refused-text : (t old : List ℕ) {r : Refusal} → listing.listing (length 
 refused-text t old e = (ap listedAnswer (sym e), ap (textAfter old) (sym e))
 
 -- what was found
-pub found : (t : List ℕ) {d : ℕ} {f : Formula} → checked.Depth d ≡ checkFront (readFormula t) → read.Found f ≡ formulaOf (readFormula t) → Found t (f .inputs) (f .expression)
-found t {d} {f} = go (readFormula t) refl
+pub found : (t : List ℕ) {y : types.ValueType} {f : Formula} → checked.Typed y ≡ checkFront (readFormula t) → read.Found f ≡ formulaOf (readFormula t) → Found t (f .inputs) (f .expression)
+found t {y} {f} = go (readFormula t) refl
   where
-    typings : (is : List Input) {k : ℕ} {e : Raw} {next : ℕ} (y : Typed (context is)) → readFormula t ≡ front is k e next → checkFormula is e ≡ y → checked.Depth d ≡ checkedOf y
+    typings : (is : List Input) {k : ℕ} {e : Raw} {next : ℕ} (c : Typed (context is)) → readFormula t ≡ front is k e next → checkFormula is e ≡ c → checked.Typed y ≡ checkedOf c
         → read.Found f ≡ read.Found (record { inputs = length is; expression = k; end = next })
         → Found t (f .inputs) (f .expression)
     typings is (Typed.refused q) r c a b = let z : _≡_ {A = ℕ} 0 1 = cc in absurd (omega arith)
-    typings is {k} {e} {next} (typed c e′) r q a b =
+    typings is {k} {e} {next} (typed τ e′) r q a b =
         let same : f ≡ record { inputs = length is; expression = k; end = next } = cc in
         subst (λ (u : Formula). Found t (u .inputs) (u .expression)) (sym same)
-        (record { all = is; raw = e; next = next; depth = c; term = e′; read = r; checked = q; number = refl })
+        (record { all = is; raw = e; next = next; type = τ; term = e′; read = r; checked = q; number = refl })
 
-    go : (u : Front) → readFormula t ≡ u → checked.Depth d ≡ checkFront u → read.Found f ≡ formulaOf u → Found t (f .inputs) (f .expression)
+    go : (u : Front) → readFormula t ≡ u → checked.Typed y ≡ checkFront u → read.Found f ≡ formulaOf u → Found t (f .inputs) (f .expression)
     go (Front.refused q) r a b = let z : _≡_ {A = ℕ} 0 1 = cc in absurd (omega arith)
     go (front is k e next) r a b = typings is (checkFormula is e) r refl a b

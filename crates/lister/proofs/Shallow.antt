@@ -1,22 +1,23 @@
 -- A comprehension's body sees types within the limit, and its using list is short.
-use Prim.Native.Nat.{ℕ, suc, _+_, _≤_}
+use Prim.Native.Nat.{ℕ, _+_, _≤_}
 use native.Mathlib.Omega.{arith}
 use mathlib.Core.List.{List, _∷_}
 use mathlib.Core.Path.{_≡_, sym, ap}
 use lib.ListN.{length}
 use Rattle.snesl.specs.declared.code.Variable.{Variable}
 use Rattle.snesl.specs.Limits.{mostListed}
-use Rattle.snesl.specs.Terms.{_∋_, listedTypes}
+use Rattle.snesl.specs.Values.{ValueType, braces}
+use Rattle.snesl.specs.Terms.{_∋_, Scalars, anyType, listedTypes}
 use Rattle.snesl.specs.Records.{headAt, eaching}
 use Rattle.records.specs.declared.head.Head.the-variants.{Each}
 use Rattle.records.specs.Heads.{headOf}
 use Rattle.records.proofs.Heads.{told}
 use Rattle.leaves.specs.Places.{Shallow, shallow-more}
 use Rattle.leaves.proofs.Places.{lookup-shallow}
-use Rattle.runner.proofs.Measures.{ints-shallow}
+use Rattle.runner.proofs.Measures.{scalars-shallow}
 
-pub shallow-body : {c : ℕ} {Γ : List ℕ} → Γ ∋ suc c → (us : List (Γ ∋ 0)) → Shallow Γ → Shallow (c ∷ listedTypes us)
-shallow-body {c} v us s = shallow-more {d = c} (let h = lookup-shallow v s in omega arith) (ints-shallow us)
+pub shallow-body : {υ : ValueType} {Γ : List ValueType} → Γ ∋ braces υ → (us : Scalars Γ) → Shallow Γ → Shallow (υ ∷ listedTypes (anyType us))
+shallow-body {υ} v us s = shallow-more {τ = υ} (let h = lookup-shallow v s in omega arith) (scalars-shallow us)
 
 -- an EA's using list
 pub record Using (us : List Variable) (b : ℕ) : Type 0 where

@@ -11,12 +11,14 @@ use lib.IntN.{ℤ, pos, negsuc}
 use lib.ListN.{length, getD, length-append}
 use lib.Signed.{mag}
 use Rattle.snesl.specs.declared.code.Transducer.{Transducer}
-use Rattle.snesl.specs.declared.code.Transducer.the-variants.{Const, ToFlags, Usum, MapTwoPlus, ScanPlus, Distr, SumPlus}
+use Rattle.snesl.specs.declared.code.Transducer.the-variants.{Const, ConstBool, ToFlags, B2u, Usum, MapTwo, MapOneNot, ScanPlus, Distr, SumPlus, Pack, UPack}
+use Rattle.snesl.specs.declared.code.Operation.the-variants.{Plus, LessEqual, Equal}
 use Rattle.snesl.specs.Ascii.{ascii, pieces}
 use Rattle.snesl.specs.Text.{showInt}
 use Rattle.snesl.specs.Limits.{mostDepth}
-use Rattle.snesl.specs.Terms.{_∋_, Term, each, listedTypes, All, _▹_, lookup}
-use Rattle.snesl.specs.Trees.{Tree, leaf, node, root, inner, outer, order}
+use Rattle.snesl.specs.Values.{ValueType, braces, depthOf}
+use Rattle.snesl.specs.Terms.{_∋_, Term, each, Scalars, anyType, listedTypes, All, _▹_, lookup}
+use Rattle.snesl.specs.Trees.{Tree, IdTree, leaf, node, root, inner, outer, order}
 use Rattle.snesl.specs.Transducers.{operands}
 use Rattle.snesl.specs.Programs.{done, define, withCtrl, _⨾_, count, dv, fv, member, without, among, insert, ascending}
 use Rattle.snesl.specs.Translation.{id, size, numbered, within, tree, distrs, controlled, code}
@@ -67,30 +69,48 @@ int-short (negsuc n) h = let m = at-most-20 (suc n) (omega arith) in omega arith
 
 abbrev HeldIn : Transducer → Type 0
 HeldIn (Const z) = Held z
+HeldIn (ConstBool c) = Unit
 HeldIn (ToFlags s) = Unit
+HeldIn (B2u s) = Unit
 HeldIn (Usum s) = Unit
-HeldIn (MapTwoPlus s t) = Unit
+HeldIn (MapTwo o s t) = Unit
+HeldIn (MapOneNot s) = Unit
 HeldIn (ScanPlus z s t) = Held z
 HeldIn (Distr s t) = Unit
 HeldIn (SumPlus s t) = Unit
+HeldIn (Pack s t) = Unit
+HeldIn (UPack s t) = Unit
 
 name-short : (t : Transducer) → HeldIn t → length (nameText t) ≤ 30
 name-short (Const z) h = let n = int-short z h in omega arith
+name-short (ConstBool true) h = omega arith
+name-short (ConstBool false) h = omega arith
 name-short (ToFlags s) h = omega arith
+name-short (B2u s) h = omega arith
 name-short (Usum s) h = omega arith
-name-short (MapTwoPlus s t) h = omega arith
+name-short (MapTwo Plus s t) h = omega arith
+name-short (MapTwo LessEqual s t) h = omega arith
+name-short (MapTwo Equal s t) h = omega arith
+name-short (MapOneNot s) h = omega arith
 name-short (ScanPlus z s t) h = let n = int-short z h in omega arith
 name-short (Distr s t) h = omega arith
 name-short (SumPlus s t) h = omega arith
+name-short (Pack s t) h = omega arith
+name-short (UPack s t) h = omega arith
 
 operands-few : (t : Transducer) → length (operands t) ≤ 2
 operands-few (Const z) = omega arith
+operands-few (ConstBool c) = omega arith
 operands-few (ToFlags s) = omega arith
+operands-few (B2u s) = omega arith
 operands-few (Usum s) = omega arith
-operands-few (MapTwoPlus s t) = omega arith
+operands-few (MapTwo o s t) = omega arith
+operands-few (MapOneNot s) = omega arith
 operands-few (ScanPlus z s t) = omega arith
 operands-few (Distr s t) = omega arith
 operands-few (SumPlus s t) = omega arith
+operands-few (Pack s t) = omega arith
+operands-few (UPack s t) = omega arith
 
 define-short : (s : ℕ) (t : Transducer) → Small s → ((u : ℕ) → u ∈ operands t → Small u) → HeldIn t → length (defineLine s t) ≤ 102
 define-short s t h os c =
@@ -145,17 +165,17 @@ one-short : (s : ℕ) (t : Transducer) → Small s → ((u : ℕ) → u ∈ oper
 unfolding linesOf
 one-short s t h os c = let n = define-short s t h os c in omega (arith, length-append (defineLine s t) [])
 
-copies-short : {Γ : List ℕ} (s b : ℕ) (us : List (Γ ∋ 0)) (δ : All (Tree ℕ) Γ) → s + length us < 2 ^ 64 → Small b → ((u : ℕ) → u ∈ idsOf δ → Small u)
+copies-short : {Γ : List ValueType} (s b : ℕ) (us : Scalars Γ) (δ : All IdTree Γ) → s + length us < 2 ^ 64 → Small b → ((u : ℕ) → u ∈ idsOf δ → Small u)
     → length (linesOf s (copies b us δ)) ≤ 102 * length us
 unfolding linesOf distrs
 copies-short s b [] δ h hb hd = omega arith
 copies-short s b (u ∷ us) δ h hb hd =
-    let t = Distr (id b) (id (root (lookup u δ))) in
-    let n = define-short s t (omega arith) (two-small hb (hd _ (ids-root u δ))) tt in
+    let t = Distr (id b) (id (root (lookup (u .1) δ))) in
+    let n = define-short s t (omega arith) (two-small hb (hd _ (ids-root (u .1) δ))) tt in
     let m = copies-short (suc s) b us δ (omega arith) hb hd in
     omega (arith, length-append (defineLine s t) (linesOf (suc s) (copies b us δ)))
 
-length-ids : {Γ : List ℕ} (s : ℕ) (us : List (Γ ∋ 0)) → length (idsOf (numbered s us)) ≡ length us
+length-ids : {Γ : List ValueType} (s : ℕ) (us : Scalars Γ) → length (idsOf (numbered s us)) ≡ length us
 unfolding idsOf numbered order
 length-ids s [] = refl
 length-ids s (u ∷ us) = ap suc (length-ids (suc s) us)
@@ -163,7 +183,7 @@ length-ids s (u ∷ us) = ap suc (length-ids (suc s) us)
 four-length : (a b c d : List ℕ) → length (pieces (a ∷ b ∷ c ∷ d ∷ [])) ≡ length a + (length b + (length c + length d))
 four-length a b c d = simp (length-append, append-nil) (omega arith)
 
-inside-length : {Γ : List ℕ} {c : ℕ} (y : Γ ∋ suc c) (us : List (Γ ∋ 0)) (δ : All (Tree ℕ) Γ) (s : ℕ) → length (idsOf (within y us δ s)) ≡ (c + 1) + length us
+inside-length : {Γ : List ValueType} {υ : ValueType} (y : Γ ∋ braces υ) (us : Scalars Γ) (δ : All IdTree Γ) (s : ℕ) → length (idsOf (within y us δ s)) ≡ (depthOf υ + 1) + length us
 unfolding idsOf
 inside-length y us δ s =
     length-append (order (inner (lookup y δ))) (idsOf (numbered (suc s) us)) ∙ omega (arith, length-order (inner (lookup y δ)), length-ids (suc s) us)
@@ -175,8 +195,8 @@ five-length : (a b c d e : List ℕ) → length (pieces (a ∷ b ∷ c ∷ d ∷
 five-length a b c d e = simp (length-append, append-nil) (omega arith)
 
 -- a comprehension's own lines
-module _ {Γ : List ℕ} {c d : ℕ} (y : Γ ∋ suc c) (us : List (Γ ∋ 0)) (e : Term (c ∷ listedTypes us) d) (δ : All (Tree ℕ) Γ) (s : ℕ) where
-  each-short : d ≤ mostDepth → suc c ≤ mostDepth → Below s (idsOf δ) → s + (1 + (length us + size e)) < 4294967296
+module _ {Γ : List ValueType} {υ τ : ValueType} (y : Γ ∋ braces υ) (us : Scalars Γ) (e : Term (υ ∷ listedTypes (anyType us)) τ) (δ : All IdTree Γ) (s : ℕ) where
+  each-short : depthOf τ ≤ mostDepth → suc (depthOf υ) ≤ mostDepth → Below s (idsOf δ) → s + (1 + (length us + size e)) < 4294967296
       → length (linesOf s (code (each y us e) δ s))
       ≤ 102 * (1 + length us) + (421 + 22 * length us) + length (linesOf (s + (1 + length us)) (code e (within y us δ s) (s + (1 + length us))))
   unfolding linesOf
@@ -217,7 +237,7 @@ module _ {Γ : List ℕ} {c d : ℕ} (y : Γ ∋ suc c) (us : List (Γ ∋ 0)) (
         length-append (defineLine s (Usum (id (outer (lookup y δ))))) (linesOf (suc s) (copies (outer (lookup y δ)) us δ)),
       )
     where
-      length-inside : length (idsOf (within y us δ s)) ≡ (c + 1) + length us
+      length-inside : length (idsOf (within y us δ s)) ≡ (depthOf υ + 1) + length us
       length-inside = inside-length y us δ s
 
 ones-code : (s : ℕ) → ones s ≡ withCtrl ((s + 2) ∷ []) (s + 1) [] (define (Const (pos 1)) done) done
@@ -248,16 +268,16 @@ iota-short r s hr hs =
     )
 
 module _ {t : List ℕ} (bytes : (i : ℕ) → getD t i 0 < 256) where
-  pub lines-short : {levels k d next : ℕ} {Γ : List ℕ} {scope : All Name Γ} {e : Term Γ d} (f : Formed t levels k Γ scope d e next)
+  pub lines-short : {levels k next : ℕ} {Γ : List ValueType} {τ : ValueType} {scope : All Name Γ} {e : Term Γ τ} (f : Formed t levels k Γ scope τ e next)
       → Shallow Γ
-      → (δ : All (Tree ℕ) Γ) (s : ℕ)
+      → (δ : All IdTree Γ) (s : ℕ)
       → Below s (idsOf δ)
       → s + size e < 4294967296
       → length (linesOf s (code e δ s)) + 200 * k ≤ 200 * next
   unfolding code size linesOf
   lines-short (formed-var h f) sh δ s b n = omega arith
-  lines-short (formed-bind {e₁ = e₁} {e₂ = e₂} h f g) sh δ s b n =
-      let δ₂ = tree e₁ δ s ▹ δ in
+  lines-short (formed-bind {υ = υ} {e₁ = e₁} {e₂ = e₂} h f g) sh δ s b n =
+      let δ₂ = _▹_ {τ = υ} (tree e₁ δ s) δ in
       let x = lines-short f sh δ s b (omega arith) in
       let y = lines-short g (shallow-more (shallow-type f sh) sh) δ₂ (s + size e₁) (below-result e₁ δ b) (omega arith) in
       omega (arith, ap length (lines-seq s (code e₁ δ s) (code e₂ δ₂ (s + size e₁))), length-append (linesOf s (code e₁ δ s)) (linesOf (s + count (code e₁ δ s)) (code e₂ δ₂ (s + size e₁))), ap (λ m. length (linesOf (s + m) (code e₂ δ₂ (s + size e₁)))) (count-code e₁ δ s))
@@ -271,7 +291,7 @@ module _ {t : List ℕ} (bytes : (i : ℕ) → getD t i 0 < 256) where
   lines-short (formed-plus {v = v} {w = w} h f g) sh δ s b n =
       let r = b _ (ids-root v δ) in
       let q = b _ (ids-root w δ) in
-      let x = one-short s (MapTwoPlus (id (root (lookup v δ))) (id (root (lookup w δ)))) (omega arith) (two-small (omega arith) (omega arith)) tt in
+      let x = one-short s (MapTwo Plus (id (root (lookup v δ))) (id (root (lookup w δ)))) (omega arith) (two-small (omega arith) (omega arith)) tt in
       omega arith
   lines-short (formed-sum {v = v} h f) sh δ s b n =
       let r = b _ (ids-outer v δ) in

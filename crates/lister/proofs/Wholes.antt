@@ -5,7 +5,8 @@ use mathlib.Core.List.{List, [], _∷_, _++_}
 use mathlib.Core.Path.{_≡_, sym, ap, _∙_, subst}
 use lib.ListN.{length, drop, length-append}
 use Rattle.snesl.specs.Ascii.{ascii, pieces}
-use Rattle.snesl.specs.Trees.{Tree, mapTree}
+use Rattle.snesl.specs.Values.{depthOf}
+use Rattle.snesl.specs.Trees.{IdTree, mapTree}
 use Rattle.snesl.specs.Translation.{tree, code}
 use Rattle.snesl.specs.Listing.{linesOf, treeText, resultLine}
 use Rattle.decimals.specs.Writing.{Writes}
@@ -21,11 +22,11 @@ use Rattle.lister.specs.declared.list.Lines.{Lines}
 use Rattle.lister.specs.Lists.{WholeReady, Lined, wholeText}
 
 module _ {t : List ℕ} {k : ℕ} {env : List ℕ} {sp s : ℕ} (g : WholeReady t k env sp s) where
-  deep : 3 * g .depth + 3 ≤ sp
+  deep : 3 * depthOf (g .type) + 3 ≤ sp
   deep = omega (arith, words-hold (g .term), g .space)
 
   module _ {env₁ text text₁ : List ℕ} {r : Lines} (F : (h : WholeReady t k env sp s) → Lined h env₁ text text₁ r) (long₁ : length env₁ ≡ length env) where
-    abbrev st : Tree ℕ (g .depth)
+    abbrev st : IdTree (g .type)
     st = tree (g .term) (g .trees) s
 
     lined : Lined g env₁ text text₁ r
@@ -50,13 +51,13 @@ module _ {t : List ℕ} {k : ℕ} {env : List ℕ} {sp s : ℕ} (g : WholeReady 
       rest₂ : Countable a (pieces (treeText st ∷ ascii "\n" ∷ []))
       rest₂ = countable-next {u = ascii "result "} {v = pieces (treeText st ∷ ascii "\n" ∷ [])} rest₁ w₁
 
-      own : TreeAt env₁ (sp - (3 * g .depth + 3)) (g .depth) a
+      own : TreeAt env₁ (sp - (3 * depthOf (g .type) + 3)) (depthOf (g .type)) a
       own =
           record {
             tree = st;
             placing = lined .placing;
             words =
-                front-is env₁ (sp - treeSize (g .depth)) (treeSize (g .depth)) (treeWords (mapTree (lined .placing .place) st)) (drop sp env) (lined .words)
+                front-is env₁ (sp - treeSize (depthOf (g .type))) (treeSize (depthOf (g .type))) (treeWords (mapTree (lined .placing .place) st)) (drop sp env) (lined .words)
                 (length-tree (mapTree (lined .placing .place) st));
             within = omega (arith, deep, long₁, g .within);
             countable = countable-first (treeText st) (ascii "\n") rest₂;
@@ -80,9 +81,9 @@ module _ {t : List ℕ} {k : ℕ} {env : List ℕ} {sp s : ℕ} (g : WholeReady 
         pub whole : {text₄ : List ℕ} {e : ℕ} → Writes text₃ text₄ b (ascii "\n") e
             → Writes text text₄ 0 (wholeText (g .term) (g .trees) s) e × (drop sp env₁ ≡ drop sp env)
         whole w₃ =
-            let up : sp - treeSize (g .depth) + treeSize (g .depth) ≡ sp = omega (arith, deep) in (
+            let up : sp - treeSize (depthOf (g .type)) + treeSize (depthOf (g .type)) ≡ sp = omega (arith, deep) in (
               writes-then (lined .writes) (writes-then w₁ (writes-then w₂ w₃)),
               ap (λ n. drop n env₁) (sym up)
-                  ∙ rest-is env₁ (sp - treeSize (g .depth)) (treeSize (g .depth)) (treeWords (mapTree (lined .placing .place) st)) (drop sp env) (lined .words)
+                  ∙ rest-is env₁ (sp - treeSize (depthOf (g .type))) (treeSize (depthOf (g .type))) (treeWords (mapTree (lined .placing .place) st)) (drop sp env) (lined .words)
                   (length-tree (mapTree (lined .placing .place) st)),
             )

@@ -4,8 +4,9 @@ use mathlib.Core.List.{List, [], _∷_, _++_}
 use mathlib.Core.Path.{_≡_}
 use lib.ListN.{length, drop}
 use Rattle.snesl.specs.Limits.{mostNesting, mostBytes}
+use Rattle.snesl.specs.Values.{ValueType, depthOf}
 use Rattle.snesl.specs.Terms.{Term, All}
-use Rattle.snesl.specs.Trees.{Tree, mapTree}
+use Rattle.snesl.specs.Trees.{IdTree, mapTree}
 use Rattle.snesl.specs.Streams.{Store, bare}
 use Rattle.snesl.specs.declared.code.Kind.{Kind}
 use Rattle.snesl.specs.Translation.{tree, code}
@@ -31,18 +32,18 @@ pub data Bare : Store → Type 0 where
   bare-none : Bare []
   bare-more : {σ : Store} → (k : Kind) → Bare σ → Bare (bare k ∷ σ)
 
-abbrev pub wholeText : {Γ : List ℕ} {d : ℕ} → Term Γ d → All (Tree ℕ) Γ → ℕ → List ℕ
+abbrev pub wholeText : {Γ : List ValueType} {τ : ValueType} → Term Γ τ → All IdTree Γ → ℕ → List ℕ
 wholeText e δ s = linesOf s (code e δ s) ++ resultLine (tree e δ s)
 
 -- An expression at k whose code's ids start at s, over inputs that are empty streams; its whole text is written before the far end.
 pub record WholeReady (t : List ℕ) (k : ℕ) (env : List ℕ) (sp s : ℕ) : Type 0 where
-  pub context : List ℕ
+  pub context : List ValueType
   pub names : All Name context
-  pub trees : All (Tree ℕ) context
-  pub depth : ℕ
-  pub term : Term context depth
+  pub trees : All IdTree context
+  pub type : ValueType
+  pub term : Term context type
   pub next : ℕ
-  pub formed : Formed t (suc mostNesting) k context names depth term next
+  pub formed : Formed t (suc mostNesting) k context names type term next
   pub store : Store
   pub bare : Bare store
   pub number : length store ≡ s
@@ -58,20 +59,20 @@ pub record WholeReady (t : List ℕ) (k : ℕ) (env : List ℕ) (sp s : ℕ) : T
 
 -- the expression's lines are written from the start on, and its tree stands below sp
 pub record Lined {t : List ℕ} {k : ℕ} {env : List ℕ} {sp s : ℕ} (g : WholeReady t k env sp s) (env′ text text′ : List ℕ) (r : Lines) : Type 0 where
-  pub depth : r .depth ≡ g .depth
+  pub depth : r .depth ≡ depthOf (g .type)
   pub writes : Writes text text′ 0 (linesOf s (code (g .term) (g .trees) s)) (r .at)
   pub placing : Placing
-  pub words : drop (sp - treeSize (g .depth)) env′ ≡ treeWords (mapTree (placing .place) (tree (g .term) (g .trees) s)) ++ drop sp env
+  pub words : drop (sp - treeSize (depthOf (g .type))) env′ ≡ treeWords (mapTree (placing .place) (tree (g .term) (g .trees) s)) ++ drop sp env
 
 -- a formula that was read and checked
 pub record Found (t : List ℕ) (inputs expression : ℕ) : Type 0 where
   pub all : List Input
   pub raw : Raw
   pub next : ℕ
-  pub depth : ℕ
-  pub term : Term (context all) depth
+  pub type : ValueType
+  pub term : Term (context all) type
   pub read : readFormula t ≡ front all expression raw next
-  pub checked : checkFormula all raw ≡ typed depth term
+  pub checked : checkFormula all raw ≡ typed type term
   pub number : length all ≡ inputs
 
 abbrev pub listedAnswer : listing.Listed → Listed

@@ -106,7 +106,7 @@ pub fn list(formula: &[u8], text: &mut [u8]) -> Listed
 {
     match check(formula) {
         Checked::Refused(refusal) => Listed::Refused(refusal),
-        Checked::Depth(_) => match read_formula(formula) {
+        Checked::Typed(_) => match read_formula(formula) {
             FormulaRead::Refused(refusal) => Listed::Refused(refusal),
             FormulaRead::Found(found) => {
                 let inputs = found.inputs;
