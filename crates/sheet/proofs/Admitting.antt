@@ -13,11 +13,12 @@ use Rattle.snesl.specs.declared.limits.Job.{Job}
 use Rattle.snesl.specs.declared.refusal.Refusal.{Refusal}
 use Rattle.snesl.specs.declared.refusal.Refusal.the-variants.{NoRecord, NoValueText}
 use Rattle.snesl.specs.Limits.{usedOf}
+use Rattle.snesl.specs.Values.{ValueType, baseOf}
 use Rattle.snesl.specs.Terms.{Term}
 use Rattle.snesl.specs.Records as records
 use Rattle.snesl.specs.Records.{Raw, Input, Span, JobRead, job, readJob, Front, front, frontOf, jobEnd, textsThen, textsAt}
 use Rattle.snesl.specs.Checking as checking
-use Rattle.snesl.specs.Checking.{Typed, typed, context, depths, checkFormula}
+use Rattle.snesl.specs.Checking.{Typed, typed, context, inputTypes, checkFormula}
 use Rattle.snesl.specs.Inputs.{Values, wrong, right, inputValues}
 use Rattle.snesl.specs.Outcome.{refusal, outcomeRead, outcomeTyped, valued, outcome, streamsRefused}
 use Rattle.snesl.proofs.Formed.{job-formed}
@@ -25,8 +26,10 @@ use Rattle.snesl.proofs.Jobs.EarlyRefusals.{early-keeps, reading-refuses-early,
 use Rattle.formula.specs.Reading.{formulaOf, jobOf}
 use Rattle.formula.specs.declared.read.JobRead.the-variants as found
 use Rattle.formula.specs.declared.read.FormulaRead.the-variants as formula
+use Rattle.checking.specs.Types.{told}
 use Rattle.checking.specs.Checks.{judgedOf, judgeFront}
 use Rattle.checking.specs.declared.check.Judged.the-variants as judged
+use Rattle.checking.specs.declared.types.ValueType.{ValueType as Found}
 use Rattle.environment.specs.Needs.{words}
 use Rattle.leaves.specs.Places.{shallow-none, mostWords}
 use Rattle.runner.proofs.Measures.{words-most}
@@ -34,6 +37,7 @@ use Rattle.inputs.specs.Supply.{Read, textsOf, tallied}
 use Rattle.inputs.specs.Loading.{bindingWords}
 use Rattle.inputs.proofs.Supplying.{inputs-supplied, inputs-few}
 use Rattle.inputs.specs.declared.texts.Texts.the-variants as texts
+use Rattle.sheet.specs.declared.admission.Task.{Task}
 use Rattle.sheet.specs.declared.admission.Admission.{Admission}
 use Rattle.sheet.specs.declared.admission.Admission.the-variants.{Admitted, Refused}
 use Rattle.sheet.specs.Admission.{admissionValued, admissionTyped, admissionRead, admission, countsTyped, countsRead, admissionCounts}
@@ -116,7 +120,7 @@ module _ (t : List ℕ) where
       where
         go : (y : Typed (context (g .inputs))) → judged.Refused r ≡ judgedOf y → Refused r ≡ admissionTyped t f (g .inputs) (g .spans) y
         go (checking.Typed.refused s) q = let same : r ≡ s = cc in ap Refused same
-        go (typed d e) q = never (cc)
+        go (typed τ e) q = never (cc)
 
     counts-are : (cs : List ℕ) → admissionCounts t cs ≡ countsTyped t (g .inputs) (g .spans) (checkFormula (g .inputs) (g .raw)) cs
     counts-are cs = ap (λ (j : JobRead). countsRead t j cs) (g .read)
@@ -126,45 +130,49 @@ module _ (t : List ℕ) where
       where
         go : (y : Typed (context (g .inputs))) → judged.Refused r ≡ judgedOf y → cs ≡ countsTyped t (g .inputs) (g .spans) y cs
         go (checking.Typed.refused s) q = refl
-        go (typed d e) q = never (cc)
+        go (typed τ e) q = never (cc)
 
-    module _ (d n : ℕ) (e : judged.Typed d n ≡ judgeFront (frontOf t)) where
+    module _ (r : Found) (n : ℕ) (e : judged.Typed r n ≡ judgeFront (frontOf t)) where
+      abbrev pub task : Task
+      task = record { formula = f; base = r .base; words = n }
+
       pub tallied-all : (cs : List ℕ) → tallied t (g .inputs) (g .spans) cs ≡ admissionCounts t cs
       tallied-all cs = go (checkFormula (g .inputs) (g .raw)) (e ∙ ap judgeFront the-front) ∙ sym (counts-are cs)
         where
-          go : (y : Typed (context (g .inputs))) → judged.Typed d n ≡ judgedOf y → tallied t (g .inputs) (g .spans) cs ≡ countsTyped t (g .inputs) (g .spans) y cs
+          go : (y : Typed (context (g .inputs))) → judged.Typed r n ≡ judgedOf y → tallied t (g .inputs) (g .spans) cs ≡ countsTyped t (g .inputs) (g .spans) y cs
           go (checking.Typed.refused s) q = never (cc)
-          go (typed d′ e) q = refl
+          go (typed τ e) q = refl
 
-      valued-is : admission t ≡ admissionValued f n (inputValues t (g .inputs) (g .spans))
+      valued-is : admission t ≡ admissionValued task (inputValues t (g .inputs) (g .spans))
       valued-is = admission-is ∙ go (checkFormula (g .inputs) (g .raw)) (e ∙ ap judgeFront the-front)
         where
-          go : (y : Typed (context (g .inputs))) → judged.Typed d n ≡ judgedOf y
-              → admissionTyped t f (g .inputs) (g .spans) y ≡ admissionValued f n (inputValues t (g .inputs) (g .spans))
+          go : (y : Typed (context (g .inputs))) → judged.Typed r n ≡ judgedOf y
+              → admissionTyped t f (g .inputs) (g .spans) y ≡ admissionValued task (inputValues t (g .inputs) (g .spans))
           go (checking.Typed.refused s) q = never (cc)
-          go (typed d′ e) q =
+          go (typed τ e) q =
+              let told-as : told τ ≡ r = cc in
               let same : words e ≡ n = cc in
-              ap (λ (m : ℕ). admissionValued f m (inputValues t (g .inputs) (g .spans))) same
+              λ i. admissionValued (record { formula = f; base = told-as i .base; words = same i }) (inputValues t (g .inputs) (g .spans))
 
       pub refused-valued : (p : ℕ) → texts.Bad p ≡ textsOf (inputValues t (g .inputs) (g .spans)) → Refused (NoValueText p) ≡ admission t
       refused-valued p q = go (inputValues t (g .inputs) (g .spans)) q ∙ sym valued-is
         where
-          go : (v : Values (depths (g .inputs))) → texts.Bad p ≡ textsOf v → Refused (NoValueText p) ≡ admissionValued f n v
-          go (wrong r) q = let same : p ≡ r = cc in ap (λ (i : ℕ). Refused (NoValueText i)) same
+          go : (v : Values (inputTypes (g .inputs))) → texts.Bad p ≡ textsOf v → Refused (NoValueText p) ≡ admissionValued task v
+          go (wrong k) q = let same : p ≡ k = cc in ap (λ (i : ℕ). Refused (NoValueText i)) same
           go (right vs) q = never (cc)
 
-      pub admitted : texts.Good ≡ textsOf (inputValues t (g .inputs) (g .spans)) → Admitted f n ≡ admission t
+      pub admitted : texts.Good ≡ textsOf (inputValues t (g .inputs) (g .spans)) → Admitted task ≡ admission t
       admitted q = go (inputValues t (g .inputs) (g .spans)) q ∙ sym valued-is
         where
-          go : (v : Values (depths (g .inputs))) → texts.Good ≡ textsOf v → Admitted f n ≡ admissionValued f n v
-          go (wrong r) q = never (cc)
+          go : (v : Values (inputTypes (g .inputs))) → texts.Good ≡ textsOf v → Admitted task ≡ admissionValued task v
+          go (wrong k) q = never (cc)
           go (right vs) q = refl
 
 -- ---- the outcome
 
 -- the words that an admitted job needs are enough for it, and no more than the most
-abbrev pub Enough : List ℕ → Formula → (needed : ℕ) → Type 0
-Enough t f needed = runs.Admitted t f (needed + bindingWords * f .inputs) × (needed + bindingWords * f .inputs ≤ mostWords)
+abbrev pub Enough : List ℕ → Task → Type 0
+Enough t a = runs.Admitted t a (runs.needOf a) × (runs.needOf a ≤ mostWords)
 
 -- a refusal that writes nothing
 pub record Turned (t : List ℕ) (r : Refusal) : Type 0 where
@@ -175,16 +183,16 @@ module _ (t : List ℕ) where
   -- by the way to the admission
   abbrev Says : Admission → Type 0
   Says (Refused r) = Turned t r
-  Says (Admitted f needed) = Enough t f needed
+  Says (Admitted a) = Enough t a
 
   says : Says (admission t)
   says = read (readJob t) refl
     where
       values : (is : List Input) (k : ℕ) (e : Raw) (next : ℕ) (ss : List Span) → readJob t ≡ job is k e next ss
-          → (d : ℕ) (u : Term (context is) d) → checkFormula is e ≡ typed d u
-          → (v : Values (depths is)) → inputValues t is ss ≡ v
-          → Says (admissionValued (record { inputs = length is; expression = k; end = next }) (words u) v)
-      values is k e next ss r d u c (wrong p) h =
+          → (τ : ValueType) (u : Term (context is) τ) → checkFormula is e ≡ typed τ u
+          → (v : Values (inputTypes is)) → inputValues t is ss ≡ v
+          → Says (admissionValued (record { formula = record { inputs = length is; expression = k; end = next }; base = baseOf τ; words = words u }) v)
+      values is k e next ss r τ u c (wrong p) h =
           record {
             comes =
                 λ lent answerLent.
@@ -193,7 +201,7 @@ module _ (t : List ℕ) where
                 ∙ ap (valued (usedOf lent) answerLent is u) h;
             keeps = λ old. refl;
           }
-      values is k e next ss r d u c (right vs) h =
+      values is k e next ss r τ u c (right vs) h =
           let found : Read t (record { inputs = length is; expression = k; end = next }) =
           record { inputs = is; expression = k; raw = e; next = next; spans = ss; read = r; formula = refl } in
           let most = words-most (job-formed t r c .formed) (inputs-shallow (inputs-supplied found) shallow-none) in (
@@ -205,7 +213,7 @@ module _ (t : List ℕ) where
                     raw = e;
                     next = next;
                     spans = ss;
-                    depth = d;
+                    type = τ;
                     term = u;
                     given = vs;
                     read = r;
@@ -213,6 +221,7 @@ module _ (t : List ℕ) where
                     valued = h;
                   };
               formula = refl;
+              base = refl;
               room = omega arith;
             },
             omega (arith, most, inputs-few found),
@@ -226,7 +235,7 @@ module _ (t : List ℕ) where
             comes = λ lent answerLent. ap (outcomeRead t (usedOf lent) answerLent) r ∙ ap (outcomeTyped t (usedOf lent) answerLent is ss) c;
             keeps = λ old. early-keeps old (checking-refuses-early is e c);
           }
-      types is k e next ss r (typed d u) c = values is k e next ss r d u c (inputValues t is ss) refl
+      types is k e next ss r (typed τ u) c = values is k e next ss r τ u c (inputValues t is ss) refl
 
       read : (j : JobRead) → readJob t ≡ j → Says (admissionRead t j)
       read (records.JobRead.refused why) r =
@@ -239,5 +248,5 @@ module _ (t : List ℕ) where
   pub turned : (r : Refusal) → Refused r ≡ admission t → Turned t r
   turned r e = subst Says (sym e) says
 
-  pub taken-in : (f : Formula) (needed : ℕ) → Admitted f needed ≡ admission t → Enough t f needed
-  taken-in f needed e = subst Says (sym e) says
+  pub taken-in : (a : Task) → Admitted a ≡ admission t → Enough t a
+  taken-in a e = subst Says (sym e) says

@@ -12,32 +12,34 @@ use lib.Seq.{take-length}
 use Rattle.laws.specs.Parts.{cleared}
 use Rattle.laws.proofs.Never.{never}
 use Rattle.environment.proofs.Stack.{drop-above}
+use Rattle.snesl.specs.declared.code.Base.{Base}
 use Rattle.snesl.specs.declared.limits.Formula.{Formula}
 use Rattle.snesl.specs.declared.refusal.Refusal.{Refusal}
 use Rattle.snesl.specs.declared.refusal.Refusal.the-variants.{NoRoom}
 use Rattle.snesl.specs.Limits.{mostInputs, mostNesting, mostDepth}
-use Rattle.snesl.specs.Values.{Val}
+use Rattle.snesl.specs.Values.{ValueType, baseOf, depthOf, typeOf, Val}
 use Rattle.snesl.specs.Terms.{All, ∅}
-use Rattle.snesl.specs.Trees.{Tree}
+use Rattle.snesl.specs.Trees.{IdTree, mapTree}
 use Rattle.snesl.specs.Streams.{Store, contents, room}
 use Rattle.snesl.specs.Machine.{State, Result, went, stopped, run, holding}
 use Rattle.snesl.specs.Translation.{code, tree}
 use Rattle.snesl.specs.Agreement.{RanOnce}
 use Rattle.snesl.specs.Records.{JobRead}
-use Rattle.snesl.specs.Checking.{Typed, context, depths, turned, inputNames}
+use Rattle.snesl.specs.Checking.{Typed, context, inputTypes, turned, inputNames}
 use Rattle.snesl.specs.Formed.{Formed}
 use Rattle.snesl.specs.Inputs.{inputTrees, inputStreams, inputOver}
 use Rattle.snesl.specs.Outcome.{Outcome, refusal, value, refusalOf, answerText, answered, finished, loaded, executed, answerAfter}
 use Rattle.snesl.specs.Demands.{environment}
+use Rattle.snesl.proofs.Types.{type-of-both}
 use Rattle.snesl.proofs.Formed.{job-formed}
 use Rattle.snesl.proofs.Jobs.InputStreams.{length-inputs, inputs-agree}
 use Rattle.snesl.proofs.Statements.Compiled.{it-ends-if-all-fits}
 use Rattle.snesl.proofs.Statements.Correctness.{a-run-has-a-value}
-use Rattle.steps.specs.Holding.{keeps}
+use Rattle.steps.specs.Holding.{place, keeps}
 use Rattle.steps.specs.Walking.{walked}
 use Rattle.steps.proofs.Stores.{room-append}
 use Rattle.leaves.specs.Places.{places}
-use Rattle.environment.specs.Words.{treeSize}
+use Rattle.environment.specs.Words.{treeWords, treeSize}
 use Rattle.environment.specs.Needs.{words}
 use Rattle.sink.specs.Sinks.{Sink, running, feed}
 use Rattle.sink.specs.Sunk.{Sunk}
@@ -51,6 +53,7 @@ use Rattle.inputs.proofs.Counting.{counted-all}
 use Rattle.inputs.specs.Loading.{bindingWords, inputsBound, Stands, Loads, loads, fills}
 use Rattle.inputs.specs.declared.loading.Loaded.{Loaded}
 use Rattle.inputs.specs.declared.loading.Loaded.the-variants.{At, Full}
+use Rattle.sheet.specs.declared.admission.Task.{Task}
 use Rattle.sheet.specs.declared.Ran.{Ran as Ran-answer}
 use Rattle.sheet.specs.declared.Ran.the-variants.{Value, Refused}
 use Rattle.sheet.specs.Admission.{countsTyped, countsRead, admissionCounts}
@@ -60,7 +63,7 @@ use Rattle.sheet.proofs.Needing.{spelled-few, context-long}
 -- ---- loading
 
 -- what loading is handed
-abbrev pub valued-of : {t : List ℕ} {f : Formula} {enough : ℕ} → Admitted t f enough → Valued t f
+abbrev pub valued-of : {t : List ℕ} {a : Task} {enough : ℕ} → Admitted t a enough → Valued t (a .formula)
 valued-of g =
     record {
       job =
@@ -78,7 +81,7 @@ valued-of g =
     }
 
 -- the counts that its admission kept are its inputs'
-pub counted-of : {t : List ℕ} {f : Formula} {enough : ℕ} (g : Admitted t f enough) (cs₀ : List ℕ) {cs : List ℕ} → cs ≡ admissionCounts t cs₀
+pub counted-of : {t : List ℕ} {a : Task} {enough : ℕ} (g : Admitted t a enough) (cs₀ : List ℕ) {cs : List ℕ} → cs ≡ admissionCounts t cs₀
     → perInput * mostInputs ≤ length cs₀ → length cs ≡ length cs₀ → Counted t cs
 counted-of {t} g cs₀ e =
     counted-all (valued-of g .job) cs₀
@@ -102,11 +105,11 @@ module _ {t : List ℕ} {f : Formula} {g : Valued t f} {env env₁ : List ℕ} {
   laid (loads s k p n) = record { fitting = refl; stands = s; kept = k; space = p; few = n }
 
 -- the inputs' streams and their trees
-abbrev pub inputsOf : {t : List ℕ} {f : Formula} {enough : ℕ} → Admitted t f enough → Store
+abbrev pub inputsOf : {t : List ℕ} {a : Task} {enough : ℕ} → Admitted t a enough → Store
 inputsOf g = inputStreams (g .accepted .given)
 
-abbrev pub treesOf : {t : List ℕ} {f : Formula} {enough : ℕ} → (g : Admitted t f enough) → All (Tree ℕ) (context (g .accepted .inputs))
-treesOf g = turned ∅ (inputTrees 0 (depths (g .accepted .inputs)))
+abbrev pub treesOf : {t : List ℕ} {a : Task} {enough : ℕ} → (g : Admitted t a enough) → All IdTree (context (g .accepted .inputs))
+treesOf g = turned ∅ (inputTrees 0 (inputTypes (g .accepted .inputs)))
 
 -- ---- an outcome, and what is left where it is one
 
@@ -127,7 +130,7 @@ left-answered lent text m buf buf₁ e = go (leb (length text) lent) refl
 
 -- ---- from the inputs to the answer
 
-module _ {t : List ℕ} {f : Formula} {env env₁ : List ℕ} (g : Admitted t f (length env)) {buf buf₁ : List ℤ} {state₁ : List ℕ} where
+module _ {t : List ℕ} {a : Task} {env env₁ : List ℕ} (g : Admitted t a (length env)) {buf buf₁ : List ℤ} {state₁ : List ℕ} where
   -- the inputs don't fit
   pub crowded : (r : Loaded) (s : ℕ) (ans : List ℕ) → r ≡ Full s
       → Loads (valued-of g) env env₁ buf buf₁ state₁ (inputOver (length buf) 0 0 (g .accepted .given)) r
@@ -172,7 +175,7 @@ module _ {t : List ℕ} {f : Formula} {env env₁ : List ℕ} (g : Admitted t f 
         record {
           context = context (g .accepted .inputs);
           names = turned ∅ (inputNames (g .accepted .inputs));
-          trees = turned ∅ (inputTrees 0 (depths (g .accepted .inputs)));
+          trees = turned ∅ (inputTrees 0 (inputTypes (g .accepted .inputs)));
           machine = loaded (g .accepted .given);
           rest = [];
           spells = here .stands .spells ∙ sym (append-nil _);
@@ -186,7 +189,7 @@ module _ {t : List ℕ} {f : Formula} {env env₁ : List ℕ} (g : Admitted t f 
         }
 
     pub formed : Formed t (suc mostNesting) (g .accepted .expression) (context (g .accepted .inputs))
-        (turned ∅ (inputNames (g .accepted .inputs))) (g .accepted .depth) (g .accepted .term) (g .accepted .next)
+        (turned ∅ (inputNames (g .accepted .inputs))) (g .accepted .type) (g .accepted .term) (g .accepted .next)
     formed = job-formed t (g .accepted .read) (g .accepted .checked) .formed
 
     -- the inputs' bindings leave the words of the expression
@@ -204,17 +207,17 @@ module _ {t : List ℕ} {f : Formula} {env env₁ : List ℕ} (g : Admitted t f 
           context-long [] (g .accepted .inputs),
         )
 
-    abbrev pub ready : Ready t (f .expression) sp env₁ buf₁ state₁ text
+    abbrev pub ready : Ready t (a .formula .expression) sp env₁ buf₁ state₁ text
     ready =
         record {
           scene = scene;
           levels = mostNesting + 1;
-          depth = g .accepted .depth;
+          type = g .accepted .type;
           term = g .accepted .term;
           next = g .accepted .next;
           formed =
               subst
-              (λ (k : ℕ). Formed t (mostNesting + 1) k (scene .context) (scene .names) (g .accepted .depth) (g .accepted .term) (g .accepted .next))
+              (λ (k : ℕ). Formed t (mostNesting + 1) k (scene .context) (scene .names) (g .accepted .type) (g .accepted .term) (g .accepted .next))
               (sym (ap (λ (h : Formula). h .expression) (g .formula)))
               formed;
           short = job-formed t (g .accepted .read) (g .accepted .checked) .short;
@@ -227,12 +230,12 @@ module _ {t : List ℕ} {f : Formula} {env env₁ : List ℕ} (g : Admitted t f 
     res = walked (length buf₁) 1 (code (g .accepted .term) (treesOf g) (length (inputsOf g))) (loaded (g .accepted .given))
 
     module _ (long : length buf₁ ≡ length buf) where
-      execution-is : (lent : ℕ) → execution g (length buf) lent ≡ finished lent (tree (g .accepted .term) (treesOf g) (length (inputsOf g))) res
+      execution-is : (lent : ℕ) → execution g (length buf) lent ≡ finished (g .accepted .type) lent (tree (g .accepted .term) (treesOf g) (length (inputsOf g))) res
       unfolding walked
       execution-is lent =
           ap (executed (length buf) lent (g .accepted .inputs) (g .accepted .term) (g .accepted .given)) (here .fitting)
           ∙ ap₂
-          (λ (s cap : ℕ). finished lent (tree (g .accepted .term) (treesOf g) s) (run (holding cap) (code (g .accepted .term) (treesOf g) s) 1 (loaded (g .accepted .given))))
+          (λ (s cap : ℕ). finished (g .accepted .type) lent (tree (g .accepted .term) (treesOf g) s) (run (holding cap) (code (g .accepted .term) (treesOf g) s) 1 (loaded (g .accepted .given))))
           (sym (length-inputs (g .accepted .given)))
           (sym long)
 
@@ -241,8 +244,8 @@ module _ {t : List ℕ} {f : Formula} {env env₁ : List ℕ} (g : Admitted t f 
             → Performs (execution g (length buf) (length ans)) buf buf₂ ans ans (Refused why)
         halted why ans e = performs-refused why buf buf₂ ans (execution-is (length ans) ∙ go res (sym e ∙ w .says))
           where
-            go : (x : Result) → walks.Stopped why ≡ answer (g .accepted .depth) (g .accepted .next) x
-                → finished (length ans) (tree (g .accepted .term) (treesOf g) (length (inputsOf g))) x ≡ refusal why
+            go : (x : Result) → walks.Stopped why ≡ answer (depthOf (g .accepted .type)) (g .accepted .next) x
+                → finished (g .accepted .type) (length ans) (tree (g .accepted .term) (treesOf g) (length (inputsOf g))) x ≡ refusal why
             go (went m) q = never (cc)
             go (stopped y s) q = let same : why ≡ refusalOf y s = cc in ap refusal (sym same)
 
@@ -250,12 +253,12 @@ module _ {t : List ℕ} {f : Formula} {env env₁ : List ℕ} (g : Admitted t f 
         record Through (depth : ℕ) : Type 0 where
           machine : State
           is : res ≡ went machine
-          deep : depth ≡ g .accepted .depth
+          deep : depth ≡ depthOf (g .accepted .type)
 
         through : (depth next : ℕ) → r ≡ walks.Tree depth next → Through depth
         through depth next e = go res refl (sym e ∙ w .says)
           where
-            go : (x : Result) → res ≡ x → walks.Tree depth next ≡ answer (g .accepted .depth) (g .accepted .next) x → Through depth
+            go : (x : Result) → res ≡ x → walks.Tree depth next ≡ answer (depthOf (g .accepted .type)) (g .accepted .next) x → Through depth
             go (went m) p q = record { machine = m; is = p; deep = cc }
             go (stopped y s) p q = never (cc)
 
@@ -263,10 +266,10 @@ module _ {t : List ℕ} {f : Formula} {env env₁ : List ℕ} (g : Admitted t f 
           abbrev m : State
           m = through depth next e .machine
 
-          left : Left m (feed (length (inputsOf g)) (code (g .accepted .term) (treesOf g) (length (inputsOf g))) runs) (tree (g .accepted .term) (treesOf g) (length (inputsOf g))) sp env₁ env₂ buf₁ buf₂ state₂ text₂
+          left : Left m (feed (length (inputsOf g)) (code (g .accepted .term) (treesOf g) (length (inputsOf g))) runs) (g .accepted .type) (tree (g .accepted .term) (treesOf g) (length (inputsOf g))) sp env₁ env₂ buf₁ buf₂ state₂ text₂
           left = w .leaves m (through depth next e .is)
 
-          ran : (v : Val (g .accepted .depth)) × RanOnce (g .accepted .term) (treesOf g) (length (inputsOf g)) (environment (g .accepted)) (loaded (g .accepted .given)) v m
+          ran : (v : Val (g .accepted .type)) × RanOnce (g .accepted .term) (treesOf g) (length (inputsOf g)) (environment (g .accepted)) (loaded (g .accepted .given)) v m
           unfolding walked
           ran =
               let bounded = it-ends-if-all-fits (length buf₁) (code (g .accepted .term) (treesOf g) (length (inputsOf g))) 1 (loaded (g .accepted .given)) (here .stands .held .fits) m in
@@ -276,7 +279,11 @@ module _ {t : List ℕ} {f : Formula} {env env₁ : List ℕ} (g : Admitted t f 
               (inputs-agree (g .accepted .given)) boundless in
               (v .0, v .2)
 
-          abbrev finish : Finished (g .accepted .depth) (sp - (3 * g .accepted .depth + 3)) env₂ buf₂ state₂
+          -- its type is said by the task's base and the walk's depth
+          told-type : g .accepted .type ≡ typeOf (a .base) depth
+          told-type = sym (type-of-both (g .accepted .type)) ∙ sym (λ i. typeOf (g .base i) (through depth next e .deep i))
+
+          abbrev finish : Finished (g .accepted .type) (sp - (3 * depth + 3)) env₂ buf₂ state₂
           finish =
               record {
                 machine = m;
@@ -285,12 +292,12 @@ module _ {t : List ℕ} {f : Formula} {env env₁ : List ℕ} (g : Admitted t f 
                 rest = drop sp env₁;
                 held = left .held;
                 holds = ran .1 .results;
-                words = left .words;
+                words = ap (λ (k : ℕ). drop (sp - treeSize k) env₂) (through depth next e .deep) ∙ left .words;
                 shallow = shallow-type formed (here .stands .shallow);
               }
 
-          pub finished-at : Finished depth (sp - (3 * depth + 3)) env₂ buf₂ state₂
-          finished-at = subst (λ (d : ℕ). Finished d (sp - (3 * d + 3)) env₂ buf₂ state₂) (sym (through depth next e .deep)) finish
+          pub finished-at : Finished (typeOf (a .base) depth) (sp - (3 * depth + 3)) env₂ buf₂ state₂
+          finished-at = subst (λ (τ : ValueType). Finished τ (sp - (3 * depth + 3)) env₂ buf₂ state₂) told-type finish
 
           pub shallow : depth ≤ mostDepth
           shallow = omega (arith, finish .shallow, through depth next e .deep)
@@ -307,24 +314,24 @@ module _ {t : List ℕ} {f : Formula} {env env₁ : List ℕ} (g : Admitted t f 
               (left .kept ∙ drop-above buf₁ buf (room (inputsOf g)) (room (m .store)) (here .kept) (omega arith))
 
           pub answers-it : {x : Ran-answer} {ans ans′ : List ℕ}
-              → ((h : Finished depth (sp - (3 * depth + 3)) env₂ buf₂ state₂)
-              → Shows (answered (length ans) (answerText (h .tree) (h .machine .store)) (h .machine)) ans ans′ x)
+              → ((h : Finished (typeOf (a .base) depth) (sp - (3 * depth + 3)) env₂ buf₂ state₂)
+              → Shows (answered (length ans) (answerText (typeOf (a .base) depth) (h .tree) (h .machine .store)) (h .machine)) ans ans′ x)
               → Performs (execution g (length buf) (length ans)) buf buf₂ ans ans′ x
           answers-it {x} {ans} {ans′} s =
-              let o = execution-is (length ans) ∙ ap (finished (length ans) (tree (g .accepted .term) (treesOf g) (length (inputsOf g)))) (through depth next e .is) in
+              let o = execution-is (length ans) ∙ ap (finished (g .accepted .type) (length ans) (tree (g .accepted .term) (treesOf g) (length (inputsOf g)))) (through depth next e .is) in
               let shown =
               subst
-              (λ (d : ℕ).
-              (h : Finished d (sp - (3 * d + 3)) env₂ buf₂ state₂)
-              → Shows (answered (length ans) (answerText (h .tree) (h .machine .store)) (h .machine)) ans ans′ x)
-              (through depth next e .deep)
+              (λ (τ : ValueType).
+              (h : Finished τ (sp - (3 * depth + 3)) env₂ buf₂ state₂)
+              → Shows (answered (length ans) (answerText τ (h .tree) (h .machine .store)) (h .machine)) ans ans′ x)
+              (sym told-type)
               s
               finish in
               record {
                 shows = subst (λ (y : Outcome). Shows y ans ans′ x) (sym o) shown;
                 left =
                     subst (λ (y : Outcome). LeftBy y buf buf₂) (sym o)
-                    (left-answered (length ans) (answerText (tree (g .accepted .term) (treesOf g) (length (inputsOf g))) (m .store)) m buf buf₂ whole);
+                    (left-answered (length ans) (answerText (g .accepted .type) (tree (g .accepted .term) (treesOf g) (length (inputsOf g))) (m .store)) m buf buf₂ whole);
               }
 
 -- ---- the used part afterwards

@@ -1,5 +1,5 @@
 -- Where a tree's streams start, read off its words: the loop of tree_starts, and what the starts say of the streams.
-use Prim.Native.Nat.{ℕ, suc, _+_, _*_, _<_}
+use Prim.Native.Nat.{ℕ, zero, suc, _+_, _*_, _<_}
 use mathlib.Core.Bool.{Bool, true, false}
 use mathlib.Core.List.{List, _++_, map, append-assoc}
 use mathlib.Core.Path.{_≡_, refl, sym, ap, subst, _∙_}
@@ -12,13 +12,16 @@ use lib.Seq.{getD-set-same, getD-set-other, getD-drop, getD-append-add}
 use Rattle.laws.specs.Parts.{part}
 use Rattle.environment.specs.Words.{Place, placeWords, treeWords}
 use Rattle.environment.proofs.Finding.{length-tree}
-use Rattle.snesl.specs.Values.{Val}
-use Rattle.snesl.specs.Trees.{Tree, leaf, node, mapTree}
-use Rattle.snesl.specs.Streams.{ints, flags, bit}
+use Rattle.snesl.specs.declared.code.Base.{Base}
+use Rattle.snesl.specs.Values.{depthOf, typeOf, Val}
+use Rattle.snesl.specs.Trees.{Tree, IdTree, leaf, node, mapTree}
+use Rattle.snesl.specs.Streams.{dataOf, flags, bit}
 use Rattle.snesl.specs.Machine.{State}
 use Rattle.snesl.specs.Representation.{segments, Holds, holds-leaf, holds-node}
+use Rattle.snesl.proofs.Types.{depth-of-type}
 use Rattle.steps.specs.Holding.{Held, place}
 use Rattle.streams.proofs.Store as store
+use Rattle.valuetext.specs.Laying.{cells}
 use Rattle.rendering.specs.Standing.{Stands}
 
 -- ---- the loop
@@ -58,21 +61,22 @@ module _ {m : State} {buf : List ℤ} {state : List ℕ} (h : Held m buf state) 
   there : store.Holds buf (m .store)
   there = record { content = h .contents-are; fits = h .fits }
 
-  stands-of : {d : ℕ} {t : Tree ℕ d} {vs : List (Val d)} → Holds (m .store) d t vs → Starts cs (mapTree (place (m .store)) t) → Stands d buf cs vs
+  stands-of : (β : Base) (d : ℕ) {t : IdTree (typeOf β d)} {vs : List (Val (typeOf β d))} → Holds (m .store) (typeOf β d) t vs → Starts cs (mapTree (place (m .store)) t) → Stands β d buf cs vs
   unfolding Starts mapTree Stands part
-  stands-of (holds-leaf {s = s} {vs = vs} e) b =
-      ap (λ (k : ℕ). take (length vs) (drop k buf)) b ∙ store.stands there s (ints vs) e .content
-  stands-of (holds-node {s = s} {vs = vs} e k) b = (
-    stands-of k (b .0),
-    ap (λ (k : ℕ). take (length (map bit (segments vs))) (drop k buf)) (b .1) ∙ store.stands there s (flags (segments vs)) e .content,
+  stands-of β zero (holds-leaf {s = s} {vs = vs} e) b =
+      ap (λ (k : ℕ). take (length (cells β vs)) (drop k buf)) b ∙ store.stands there s (dataOf β vs) e .content
+  stands-of β (suc d) (holds-node {s = s} {vs = vs} e k) b = (
+    stands-of β d k (b .0),
+    ap (λ (k : ℕ). take (length (map bit (segments vs))) (drop k buf)) (ap (λ (j : ℕ). getD cs (suc j) 0) (sym (depth-of-type β d)) ∙ b .1)
+        ∙ store.stands there s (flags (segments vs)) e .content,
   )
 
 pub tree-stands : {m : State} {buf : List ℤ} {state : List ℕ} → Held m buf state
-    → {d : ℕ} (t : Tree ℕ d) (vs : List (Val d)) → Holds (m .store) d t vs
+    → (β : Base) (d : ℕ) (t : IdTree (typeOf β d)) (vs : List (Val (typeOf β d))) → Holds (m .store) (typeOf β d) t vs
     → (env : List ℕ) (from : ℕ) (rest : List ℕ) → drop from env ≡ treeWords (mapTree (place (m .store)) t) ++ rest
     → (cs : List ℕ) → ((i : ℕ) → i < d + 1 → getD cs i 0 ≡ getD env (from + (3 * i + 1)) 0)
-    → Stands d buf cs vs
-tree-stands {m} h {d} t vs k env from rest w cs s =
-    stands-of h cs k
+    → Stands β d buf cs vs
+tree-stands {m} h β d t vs k env from rest w cs s =
+    stands-of h cs β d k
     (starts-of cs (drop from env) rest (mapTree (place (m .store)) t) w
-    (λ i l. s i (omega arith) ∙ sym (getD-drop from env (3 * i + 1) 0)))
+    (λ i l. s i (omega (arith, depth-of-type β d)) ∙ sym (getD-drop from env (3 * i + 1) 0)))

@@ -10,22 +10,22 @@ use lib.Dec.{leb}
 use lib.IntN.{ℤ, pos}
 use lib.ListN.{length, take, drop, replicate, length-append, length-drop, length-replicate, take-append-drop, drop-of-length-le}
 use lib.Seq.{drop-append-le}
-use Rattle.snesl.specs.declared.limits.Formula.{Formula}
 use Rattle.snesl.specs.declared.refusal.Refusal.{Refusal}
 use Rattle.snesl.specs.declared.refusal.Refusal.the-variants.{TooLong, NoRecord, OverLimit, TooMany, Unbound, WrongType, NoValueText, NoValue, NoRoom, NoAnswerRoom, NoRepresentation}
 use Rattle.snesl.specs.Limits.{mostElements, usedOf}
 use Rattle.snesl.specs.Terms.{Term, All, ∅}
-use Rattle.snesl.specs.Values.{Val}
-use Rattle.snesl.specs.Trees.{Tree}
+use Rattle.snesl.specs.Values.{ValueType, Val}
+use Rattle.snesl.specs.Trees.{IdTree}
 use Rattle.snesl.specs.Machine.{State, unfitting, belowZero, outOfRange, full, Result, went, stopped, run, holding}
 use Rattle.snesl.specs.Translation.{code, tree}
 use Rattle.snesl.specs.Records.{Input, readJob}
-use Rattle.snesl.specs.Checking.{context, depths, turned}
+use Rattle.snesl.specs.Checking.{context, inputTypes, turned}
 use Rattle.snesl.specs.Inputs.{inputTrees, inputStart, inputOver}
 use Rattle.snesl.specs.Outcome.{Outcome, refusal, value, answerText, answered, finished, loaded, executed, outcomeRead, outcome, zeroed, streamsRefused, streamsAfter, answerAfter}
 use Rattle.snesl.specs.Demands.{declines, Demands}
 use Rattle.snesl.proofs.Jobs.Course.{outcome-executed}
 use Rattle.laws.specs.Parts.{cleared}
+use Rattle.sheet.specs.declared.admission.Task.{Task}
 use Rattle.sheet.specs.declared.Ran.{Ran}
 use Rattle.sheet.specs.declared.Ran.the-variants.{Refused}
 use Rattle.sheet.specs.Runs.{ranOf, told, Exact, Admitted, execution, Performs, spoiledFrom, usedAfter}
@@ -46,18 +46,18 @@ late-answered lent text m = go (leb (length text) lent) refl
     go true p = rw (p, answered) tt
     go false p = rw (p, answered) (λ old. refl)
 
-late-finished : {d : ℕ} (lent : ℕ) (t : Tree ℕ d) (x : Result) → Late (finished lent t x)
-late-finished lent t (stopped (unfitting k) s) = λ old. refl
-late-finished lent t (stopped (belowZero k) s) = λ old. refl
-late-finished lent t (stopped (outOfRange k) s) = λ old. refl
-late-finished lent t (stopped full s) = λ old. refl
-late-finished lent t (went m) = late-answered lent (answerText t (m .store)) m
+late-finished : (τ : ValueType) (lent : ℕ) (t : IdTree τ) (x : Result) → Late (finished τ lent t x)
+late-finished τ lent t (stopped (unfitting k) s) = λ old. refl
+late-finished τ lent t (stopped (belowZero k) s) = λ old. refl
+late-finished τ lent t (stopped (outOfRange k) s) = λ old. refl
+late-finished τ lent t (stopped full s) = λ old. refl
+late-finished τ lent t (went m) = late-answered lent (answerText τ t (m .store)) m
 
-late-executed : {d : ℕ} (cap lent : ℕ) (is : List Input) (e : Term (context is) d) (vs : All Val (depths is)) (o : Option ℕ) → Late (executed cap lent is e vs o)
+late-executed : {τ : ValueType} (cap lent : ℕ) (is : List Input) (e : Term (context is) τ) (vs : All Val (inputTypes is)) (o : Option ℕ) → Late (executed cap lent is e vs o)
 late-executed cap lent is e vs (some s) = λ old. refl
-late-executed cap lent is e vs none =
-    let δ = turned ∅ (inputTrees 0 (depths is)) in
-    late-finished lent (tree e δ (inputStart (depths is))) (run (holding cap) (code e δ (inputStart (depths is))) 1 (loaded vs))
+late-executed {τ} cap lent is e vs none =
+    let δ = turned ∅ (inputTrees 0 (inputTypes is)) in
+    late-finished τ lent (tree e δ (inputStart (inputTypes is))) (run (holding cap) (code e δ (inputStart (inputTypes is))) 1 (loaded vs))
 
 -- ---- executed on a buffer that is used whole
 
@@ -71,7 +71,7 @@ stored buf buf′ u (refusal r) late e =
     ∙ sym (late buf)
 stored buf buf′ u (value text work steps room held) late e = e
 
-module _ {t : List ℕ} {f : Formula} {enough : ℕ} (g : Admitted t f enough) {buf buf₁ buf₂ : List ℤ} (short : length buf ≤ mostElements) where
+module _ {t : List ℕ} {a : Task} {enough : ℕ} (g : Admitted t a enough) {buf buf₁ buf₂ : List ℤ} (short : length buf ≤ mostElements) where
   pub kept-used : {answer answer′ : List ℕ} {r : Ran} {from : ℕ} → Performs (execution g (length buf) (length answer)) buf buf₁ answer answer′ r
       → length buf₁ ≡ length buf → from ≡ spoiledFrom r (length buf₁) → buf₂ ≡ cleared (pos 0) from buf₁
       → Demands t buf buf₂ answer answer′ (told r)

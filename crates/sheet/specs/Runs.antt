@@ -4,10 +4,9 @@ use mathlib.Core.List.{List, [], _∷_, _++_}
 use mathlib.Core.Path.{_≡_}
 use lib.IntN.{ℤ, pos}
 use lib.ListN.{length, drop, replicate}
-use Rattle.snesl.specs.declared.limits.Formula.{Formula}
 use Rattle.snesl.specs.Limits.{mostDepth}
-use Rattle.snesl.specs.Values.{Val}
-use Rattle.snesl.specs.Trees.{Tree, mapTree}
+use Rattle.snesl.specs.Values.{ValueType, baseOf, depthOf, Val}
+use Rattle.snesl.specs.Trees.{IdTree, mapTree}
 use Rattle.snesl.specs.Machine.{State}
 use Rattle.snesl.specs.Representation.{Holds}
 use Rattle.snesl.specs.Inputs.{inputOver}
@@ -17,6 +16,7 @@ use Rattle.environment.specs.Words.{treeWords}
 use Rattle.environment.specs.Needs.{words}
 use Rattle.steps.specs.Holding.{Held, place}
 use Rattle.inputs.specs.Loading.{bindingWords}
+use Rattle.sheet.specs.declared.admission.Task.{Task}
 use Rattle.sheet.specs.declared.Ran.{Ran}
 use Rattle.sheet.specs.declared.Ran.the-variants.{Value, Refused}
 
@@ -38,14 +38,19 @@ pub record Exact (t : List ℕ) (streams streams′ : List ℤ) (answer answer�
 
 -- ---- a job that meets none of 1 to 7
 
--- with the formula that was read of it, where so many words are enough for its inputs' bindings and the walk of its expression
-pub record Admitted (t : List ℕ) (f : Formula) (enough : ℕ) : Type 0 where
+-- with its task, where so many words are enough for its inputs' bindings and the walk of its expression
+pub record Admitted (t : List ℕ) (a : Task) (enough : ℕ) : Type 0 where
   pub accepted : Accepted t
-  pub formula : f ≡ record { inputs = length (accepted .inputs); expression = accepted .expression; end = accepted .next }
+  pub formula : a .formula ≡ record { inputs = length (accepted .inputs); expression = accepted .expression; end = accepted .next }
+  pub base : a .base ≡ baseOf (accepted .type)
   pub room : words (accepted .term) + bindingWords * length (accepted .inputs) ≤ enough
 
+-- the words that a task needs: its expression's, and a binding for each input
+abbrev pub needOf : Task → ℕ
+needOf a = a .words + bindingWords * a .formula .inputs
+
 -- its outcome where so many elements are used
-abbrev pub execution : {t : List ℕ} {f : Formula} {enough : ℕ} → Admitted t f enough → (cap answerLent : ℕ) → Outcome
+abbrev pub execution : {t : List ℕ} {a : Task} {enough : ℕ} → Admitted t a enough → (cap answerLent : ℕ) → Outcome
 execution g cap answerLent =
     executed cap answerLent (g .accepted .inputs) (g .accepted .term) (g .accepted .given) (inputOver cap 0 0 (g .accepted .given))
 
@@ -58,16 +63,16 @@ middleWords = 2048
 
 -- ---- a run that went through
 
--- the result's tree has its words from `from` on, and holds a value in the machine's store
-pub record Finished (d from : ℕ) (env : List ℕ) (buf : List ℤ) (state : List ℕ) : Type 0 where
+-- the result's tree has its words from `from` on, and holds a value of its type in the machine's store
+pub record Finished (τ : ValueType) (from : ℕ) (env : List ℕ) (buf : List ℤ) (state : List ℕ) : Type 0 where
   pub machine : State
-  pub tree : Tree ℕ d
-  pub result : Val d
+  pub tree : IdTree τ
+  pub result : Val τ
   pub rest : List ℕ
   pub held : Held machine buf state
-  pub holds : Holds (machine .store) d tree (result ∷ [])
+  pub holds : Holds (machine .store) τ tree (result ∷ [])
   pub words : drop from env ≡ treeWords (mapTree (place (machine .store)) tree) ++ rest
-  pub shallow : d ≤ mostDepth
+  pub shallow : depthOf τ ≤ mostDepth
 
 -- ---- what the parts answer and leave
 

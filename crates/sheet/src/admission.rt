@@ -5,6 +5,7 @@ use formula::read::JobRead;
 use formula::read::read_job;
 use inputs::texts::Texts;
 use inputs::texts::measure_texts;
+use snesl::code::Base;
 use snesl::limits::Formula;
 use snesl::refusal::Refusal;
 ghost use mathlib.Core.Path.{_≡_};
@@ -14,9 +15,15 @@ ghost use Rattle.snesl.specs.Limits.{mostInputs};
 ghost use Rattle.inputs.specs.Supply.{perInput};
 ghost use Rattle.sheet.specs.Admission.{admission, admissionCounts};
 
-// The formula of a job that meets none of 1 to 7, and how many words the walk of its expression takes.
+// What a job that meets none of 1 to 7 asks for: its formula, the base of its result's type, and how many words the walk of its expression takes.
+pub struct Task {
+    pub formula: Formula,
+    pub base: Base,
+    pub words: usize,
+}
+
 pub enum Admission {
-    Admitted(Formula, usize),
+    Admitted(Task),
     Refused(Refusal),
 }
 
@@ -31,10 +38,17 @@ pub fn admit(job: &[u8], counts: &mut [usize]) -> Admission
             let formula = found.formula;
             match check_front(job, formula) {
                 Judged::Refused(refusal) => Admission::Refused(refusal),
-                Judged::Typed(_, words) => match measure_texts(job, formula, counts) {
-                    Texts::Good => Admission::Admitted(formula, words),
-                    Texts::Bad(place) => Admission::Refused(Refusal::NoValueText(place)),
-                },
+                Judged::Typed(typed, words) => {
+                    let base = typed.base;
+                    match measure_texts(job, formula, counts) {
+                        Texts::Good => Admission::Admitted(Task {
+                            formula,
+                            base,
+                            words,
+                        }),
+                        Texts::Bad(place) => Admission::Refused(Refusal::NoValueText(place)),
+                    }
+                }
             }
         }
     }

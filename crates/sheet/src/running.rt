@@ -28,9 +28,9 @@ pub fn run(job: &[u8], streams: &mut [i32], answer: &mut [u8]) -> Ran
     let mut counts = [0usize; COUNTS];
     match admit(job, &mut counts) {
         Admission::Refused(refusal) => Ran::Refused(refusal),
-        Admission::Admitted(formula, words) => {
+        Admission::Admitted(task) => {
             let used = used_part(streams.len());
-            execute(job, formula, words, &counts, &mut streams[..used], answer)
+            execute(job, task, &counts, &mut streams[..used], answer)
         }
     }
 }

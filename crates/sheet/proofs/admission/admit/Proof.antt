@@ -24,8 +24,8 @@ check-front-requires c κs =
 enum-known-refusal-2 : tie.Need-enum-known-refusal-2
 enum-known-refusal-2 c = search needs
 
-enum-known-words : tie.Need-enum-known-words
-enum-known-words c = search needs
+enum-known-typed : tie.Need-enum-known-typed
+enum-known-typed c = search needs
 
 measure-texts-requires : tie.Need-measure-texts-requires
 measure-texts-requires c κs =
@@ -65,14 +65,14 @@ same-length c = search needs
 returns-3 : tie.Need-returns-3
 returns-3 c =
     let at-measure-texts = c .before .before .before .before in
-    let at-words = at-measure-texts .before .before .before in
-    let at-check-front = at-words .before .before in
+    let at-typed = at-measure-texts .before .before .before in
+    let at-check-front = at-typed .before .before in
     let at-found = at-check-front .before .before .before in
     let at-read-job = at-found .before .before in
     let at-start = at-read-job .before .before .before in
     let found = job-found (at-start .args .job .now) (at-found .found .given .0 .0) (sym (at-found .found .given .1) ∙ at-read-job .read-job .ensures) in (
-      admitted (at-start .args .job .now) found (at-words .words .given .0 .0) (at-words .words .given .0 .1 .0) (sym (at-words .words .given .1) ∙ at-check-front .check-front .ensures) (sym (c .enum-told .given .1) ∙ at-measure-texts .measure-texts .ensures .0 found),
-      at-measure-texts .measure-texts .ensures .1 found ∙ tallied-all (at-start .args .job .now) found (at-words .words .given .0 .0) (at-words .words .given .0 .1 .0) (sym (at-words .words .given .1) ∙ at-check-front .check-front .ensures) (at-start .args .counts .now),
+      admitted (at-start .args .job .now) found (at-typed .typed .given .0 .0) (at-typed .typed .given .0 .1 .0) (sym (at-typed .typed .given .1) ∙ at-check-front .check-front .ensures) (sym (c .enum-told .given .1) ∙ at-measure-texts .measure-texts .ensures .0 found),
+      at-measure-texts .measure-texts .ensures .1 found ∙ tallied-all (at-start .args .job .now) found (at-typed .typed .given .0 .0) (at-typed .typed .given .0 .1 .0) (sym (at-typed .typed .given .1) ∙ at-check-front .check-front .ensures) (at-start .args .counts .now),
     )
 
 same-length-2 : tie.Need-same-length-2
@@ -82,14 +82,14 @@ returns-4 : tie.Need-returns-4
 returns-4 c =
     let at-place = c .before in
     let at-measure-texts = at-place .before .before .before .before in
-    let at-words = at-measure-texts .before .before .before in
-    let at-check-front = at-words .before .before in
+    let at-typed = at-measure-texts .before .before .before in
+    let at-check-front = at-typed .before .before in
     let at-found = at-check-front .before .before .before in
     let at-read-job = at-found .before .before in
     let at-start = at-read-job .before .before .before in
     let found = job-found (at-start .args .job .now) (at-found .found .given .0 .0) (sym (at-found .found .given .1) ∙ at-read-job .read-job .ensures) in (
-      refused-valued (at-start .args .job .now) found (at-words .words .given .0 .0) (at-words .words .given .0 .1 .0) (sym (at-words .words .given .1) ∙ at-check-front .check-front .ensures) (at-place .place .given .0 .0) (sym (at-place .place .given .1) ∙ at-measure-texts .measure-texts .ensures .0 found),
-      at-measure-texts .measure-texts .ensures .1 found ∙ tallied-all (at-start .args .job .now) found (at-words .words .given .0 .0) (at-words .words .given .0 .1 .0) (sym (at-words .words .given .1) ∙ at-check-front .check-front .ensures) (at-start .args .counts .now),
+      refused-valued (at-start .args .job .now) found (at-typed .typed .given .0 .0) (at-typed .typed .given .0 .1 .0) (sym (at-typed .typed .given .1) ∙ at-check-front .check-front .ensures) (at-place .place .given .0 .0) (sym (at-place .place .given .1) ∙ at-measure-texts .measure-texts .ensures .0 found),
+      at-measure-texts .measure-texts .ensures .1 found ∙ tallied-all (at-start .args .job .now) found (at-typed .typed .given .0 .0) (at-typed .typed .given .0 .1 .0) (sym (at-typed .typed .given .1) ∙ at-check-front .check-front .ensures) (at-start .args .counts .now),
     )
 
 pub admit-spec : {M : Type 1} → statement M
@@ -101,7 +101,7 @@ admit-spec =
     enum-known-found
     check-front-requires
     enum-known-refusal-2
-    enum-known-words
+    enum-known-typed
     measure-texts-requires
     enum-told
     enum-known-place

@@ -47,31 +47,31 @@ lend-largest-mul-if1 t c =
 
 lend-largest-add-if1 : (t : ℕ) → lend-largest-lts.Need-add-if1 (lend-largest-callees t) (lend-largest-at t) lend-largest.Post
 lend-largest-add-if1 t c =
-    let at-start = c .before .before .before .before .before .before .before .before .before .before .before .before .before .before .before .before in
+    let at-start = c .before .before .before .before .before .before .before .before .before .before .before .before .before .before .before .before .before in
     omega (arith, at-start .pre .1 .1 .0)
 
 lend-largest-lend-largest-requires : (t : ℕ) → lend-largest-lts.Need-lend-largest-requires (lend-largest-callees t) (lend-largest-at t) lend-largest.Post
 lend-largest-lend-largest-requires t c κs =
     let at-if1 = c .before .before in
-    let at-start = c .before .before .before .before .before .before .before .before .before .before .before .before .before .before .before .before .before .before .before in
+    let at-start = c .before .before .before .before .before .before .before .before .before .before .before .before .before .before .before .before .before .before .before .before in
     absurd (omega (arith, at-if1 .if1 .taken, at-start .pre .1 .1 .0))
 
 lend-largest-same-length : (t : ℕ) → lend-largest-lts.Need-same-length (lend-largest-callees t) (lend-largest-at t) lend-largest.Post
 lend-largest-same-length t c =
     let at-if1 = c .before .before .before .before .before .before in
-    let at-start = c .before .before .before .before .before .before .before .before .before .before .before .before .before .before .before .before .before .before .before .before .before .before .before in
+    let at-start = c .before .before .before .before .before .before .before .before .before .before .before .before .before .before .before .before .before .before .before .before .before .before .before .before in
     absurd (omega (arith, at-if1 .if1 .taken, at-start .pre .1 .1 .0))
 
 lend-largest-same-length-2 : (t : ℕ) → lend-largest-lts.Need-same-length-2 (lend-largest-callees t) (lend-largest-at t) lend-largest.Post
 lend-largest-same-length-2 t c =
     let at-if1 = c .before .before .before .before .before .before in
-    let at-start = c .before .before .before .before .before .before .before .before .before .before .before .before .before .before .before .before .before .before .before .before .before .before .before in
+    let at-start = c .before .before .before .before .before .before .before .before .before .before .before .before .before .before .before .before .before .before .before .before .before .before .before .before in
     absurd (omega (arith, at-if1 .if1 .taken, at-start .pre .1 .1 .0))
 
 lend-largest-returns : (t : ℕ) → lend-largest-lts.Need-returns (lend-largest-callees t) (lend-largest-at t) lend-largest.Post
 lend-largest-returns t c =
     let at-if1 = c .before .before .before .before .before .before in
-    let at-start = c .before .before .before .before .before .before .before .before .before .before .before .before .before .before .before .before .before .before .before .before .before .before .before in
+    let at-start = c .before .before .before .before .before .before .before .before .before .before .before .before .before .before .before .before .before .before .before .before .before .before .before .before in
     absurd (omega (arith, at-if1 .if1 .taken, at-start .pre .1 .1 .0))
 
 lend-largest-same-length-3 : (t : ℕ) → lend-largest-lts.Need-same-length-3 (lend-largest-callees t) (lend-largest-at t) lend-largest.Post
@@ -82,8 +82,8 @@ lend-largest-same-length-4 t c = search needs
 
 lend-largest-returns-2 : (t : ℕ) → lend-largest-lts.Need-returns-2 (lend-largest-callees t) (lend-largest-at t) lend-largest.Post
 lend-largest-returns-2 t c =
-    let at-perform = c .before .before .before .before .before .before .before .before in
-    let at-start = c .before .before .before .before .before .before .before .before .before .before .before .before .before .before .before .before .before in
+    let at-perform = c .before .before .before .before .before .before .before .before .before in
+    let at-start = c .before .before .before .before .before .before .before .before .before .before .before .before .before .before .before .before .before .before in
     λ here. at-perform .perform .ensures (widened (at-start .pre .1 .1 .0) here)
 
 pub +lend-largest-spec : {M : Type 1} → statement M

@@ -47,31 +47,31 @@ lend-middle-mul-if1 t c =
 
 lend-middle-add-if1 : (t : ℕ) → lend-middle-lts.Need-add-if1 (lend-middle-callees t) (lend-middle-at t) lend-middle.Post
 lend-middle-add-if1 t c =
-    let at-start = c .before .before .before .before .before .before .before .before .before .before .before .before .before .before .before .before in
+    let at-start = c .before .before .before .before .before .before .before .before .before .before .before .before .before .before .before .before .before in
     omega (arith, at-start .pre .1 .1 .0)
 
 lend-middle-lend-middle-requires : (t : ℕ) → lend-middle-lts.Need-lend-middle-requires (lend-middle-callees t) (lend-middle-at t) lend-middle.Post
 lend-middle-lend-middle-requires t c κs =
     let at-if1 = c .before .before in
-    let at-start = c .before .before .before .before .before .before .before .before .before .before .before .before .before .before .before .before .before .before .before in
+    let at-start = c .before .before .before .before .before .before .before .before .before .before .before .before .before .before .before .before .before .before .before .before in
     absurd (omega (arith, at-if1 .if1 .taken, at-start .pre .1 .1 .0))
 
 lend-middle-same-length : (t : ℕ) → lend-middle-lts.Need-same-length (lend-middle-callees t) (lend-middle-at t) lend-middle.Post
 lend-middle-same-length t c =
     let at-if1 = c .before .before .before .before .before .before in
-    let at-start = c .before .before .before .before .before .before .before .before .before .before .before .before .before .before .before .before .before .before .before .before .before .before .before in
+    let at-start = c .before .before .before .before .before .before .before .before .before .before .before .before .before .before .before .before .before .before .before .before .before .before .before .before in
     absurd (omega (arith, at-if1 .if1 .taken, at-start .pre .1 .1 .0))
 
 lend-middle-same-length-2 : (t : ℕ) → lend-middle-lts.Need-same-length-2 (lend-middle-callees t) (lend-middle-at t) lend-middle.Post
 lend-middle-same-length-2 t c =
     let at-if1 = c .before .before .before .before .before .before in
-    let at-start = c .before .before .before .before .before .before .before .before .before .before .before .before .before .before .before .before .before .before .before .before .before .before .before in
+    let at-start = c .before .before .before .before .before .before .before .before .before .before .before .before .before .before .before .before .before .before .before .before .before .before .before .before in
     absurd (omega (arith, at-if1 .if1 .taken, at-start .pre .1 .1 .0))
 
 lend-middle-returns : (t : ℕ) → lend-middle-lts.Need-returns (lend-middle-callees t) (lend-middle-at t) lend-middle.Post
 lend-middle-returns t c =
     let at-if1 = c .before .before .before .before .before .before in
-    let at-start = c .before .before .before .before .before .before .before .before .before .before .before .before .before .before .before .before .before .before .before .before .before .before .before in
+    let at-start = c .before .before .before .before .before .before .before .before .before .before .before .before .before .before .before .before .before .before .before .before .before .before .before .before in
     absurd (omega (arith, at-if1 .if1 .taken, at-start .pre .1 .1 .0))
 
 lend-middle-same-length-3 : (t : ℕ) → lend-middle-lts.Need-same-length-3 (lend-middle-callees t) (lend-middle-at t) lend-middle.Post
@@ -82,8 +82,8 @@ lend-middle-same-length-4 t c = search needs
 
 lend-middle-returns-2 : (t : ℕ) → lend-middle-lts.Need-returns-2 (lend-middle-callees t) (lend-middle-at t) lend-middle.Post
 lend-middle-returns-2 t c =
-    let at-perform = c .before .before .before .before .before .before .before .before in
-    let at-start = c .before .before .before .before .before .before .before .before .before .before .before .before .before .before .before .before .before in
+    let at-perform = c .before .before .before .before .before .before .before .before .before in
+    let at-start = c .before .before .before .before .before .before .before .before .before .before .before .before .before .before .before .before .before .before in
     λ here. at-perform .perform .ensures (widened (at-start .pre .1 .1 .0) here)
 
 pub +lend-middle-spec : {M : Type 1} → statement M

@@ -47,31 +47,31 @@ lend-small-mul-if1 t c =
 
 lend-small-add-if1 : (t : ℕ) → lend-small-lts.Need-add-if1 (lend-small-callees t) (lend-small-at t) lend-small.Post
 lend-small-add-if1 t c =
-    let at-start = c .before .before .before .before .before .before .before .before .before .before .before .before .before .before .before .before in
+    let at-start = c .before .before .before .before .before .before .before .before .before .before .before .before .before .before .before .before .before in
     omega (arith, at-start .pre .1 .1 .0)
 
 lend-small-lend-small-requires : (t : ℕ) → lend-small-lts.Need-lend-small-requires (lend-small-callees t) (lend-small-at t) lend-small.Post
 lend-small-lend-small-requires t c κs =
     let at-if1 = c .before .before in
-    let at-start = c .before .before .before .before .before .before .before .before .before .before .before .before .before .before .before .before .before .before .before in
+    let at-start = c .before .before .before .before .before .before .before .before .before .before .before .before .before .before .before .before .before .before .before .before in
     absurd (omega (arith, at-if1 .if1 .taken, at-start .pre .1 .1 .0))
 
 lend-small-same-length : (t : ℕ) → lend-small-lts.Need-same-length (lend-small-callees t) (lend-small-at t) lend-small.Post
 lend-small-same-length t c =
     let at-if1 = c .before .before .before .before .before .before in
-    let at-start = c .before .before .before .before .before .before .before .before .before .before .before .before .before .before .before .before .before .before .before .before .before .before .before in
+    let at-start = c .before .before .before .before .before .before .before .before .before .before .before .before .before .before .before .before .before .before .before .before .before .before .before .before in
     absurd (omega (arith, at-if1 .if1 .taken, at-start .pre .1 .1 .0))
 
 lend-small-same-length-2 : (t : ℕ) → lend-small-lts.Need-same-length-2 (lend-small-callees t) (lend-small-at t) lend-small.Post
 lend-small-same-length-2 t c =
     let at-if1 = c .before .before .before .before .before .before in
-    let at-start = c .before .before .before .before .before .before .before .before .before .before .before .before .before .before .before .before .before .before .before .before .before .before .before in
+    let at-start = c .before .before .before .before .before .before .before .before .before .before .before .before .before .before .before .before .before .before .before .before .before .before .before .before in
     absurd (omega (arith, at-if1 .if1 .taken, at-start .pre .1 .1 .0))
 
 lend-small-returns : (t : ℕ) → lend-small-lts.Need-returns (lend-small-callees t) (lend-small-at t) lend-small.Post
 lend-small-returns t c =
     let at-if1 = c .before .before .before .before .before .before in
-    let at-start = c .before .before .before .before .before .before .before .before .before .before .before .before .before .before .before .before .before .before .before .before .before .before .before in
+    let at-start = c .before .before .before .before .before .before .before .before .before .before .before .before .before .before .before .before .before .before .before .before .before .before .before .before in
     absurd (omega (arith, at-if1 .if1 .taken, at-start .pre .1 .1 .0))
 
 lend-small-same-length-3 : (t : ℕ) → lend-small-lts.Need-same-length-3 (lend-small-callees t) (lend-small-at t) lend-small.Post
@@ -82,8 +82,8 @@ lend-small-same-length-4 t c = search needs
 
 lend-small-returns-2 : (t : ℕ) → lend-small-lts.Need-returns-2 (lend-small-callees t) (lend-small-at t) lend-small.Post
 lend-small-returns-2 t c =
-    let at-perform = c .before .before .before .before .before .before .before .before in
-    let at-start = c .before .before .before .before .before .before .before .before .before .before .before .before .before .before .before .before .before in
+    let at-perform = c .before .before .before .before .before .before .before .before .before in
+    let at-start = c .before .before .before .before .before .before .before .before .before .before .before .before .before .before .before .before .before .before in
     λ here. at-perform .perform .ensures (widened (at-start .pre .1 .1 .0) here)
 
 pub +lend-small-spec : {M : Type 1} → statement M

@@ -27,7 +27,7 @@ returns c =
     let at-spoiled-from = c .before .before .before in
     let at-lend = c .before .before .before .before .before .before .before in
     let at-start = c .before .before .before .before .before .before .before .before .before .before .before .before .before in
-    kept-used (at-start .pre .0 .0) (at-start .pre .1 .1) (at-lend .lend .ensures (at-start .pre .0 .0)) (at-lend .lend .kept .1 .1 .1 .1 .0) (at-spoiled-from .spoiled-from .ensures) (at-clear .clear .ensures)
+    kept-used (at-start .pre .0 .0) (at-start .pre .1 .1) (at-lend .lend .ensures (at-start .pre .0 .0)) (at-lend .lend .kept .1 .1 .1 .0) (at-spoiled-from .spoiled-from .ensures) (at-clear .clear .ensures)
 
 pub execute-spec : {M : Type 1} → statement M
 execute-spec =

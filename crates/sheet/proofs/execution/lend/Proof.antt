@@ -11,13 +11,13 @@ mul-need c =
 
 add-need : tie.Need-add-need
 add-need c =
-    let at-start = c .before .before .before .before in
+    let at-start = c .before .before .before .before .before in
     omega (arith, at-start .pre .1 .0)
 
 lend-small-requires : tie.Need-lend-small-requires
 lend-small-requires c κs =
     let at-if1 = c .before .before in
-    let at-start = c .before .before .before .before .before .before .before in
+    let at-start = c .before .before .before .before .before .before .before .before in
     (at-start .pre .0, (omega (arith, at-if1 .if1 .taken), at-start .pre .1 .1))
 
 same-length : tie.Need-same-length
@@ -34,7 +34,7 @@ returns c =
 lend-middle-requires : tie.Need-lend-middle-requires
 lend-middle-requires c κs =
     let at-if2 = c .before .before in
-    let at-start = c .before .before .before .before .before .before .before .before in
+    let at-start = c .before .before .before .before .before .before .before .before .before in
     (at-start .pre .0, (omega (arith, at-if2 .if2 .taken), at-start .pre .1 .1))
 
 same-length-3 : tie.Need-same-length-3
@@ -50,7 +50,7 @@ returns-2 c =
 
 lend-largest-requires : tie.Need-lend-largest-requires
 lend-largest-requires c κs =
-    let at-start = c .before .before .before .before .before .before .before .before in
+    let at-start = c .before .before .before .before .before .before .before .before .before in
     at-start .pre
 
 same-length-5 : tie.Need-same-length-5

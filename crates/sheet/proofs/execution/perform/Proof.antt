@@ -7,7 +7,7 @@ use Rattle.sheet.proofs.execution.perform.Tie as tie
 
 load-requires : tie.Need-load-requires
 load-requires c κs =
-    let at-start = c .before .before .before .before .before .before .before .before .before in
+    let at-start = c .before .before .before .before .before .before .before .before .before .before in
     ((valued-of (at-start .pre .0 .0), at-start .pre .0 .1), (at-start .pre .1 .0, at-start .pre .1 .1, at-start .pre .1 .2))
 
 enum-known-id : tie.Need-enum-known-id
@@ -20,7 +20,7 @@ walk-requires : tie.Need-walk-requires
 walk-requires c κs =
     let at-sp = c .before .before .before .before .before in
     let at-load = at-sp .before .before .before .before .before .before .before in
-    let at-start = at-load .before .before .before .before .before .before .before .before .before .before in
+    let at-start = at-load .before .before .before .before .before .before .before .before .before .before .before in
     let here = at-start .pre .0 .0 in
     ready here (at-load .load .result) (at-sp .sp .given .0 .0) (at-sp .sp .given .1) (at-load .load .ensures (valued-of here)) (at-load .load .kept .1 .1 .1 .0) (at-start .args .text .now)
 
@@ -36,7 +36,7 @@ mul-show c =
     let at-walk = at-depth .before .before .before .before .before .before .before .before .before in
     let at-sp = at-walk .before .before .before .before .before .before in
     let at-load = at-sp .before .before .before .before .before .before .before in
-    let at-start = at-load .before .before .before .before .before .before .before .before .before .before in
+    let at-start = at-load .before .before .before .before .before .before .before .before .before .before .before in
     let here = at-start .pre .0 .0 in
     let first = ready here (at-load .load .result) (at-sp .sp .given .0 .0) (at-sp .sp .given .1) (at-load .load .ensures (valued-of here)) (at-load .load .kept .1 .1 .1 .0) (at-start .args .text .now) in
     omega (arith, shallow here (at-load .load .result) (at-sp .sp .given .0 .0) (at-sp .sp .given .1) (at-load .load .ensures (valued-of here)) (at-load .load .kept .1 .1 .1 .0) (at-start .args .text .now) (at-load .load .kept .1 .1 .1 .1 .0) (at-walk .walk .ensures first) (at-depth .depth .given .0 .0) (at-depth .depth .given .0 .1 .0) (at-depth .depth .given .1))
@@ -47,7 +47,7 @@ add-show c =
     let at-walk = at-depth .before .before .before .before .before .before .before .before .before in
     let at-sp = at-walk .before .before .before .before .before .before in
     let at-load = at-sp .before .before .before .before .before .before .before in
-    let at-start = at-load .before .before .before .before .before .before .before .before .before .before in
+    let at-start = at-load .before .before .before .before .before .before .before .before .before .before .before in
     let here = at-start .pre .0 .0 in
     let first = ready here (at-load .load .result) (at-sp .sp .given .0 .0) (at-sp .sp .given .1) (at-load .load .ensures (valued-of here)) (at-load .load .kept .1 .1 .1 .0) (at-start .args .text .now) in
     omega (arith, shallow here (at-load .load .result) (at-sp .sp .given .0 .0) (at-sp .sp .given .1) (at-load .load .ensures (valued-of here)) (at-load .load .kept .1 .1 .1 .0) (at-start .args .text .now) (at-load .load .kept .1 .1 .1 .1 .0) (at-walk .walk .ensures first) (at-depth .depth .given .0 .0) (at-depth .depth .given .0 .1 .0) (at-depth .depth .given .1))
@@ -58,7 +58,7 @@ sub-show c =
     let at-walk = at-depth .before .before .before .before .before .before .before .before .before in
     let at-sp = at-walk .before .before .before .before .before .before in
     let at-load = at-sp .before .before .before .before .before .before .before in
-    let at-start = at-load .before .before .before .before .before .before .before .before .before .before in
+    let at-start = at-load .before .before .before .before .before .before .before .before .before .before .before in
     let here = at-start .pre .0 .0 in
     let first = ready here (at-load .load .result) (at-sp .sp .given .0 .0) (at-sp .sp .given .1) (at-load .load .ensures (valued-of here)) (at-load .load .kept .1 .1 .1 .0) (at-start .args .text .now) in
     omega (
@@ -72,7 +72,7 @@ show-requires c κs =
     let at-walk = at-depth .before .before .before .before .before .before .before .before .before in
     let at-sp = at-walk .before .before .before .before .before .before in
     let at-load = at-sp .before .before .before .before .before .before .before in
-    let at-start = at-load .before .before .before .before .before .before .before .before .before .before in
+    let at-start = at-load .before .before .before .before .before .before .before .before .before .before .before in
     let here = at-start .pre .0 .0 in
     let first = ready here (at-load .load .result) (at-sp .sp .given .0 .0) (at-sp .sp .given .1) (at-load .load .ensures (valued-of here)) (at-load .load .kept .1 .1 .1 .0) (at-start .args .text .now) in
     finished-at here (at-load .load .result) (at-sp .sp .given .0 .0) (at-sp .sp .given .1) (at-load .load .ensures (valued-of here)) (at-load .load .kept .1 .1 .1 .0) (at-start .args .text .now) (at-load .load .kept .1 .1 .1 .1 .0) (at-walk .walk .ensures first) (at-depth .depth .given .0 .0) (at-depth .depth .given .0 .1 .0) (at-depth .depth .given .1)
@@ -90,7 +90,7 @@ returns : tie.Need-returns
 returns c =
     let at-id = c .before in
     let at-load = at-id .before .before .before .before .before .before .before in
-    let at-start = at-load .before .before .before .before .before .before .before .before .before .before in
+    let at-start = at-load .before .before .before .before .before .before .before .before .before .before .before in
     λ here. crowded here (at-load .load .result) (at-id .id .given .0 .0) (at-start .args .answer .now) (at-id .id .given .1) (at-load .load .ensures (valued-of here))
 
 same-length-4 : tie.Need-same-length-4
@@ -108,7 +108,7 @@ returns-2 c =
     let at-walk = at-refusal .before .before .before .before .before .before .before .before .before in
     let at-sp = at-walk .before .before .before .before .before .before in
     let at-load = at-sp .before .before .before .before .before .before .before in
-    let at-start = at-load .before .before .before .before .before .before .before .before .before .before in
+    let at-start = at-load .before .before .before .before .before .before .before .before .before .before .before in
     λ here.
     let first = ready here (at-load .load .result) (at-sp .sp .given .0 .0) (at-sp .sp .given .1) (at-load .load .ensures (valued-of here)) (at-load .load .kept .1 .1 .1 .0) (at-start .args .text .now) in
     halted here (at-load .load .result) (at-sp .sp .given .0 .0) (at-sp .sp .given .1) (at-load .load .ensures (valued-of here)) (at-load .load .kept .1 .1 .1 .0) (at-start .args .text .now) (at-load .load .kept .1 .1 .1 .1 .0) (at-walk .walk .ensures first) (at-refusal .refusal .given .0 .0) (at-start .args .answer .now) (at-refusal .refusal .given .1)
@@ -132,7 +132,7 @@ returns-3 c =
     let at-walk = at-depth .before .before .before .before .before .before .before .before .before in
     let at-sp = at-walk .before .before .before .before .before .before in
     let at-load = at-sp .before .before .before .before .before .before .before in
-    let at-start = at-load .before .before .before .before .before .before .before .before .before .before in
+    let at-start = at-load .before .before .before .before .before .before .before .before .before .before .before in
     λ here.
     let first = ready here (at-load .load .result) (at-sp .sp .given .0 .0) (at-sp .sp .given .1) (at-load .load .ensures (valued-of here)) (at-load .load .kept .1 .1 .1 .0) (at-start .args .text .now) in
     answers-it here (at-load .load .result) (at-sp .sp .given .0 .0) (at-sp .sp .given .1) (at-load .load .ensures (valued-of here)) (at-load .load .kept .1 .1 .1 .0) (at-start .args .text .now) (at-load .load .kept .1 .1 .1 .1 .0) (at-walk .walk .ensures first) (at-depth .depth .given .0 .0) (at-depth .depth .given .0 .1 .0) (at-depth .depth .given .1) (at-show .show .ensures)

@@ -21,8 +21,8 @@ admit-requires c κs = search needs
 enum-known-refusal : tie.Need-enum-known-refusal
 enum-known-refusal c = search needs
 
-enum-known-formula : tie.Need-enum-known-formula
-enum-known-formula c = search needs
+enum-known-task : tie.Need-enum-known-task
+enum-known-task c = search needs
 
 used-part-requires : tie.Need-used-part-requires
 used-part-requires c κs = search needs
@@ -42,10 +42,10 @@ slice-aggregate-execute-2 c =
 execute-requires : tie.Need-execute-requires
 execute-requires c κs =
     let at-used-part = c .before .before .before in
-    let at-formula = at-used-part .before .before in
-    let at-admit = at-formula .before .before .before in
+    let at-task = at-used-part .before .before in
+    let at-admit = at-task .before .before .before in
     let at-start = at-admit .before .before .before .before in
-    let taken = taken-in (at-start .args .job .now) (at-formula .formula .given .0 .0) (at-formula .formula .given .0 .1 .0) (sym (at-formula .formula .given .1) ∙ at-admit .admit .ensures .0) in
+    let taken = taken-in (at-start .args .job .now) (at-task .task .given .0 .0) (sym (at-task .task .given .1) ∙ at-admit .admit .ensures .0) in
     let long = length-take-le (at-used-part .used-part .result) (at-start .args .streams .now) (omega (arith, at-used-part .used-part .ensures)) in
     ((taken .0, counted-of (taken .0) (replicate 144 0) (at-admit .admit .ensures .1) (omega arith) (at-admit .admit .kept .1 .0)), (taken .1, omega (arith, long, at-used-part .used-part .ensures)))
 
@@ -71,7 +71,7 @@ returns-2 c =
     let streams = at-used-part .before .before .before .before .before .before .before .before .before .args .streams .now in
     let used = at-used-part .used-part in
     let long = length-take-le (used .result) streams (omega (arith, used .ensures)) in
-    let k = kept-whole streams (executed .last .1 .1 .1 .1 .0) (used .result) (used .ensures) long (executed .kept .1 .1 .1 .1 .0) (executed .result) (executed .ensures) in
+    let k = kept-whole streams (executed .last .1 .1 .1 .0) (used .result) (used .ensures) long (executed .kept .1 .1 .1 .0) (executed .result) (executed .ensures) in
     search (k, exacted (executed .result) k)
 
 pub run-spec : {M : Type 1} → statement M
@@ -81,7 +81,7 @@ run-spec =
     slice-aggregate-admit
     admit-requires
     enum-known-refusal
-    enum-known-formula
+    enum-known-task
     used-part-requires
     slice-aggregate-execute
     slice-relend-prefix-execute
