@@ -6,10 +6,10 @@ use mathlib.Core.Logic.{⊎-elim}
 use mathlib.Core.Option.{some, Option·getD}
 use mathlib.Core.Path.{_≡_, refl, sym, ap, _∙_, subst, transport}
 use lib.ListN.{length}
-use Rattle.snesl.specs.Values.{Val}
+use Rattle.snesl.specs.Values.{ValueType, depthOf, Val}
 use Rattle.snesl.specs.Terms.{_∋_, here, there, Term, All, ∅, _▹_, lookup}
 use Rattle.snesl.specs.Streams.{Stream, units, Store, _!_}
-use Rattle.snesl.specs.Trees.{Tree, leaf, node, inner, outer, root, order, mapTree}
+use Rattle.snesl.specs.Trees.{Tree, IdTree, leaf, node, inner, outer, root, order, mapTree}
 use Rattle.snesl.specs.Representation.{represent, Holds}
 use Rattle.snesl.specs.Agreement.{Agrees}
 use Rattle.snesl.specs.Ids.{idsOf, Below}
@@ -86,11 +86,11 @@ deepen {σ} {s} b (builds-pair {st = st} {s = u} {a = a} h q) =
 
 -- ---- the environments of names as those of a context
 
-record Setting (σ : Stores) (s : ℕ) (Γ : Env ℕ) (ρ : Env Value) (δ : Env STree) : Type 0 where
-  types : List ℕ
+record Setting (σ : Stores) (s : ℕ) (Γ : Env ValueType) (ρ : Env Value) (δ : Env STree) : Type 0 where
+  types : List ValueType
   scope : All Name types
   values : All Val types
-  trees : All (Tree ℕ) types
+  trees : All IdTree types
   types-are : typesOf scope ≡ Γ
   values-are : valuesOf scope values ≡ ρ
   trees-are : treesOf scope trees ≡ δ
@@ -101,39 +101,39 @@ record Setting (σ : Stores) (s : ℕ) (Γ : Env ℕ) (ρ : Env Value) (δ : Env
 nothing-held : {τ : Store} → Agrees τ {Γ = []} ∅ (∅ ∷ [])
 nothing-held {τ} = record { holds = go }
   where
-    go : {d : ℕ} (x : [] ∋ d) → Holds τ d (lookup {P = Tree ℕ} x ∅) (map (λ (ρ : All Val []). lookup x ρ) (∅ ∷ []))
+    go : {d : ValueType} (x : [] ∋ d) → Holds τ d (lookup {P = IdTree} x ∅) (map (λ (ρ : All Val []). lookup x ρ) (∅ ∷ []))
     go = elim [ ]
 
-one-more-held : {τ : Store} {Γ : List ℕ} {c : ℕ} {st : Tree ℕ c} (v : Val c) {δ : All (Tree ℕ) Γ} {ρ : All Val Γ}
+one-more-held : {τ : Store} {Γ : List ValueType} {c : ValueType} {st : IdTree c} (v : Val c) {δ : All IdTree Γ} {ρ : All Val Γ}
     → Holds τ c st (v ∷ [])
     → Agrees τ δ (ρ ∷ [])
-    → Agrees τ (st ▹ δ) ((v ▹ ρ) ∷ [])
+    → Agrees τ (_▹_ {τ = c} st δ) ((_▹_ {τ = c} v ρ) ∷ [])
 unfolding lookup
 one-more-held {τ} {Γ} {c} {st} v {δ} {ρ} h a = record { holds = go }
   where
-    go : {d : ℕ} (x : (c ∷ Γ) ∋ d) → Holds τ d (lookup x (st ▹ δ)) (map (lookup x) ((v ▹ ρ) ∷ []))
+    go : {d : ValueType} (x : (c ∷ Γ) ∋ d) → Holds τ d (lookup x (_▹_ {τ = c} st δ)) (map (lookup x) ((_▹_ {τ = c} v ρ) ∷ []))
     go here = h
     go (there x) = a .holds x
 
-setting : {σ : Stores} {s : ℕ} {Γ : Env ℕ} {ρ : Env Value} {δ : Env STree} → Suits σ s Γ ρ δ → Setting σ s Γ ρ δ
+setting : {σ : Stores} {s : ℕ} {Γ : Env ValueType} {ρ : Env Value} {δ : Env STree} → Suits σ s Γ ρ δ → Setting σ s Γ ρ δ
 unfolding typesOf envOf idsOf
 setting suits-none = record { types = []; scope = ∅; values = ∅; trees = ∅; types-are = refl; values-are = refl; trees-are = refl; low = λ u h. absurd (List·Memᴰ·not-nil h); known = record { agree = λ u h. absurd (List·Memᴰ·not-nil h) }; holds = nothing-held }
-setting {σ} {s} (suits-more {x = x} {d = d} {v = v} {w = w} t b h r rest) =
+setting {σ} {s} (suits-more {x = x} {τ = d} {v = v} {w = w} t b h r rest) =
     let (u, p, q) = represents-exactly d v w .0 r in
     let m = deepen b h in
     let g = setting rest in
     let held : Holds (tabulate σ 0 s) d (m .deep) (u ∷ []) = streams-held (tabulate σ 0 s) d (m .deep) (u ∷ []) (m .streams ∙ ap (mapTree some) q) in
     record {
       types = d ∷ g .types;
-      scope = x ▹ g .scope;
-      values = u ▹ g .values;
-      trees = m .deep ▹ g .trees;
+      scope = _▹_ {τ = d} x (g .scope);
+      values = _▹_ {τ = d} u (g .values);
+      trees = _▹_ {τ = d} (m .deep) (g .trees);
       types-are = ap (named x d) (g .types-are);
       values-are = (λ i. named x (sym p i) (g .values-are i));
       trees-are = (λ i. named x (m .plainly i) (g .trees-are i));
       low = λ v k. ⊎-elim (m .low v) (g .low v) (List·Memᴰ·append-cases (order (m .deep)) k);
       known = record { agree = λ v k. ⊎-elim (m .same v) (g .known .agree v) (List·Memᴰ·append-cases (order (m .deep)) k) };
-      holds = one-more-held u held (g .holds);
+      holds = one-more-held {c = d} u held (g .holds);
     }
 
 -- ---- the result's tree, read from the mapping at the end
@@ -147,7 +147,7 @@ built (leaf s) (leaf a) τ q g = builds-one (g s (List·Memᴰ·head refl) ∙ a
 built (node st s) (node w a) τ q g =
     builds-pair (built st w τ (ap inner q) (λ u h. g u (Memᴰ·append-left _ h))) (g s (Memᴰ·append-right (order st) (List·Memᴰ·head refl)) ∙ ap outer q)
 
-correct : {σ : Stores} {s : ℕ} {Γ : Env ℕ} {ρ : Env Value} {δ : Env STree} (g : Setting σ s Γ ρ δ) (e : Raw) {d : ℕ} {t : Term (g .types) d} (v : Value)
+correct : {σ : Stores} {s : ℕ} {Γ : Env ValueType} {ρ : Env Value} {δ : Env STree} (g : Setting σ s Γ ρ δ) (e : Raw) {d : ValueType} {t : Term (g .types) d} (v : Value)
     → check (g .scope) e ≡ typed d t
     → Evaluates ρ e v
     → Correct (written s (code t (g .trees) s)) σ s (s + size t) (plainTree (tree t (g .trees) s)) d v
@@ -174,7 +174,7 @@ correct {σ} {s} g e {d} {t} v c h =
     }
 
 -- the same for code that runs as this does
-runs-as : {p q : Svcode} {σ : Stores} {s₀ s₁ : ℕ} {st : STree} {d : ℕ} {v : Value}
+runs-as : {p q : Svcode} {σ : Stores} {s₀ s₁ : ℕ} {st : STree} {d : ValueType} {v : Value}
     → ((σ′ : Stores) → Runs p σ 1 σ′ → Runs q σ 1 σ′)
     → Correct p σ s₀ s₁ st d v
     → Correct q σ s₀ s₁ st d v
@@ -190,7 +190,7 @@ runs-as f c =
       below = c .below;
     }
 
-pub theorem : {Γ : Env ℕ} {ρ : Env Value} {δ : Env STree} {σ : Stores} (e : Raw) {d s₀ s₁ : ℕ} {v : Value} {p : Svcode} {st : STree}
+pub theorem : {Γ : Env ValueType} {ρ : Env Value} {δ : Env STree} {σ : Stores} (e : Raw) {d : ValueType} {s₀ s₁ : ℕ} {v : Value} {p : Svcode} {st : STree}
     → Types Γ e d
     → Evaluates ρ e v
     → Translates δ e s₀ s₁ p st

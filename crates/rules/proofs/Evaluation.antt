@@ -7,18 +7,21 @@ use mathlib.Core.Option.{Option, some, none}
 use mathlib.Core.Path.{_≡_, refl, sym, ap, _∙_, subst}
 use lib.IntN.{ℤ, pos, negsuc, _+ℤ_}
 use Rattle.laws.proofs.Never.{never}
+use Rattle.snesl.specs.declared.code.Base.{Base}
+use Rattle.snesl.specs.declared.code.Base.the-variants as base
 use Rattle.snesl.specs.declared.code.Variable.{Variable}
-use Rattle.snesl.specs.Values.{Val, inRange, total}
-use Rattle.snesl.specs.Terms.{_∋_, Term, All, _▹_, lookup, listed}
+use Rattle.snesl.specs.Values as types
+use Rattle.snesl.specs.Values.{ValueType, Element, Val, inRange, total}
+use Rattle.snesl.specs.Terms.{_∋_, Term, All, _▹_, lookup, anyType, listed}
 use Rattle.snesl.specs.Evaluation.{andThen, within, counting, allOf, upTo, eval}
 use Rattle.snesl.specs.Records as raw
 use Rattle.snesl.specs.Records.{Raw}
-use Rattle.snesl.specs.Checking.{Name, find, asInt, listedFirst, listedInts, listedNames, pointers, typed, check}
+use Rattle.snesl.specs.Checking.{Name, find, AnyScalar, noScalar, aScalar, asScalar, NamedScalars, listedFirst, listedScalars, listedNames, pointers, typed, check}
 use Rattle.rules.specs.Names.{Env, named, Maps, MapsAll, maps-none, maps-more, Listed, listed-none, listed-more, envOf}
 use Rattle.rules.specs.Typing.{BuiltIn, Calls, calls-const, calls-iota, calls-plus, calls-sum}
-use Rattle.rules.specs.Values.{Value, Values, int, braces, item, plains, plain}
-use Rattle.rules.specs.Evaluation.{Counts, counts-none, counts-more, Totals, totals-none, totals-more, Gives, gives-const, gives-iota, gives-plus, gives-sum, Number, number, Evaluates, evaluates-var, evaluates-let, evaluates-call, evaluates-each, EvaluatesEach, evaluates-none, evaluates-more, valuesOf}
-use Rattle.rules.proofs.Names.{maps-once, Looks, looking, looks-found, looks-int, looks-ints, LooksAtSequence, as-sequence, along}
+use Rattle.rules.specs.Values.{Value, Values, int, braces, item, plains, plainScalar, plain}
+use Rattle.rules.specs.Evaluation.{Counts, counts-none, counts-more, Totals, totals-none, totals-more, Gives, gives-const, gives-iota, gives-plus, gives-sum, Scalar, number, truth, Evaluates, evaluates-var, evaluates-let, evaluates-call, evaluates-each, EvaluatesEach, evaluates-none, evaluates-more, valuesOf}
+use Rattle.rules.proofs.Names.{maps-once, Looks, looking, looks-found, looks-scalar, looks-int, looks-ints, LooksAtSequence, as-sequence, along}
 use Rattle.rules.proofs.Typing.{not-var, not-let, not-each, listed-once, Resolved, resolved-var, resolved-let, resolved-const, resolved-iota, resolved-plus, resolved-sum, resolved-each, resolved}
 
 -- ---- the rules give one value at most
@@ -67,7 +70,7 @@ module _ {ρ : Env Value} {p : ℕ} where
   of-let (evaluates-call c m g) = absurd (not-let c)
 
 data OfEach (ρ : Env Value) (x y : Variable) (us : List Variable) (e : Raw) : Value → Type 0 where
-  of-each : {inside : Env Value} {vs ws : Values} → Maps ρ y (braces vs) → Listed Number ρ us inside → EvaluatesEach x inside e vs ws → OfEach ρ x y us e (braces ws)
+  of-each : {inside : Env Value} {vs ws : Values} → Maps ρ y (braces vs) → Listed Scalar ρ us inside → EvaluatesEach x inside e vs ws → OfEach ρ x y us e (braces ws)
 
 each-parts : {ρ : Env Value} {p : ℕ} {x y : Variable} {us : List Variable} {e : Raw} {v : Value} → Evaluates ρ (raw.each p x y us e) v → OfEach ρ x y us e v
 each-parts (evaluates-each h l b) = of-each h l b
@@ -103,49 +106,53 @@ evaluates-once (raw.plus p x y) ρ v w h k = call-once (called calls-plus h) (ca
 evaluates-once (raw.sum p x) ρ v w h k = call-once (called calls-sum h) (called calls-sum k)
 evaluates-once (raw.each p x y us e) ρ v w h k = parts-once (evaluates-once e) (each-parts h) (each-parts k)
 
+scalar-plain : (b : Base) (e : Element b) → Scalar (plainScalar b e)
+scalar-plain base.Int n = number
+scalar-plain base.Bool c = truth
+
 -- the listed variables with their values
-module _ {Γ : List ℕ} (scope : All Name Γ) (ρ : All Val Γ) where
-  listed-values : (us : List Variable) {ls : List (Variable × (Γ ∋ 0))}
-      → listedInts scope us ≡ some ls
-      → Listed Number (valuesOf scope ρ) us (valuesOf (listedNames ls) (listed (pointers ls) ρ))
-  unfolding listedInts listedNames listed envOf plain
+module _ {Γ : List ValueType} (scope : All Name Γ) (ρ : All Val Γ) where
+  listed-values : (us : List Variable) {ls : NamedScalars Γ}
+      → listedScalars scope us ≡ some ls
+      → Listed Scalar (valuesOf scope ρ) us (valuesOf (listedNames ls) (listed (anyType (pointers ls)) ρ))
+  unfolding listedScalars listedNames listed envOf plain
   listed-values [] {ls} e =
       let q : [] ≡ ls = cc in
-      subst (λ l. Listed Number (valuesOf scope ρ) [] (valuesOf (listedNames l) (listed (pointers l) ρ))) q listed-none
-  listed-values (u ∷ us) {ls} e = go (asInt (find u scope)) refl (listedInts scope us) refl e (λ l q. listed-values us q)
+      subst (λ l. Listed Scalar (valuesOf scope ρ) [] (valuesOf (listedNames l) (listed (anyType (pointers l)) ρ))) q listed-none
+  listed-values (u ∷ us) {ls} e = go (asScalar (find u scope)) refl (listedScalars scope us) refl e (λ l q. listed-values us q)
     where
-      go : (o : Option (Γ ∋ 0)) → asInt (find u scope) ≡ o → (r : Option (List (Variable × (Γ ∋ 0)))) → listedInts scope us ≡ r
+      go : (o : AnyScalar Γ) → asScalar (find u scope) ≡ o → (r : Option (NamedScalars Γ)) → listedScalars scope us ≡ r
           → listedFirst u o r ≡ some ls
-          → ((l : List (Variable × (Γ ∋ 0))) → listedInts scope us ≡ some l → Listed Number (valuesOf scope ρ) us (valuesOf (listedNames l) (listed (pointers l) ρ)))
-          → Listed Number (valuesOf scope ρ) (u ∷ us) (valuesOf (listedNames ls) (listed (pointers ls) ρ))
-      go none qo r qr q below = never (cc)
-      go (some v) qo none qr q below = never (cc)
-      go (some v) qo (some l) qr q below =
-          let s : (u, v) ∷ l ≡ ls = cc in
-          subst (λ l. Listed Number (valuesOf scope ρ) (u ∷ us) (valuesOf (listedNames l) (listed (pointers l) ρ))) s
-          (listed-more (looks-int (looking plain scope ρ u) qo) number (below l qr))
+          → ((l : NamedScalars Γ) → listedScalars scope us ≡ some l → Listed Scalar (valuesOf scope ρ) us (valuesOf (listedNames l) (listed (anyType (pointers l)) ρ)))
+          → Listed Scalar (valuesOf scope ρ) (u ∷ us) (valuesOf (listedNames ls) (listed (anyType (pointers ls)) ρ))
+      go noScalar qo r qr q below = never (cc)
+      go (aScalar b v) qo none qr q below = never (cc)
+      go (aScalar b v) qo (some l) qr q below =
+          let s : (u, (b, v)) ∷ l ≡ ls = cc in
+          subst (λ l. Listed Scalar (valuesOf scope ρ) (u ∷ us) (valuesOf (listedNames l) (listed (anyType (pointers l)) ρ))) s
+          (listed-more (looks-scalar (looking plain scope ρ u) qo) (scalar-plain b (lookup v ρ)) (below l qr))
 
 -- ---- what `eval` answers, beside what the rules have
 
-pub data Comes (ρ : Env Value) (e : Raw) (d : ℕ) : Option (Val d) → Type 0 where
-  valued : {w : Val d} → Evaluates ρ e (plain d w) → Comes ρ e d (some w)
-  valueless : ((v : Value) → Evaluates ρ e v → ⊥) → Comes ρ e d none
+pub data Comes (ρ : Env Value) (e : Raw) (τ : ValueType) : Option (Val τ) → Type 0 where
+  valued : {w : Val τ} → Evaluates ρ e (plain τ w) → Comes ρ e τ (some w)
+  valueless : ((v : Value) → Evaluates ρ e v → ⊥) → Comes ρ e τ none
 
 -- a number that must be in range
 ranging : {ρ : Env Value} {e : Raw} (z : ℤ)
     → (inRange z ≡ true → Evaluates ρ e (int z))
     → ((v : Value) → Evaluates ρ e v → inRange z ≡ true)
-    → Comes ρ e 0 (within z)
+    → Comes ρ e types.int (within z)
 unfolding plain
 ranging {ρ} {e} z f g = go (inRange z) refl
   where
-    go : (b : Bool) → inRange z ≡ b → Comes ρ e 0 (elim b [ true ↦ some z | false ↦ none ])
+    go : (b : Bool) → inRange z ≡ b → Comes ρ e types.int (elim b [ true ↦ some z | false ↦ none ])
     go true q = valued (f q)
     go false q = valueless (λ v h. let r = g v h in never (cc))
 
 -- 0, 1, .., n - 1
 data Counted (k n : ℕ) : Option (List ℤ) → Type 0 where
-  counted : {zs : List ℤ} → Counts k n (plains (plain 0) zs) → Counted k n (some zs)
+  counted : {zs : List ℤ} → Counts k n (plains (plain types.int) zs) → Counted k n (some zs)
   uncounted : ((vs : Values) → Counts k n vs → ⊥) → Counted k n none
 
 counting-up : (k n : ℕ) → Counted k n (allOf within (counting k n))
@@ -165,7 +172,7 @@ counting-up k (suc n) = go (inRange (pos k)) refl (allOf within (counting (suc k
     go true q (some zs) (counted h) = counted (counts-more q h)
     go true q none (uncounted h) = uncounted (λ vs c. too-far-on vs h c)
 
-totals-plain : (zs : List ℤ) → Totals (plains (plain 0) zs) (total zs)
+totals-plain : (zs : List ℤ) → Totals (plains (plain types.int) zs) (total zs)
 unfolding total plains plain
 totals-plain [] = totals-none
 totals-plain (z ∷ zs) = totals-more (totals-plain zs) refl
@@ -184,7 +191,7 @@ module _ {ρ : Env Value} where
   of-sum (of-call (maps-more m maps-none) (gives-sum {vs = vs} {n = n} t r)) = (vs, n, m, t, r)
 
 module _ (ρ : Env Value) {p : ℕ} where
-  comes-iota : (x : Variable) (z : ℤ) → Maps ρ x (int z) → Comes ρ (raw.iota p x) 1 (upTo z)
+  comes-iota : (x : Variable) (z : ℤ) → Maps ρ x (int z) → Comes ρ (raw.iota p x) (types.braces types.int) (upTo z)
   unfolding plain
   comes-iota x (pos n) m = upward _ (counting-up 0 n)
     where
@@ -195,7 +202,7 @@ module _ (ρ : Env Value) {p : ℕ} where
           let r : k ≡ n = cc in
           none-there vs (subst (λ n. Counts 0 n vs) r c)
 
-      upward : (o : Option (List ℤ)) → Counted 0 n o → Comes ρ (raw.iota p x) 1 o
+      upward : (o : Option (List ℤ)) → Counted 0 n o → Comes ρ (raw.iota p x) (types.braces types.int) o
       upward (some zs) (counted h) = valued (evaluates-call calls-iota (maps-more m maps-none) (gives-iota h))
       upward none (uncounted h) = valueless (nowhere h)
   comes-iota x (negsuc n) m = valueless nowhere
@@ -206,7 +213,7 @@ module _ (ρ : Env Value) {p : ℕ} where
           let q : pos k ≡ negsuc n = int-same (maps-once m′ m) in
           never (cc)
 
-  comes-plus : (x y : Variable) (a b : ℤ) → Maps ρ x (int a) → Maps ρ y (int b) → Comes ρ (raw.plus p x y) 0 (within (a +ℤ b))
+  comes-plus : (x y : Variable) (a b : ℤ) → Maps ρ x (int a) → Maps ρ y (int b) → Comes ρ (raw.plus p x y) types.int (within (a +ℤ b))
   comes-plus x y a b m k = ranging (a +ℤ b) (λ r. evaluates-call calls-plus (maps-more m (maps-more k maps-none)) (gives-plus refl r)) only
     where
       only : (v : Value) → Evaluates ρ (raw.plus p x y) v → inRange (a +ℤ b) ≡ true
@@ -216,7 +223,7 @@ module _ (ρ : Env Value) {p : ℕ} where
           let q′ = int-same (maps-once k k′) in
           (λ i. inRange (q i +ℤ q′ i)) ∙ r
 
-  comes-sum : (x : Variable) (zs : List ℤ) → Maps ρ x (braces (plains (plain 0) zs)) → Comes ρ (raw.sum p x) 0 (within (total zs))
+  comes-sum : (x : Variable) (zs : List ℤ) → Maps ρ x (braces (plains (plain types.int) zs)) → Comes ρ (raw.sum p x) types.int (within (total zs))
   comes-sum x zs m = ranging (total zs) (λ r. evaluates-call calls-sum (maps-more m maps-none) (gives-sum (totals-plain zs) r)) only
     where
       only : (v : Value) → Evaluates ρ (raw.sum p x) v → inRange (total zs) ≡ true
@@ -225,26 +232,26 @@ module _ (ρ : Env Value) {p : ℕ} where
           let q = braces-same (maps-once m′ m) in
           ap inRange (totals-once (totals-plain zs) (subst (λ ws. Totals ws n) q t)) ∙ r
 
-  comes-let : {c d : ℕ} (x : Variable) (e₁ e₂ : Raw) (o : Option (Val c)) (f : Val c → Option (Val d))
+  comes-let : {c τ : ValueType} (x : Variable) (e₁ e₂ : Raw) (o : Option (Val c)) (f : Val c → Option (Val τ))
       → Comes ρ e₁ c o
-      → ((v : Val c) → Comes (named x (plain c v) ρ) e₂ d (f v))
-      → Comes ρ (raw.bind p x e₁ e₂) d (andThen o f)
+      → ((v : Val c) → Comes (named x (plain c v) ρ) e₂ τ (f v))
+      → Comes ρ (raw.bind p x e₁ e₂) τ (andThen o f)
   comes-let x e₁ e₂ none f (valueless n) h₂ = valueless (λ v h. let (v₁, h₁, k) = of-let h in n v₁ h₁)
-  comes-let {c} {d} x e₁ e₂ (some v) f (valued h₁) h₂ = go (f v) (h₂ v)
+  comes-let {c} {τ} x e₁ e₂ (some v) f (valued h₁) h₂ = go (f v) (h₂ v)
     where
-      go : (o : Option (Val d)) → Comes (named x (plain c v) ρ) e₂ d o → Comes ρ (raw.bind p x e₁ e₂) d o
+      go : (o : Option (Val τ)) → Comes (named x (plain c v) ρ) e₂ τ o → Comes ρ (raw.bind p x e₁ e₂) τ o
       go (some w) (valued k) = valued (evaluates-let h₁ k)
       go none (valueless n) =
           valueless (λ w h. let (v₁, k₁, k₂) = of-let h in
           n w (subst (λ a. Evaluates (named x a ρ) e₂ w) (evaluates-once e₁ ρ v₁ (plain c v) k₁ h₁) k₂))
 
 -- a body over all items
-data ComesEach (x : Variable) (ρ : Env Value) (e : Raw) (d : ℕ) (vs : Values) : Option (List (Val d)) → Type 0 where
-  all-valued : {ws : List (Val d)} → EvaluatesEach x ρ e vs (plains (plain d) ws) → ComesEach x ρ e d vs (some ws)
-  one-valueless : ((ws : Values) → EvaluatesEach x ρ e vs ws → ⊥) → ComesEach x ρ e d vs none
+data ComesEach (x : Variable) (ρ : Env Value) (e : Raw) (τ : ValueType) (vs : Values) : Option (List (Val τ)) → Type 0 where
+  all-valued : {ws : List (Val τ)} → EvaluatesEach x ρ e vs (plains (plain τ) ws) → ComesEach x ρ e τ vs (some ws)
+  one-valueless : ((ws : Values) → EvaluatesEach x ρ e vs ws → ⊥) → ComesEach x ρ e τ vs none
 
-module _ (x : Variable) (ρ : Env Value) (e : Raw) (c d : ℕ) (f : Val c → Option (Val d)) (body : (v : Val c) → Comes (named x (plain c v) ρ) e d (f v)) where
-  comes-items : (vs : List (Val c)) → ComesEach x ρ e d (plains (plain c) vs) (allOf f vs)
+module _ (x : Variable) (ρ : Env Value) (e : Raw) (c τ : ValueType) (f : Val c → Option (Val τ)) (body : (v : Val c) → Comes (named x (plain c v) ρ) e τ (f v)) where
+  comes-items : (vs : List (Val c)) → ComesEach x ρ e τ (plains (plain c) vs) (allOf f vs)
   unfolding allOf plains
   comes-items [] = all-valued evaluates-none
   comes-items (v ∷ vs) = go (f v) (body v) (allOf f vs) (comes-items vs)
@@ -255,14 +262,14 @@ module _ (x : Variable) (ρ : Env Value) (e : Raw) (c d : ℕ) (f : Val c → Op
       rest-none : {ws : Values} → ((ws : Values) → EvaluatesEach x ρ e (plains (plain c) vs) ws → ⊥) → EvaluatesEach x ρ e (item (plain c v) (plains (plain c) vs)) ws → ⊥
       rest-none n (evaluates-more {ws = ws} h k) = n ws k
 
-      go : (o : Option (Val d)) → Comes (named x (plain c v) ρ) e d o → (os : Option (List (Val d))) → ComesEach x ρ e d (plains (plain c) vs) os
-          → ComesEach x ρ e d (item (plain c v) (plains (plain c) vs)) (andThen o (λ w. andThen os (λ ws. some (w ∷ ws))))
+      go : (o : Option (Val τ)) → Comes (named x (plain c v) ρ) e τ o → (os : Option (List (Val τ))) → ComesEach x ρ e τ (plains (plain c) vs) os
+          → ComesEach x ρ e τ (item (plain c v) (plains (plain c) vs)) (andThen o (λ w. andThen os (λ ws. some (w ∷ ws))))
       go none (valueless n) os k = one-valueless (λ ws h. first-none n h)
       go (some w) (valued h) (some ws) (all-valued k) = all-valued (evaluates-more h k)
       go (some w) (valued h) none (one-valueless n) = one-valueless (λ ws h. rest-none n h)
 
-module _ {ρ inside : Env Value} {p : ℕ} {x y : Variable} {us : List Variable} {e : Raw} {d : ℕ} {vs : Values} (m : Maps ρ y (braces vs)) (l : Listed Number ρ us inside) where
-  comes-each : {o : Option (List (Val d))} → ComesEach x inside e d vs o → Comes ρ (raw.each p x y us e) (suc d) o
+module _ {ρ inside : Env Value} {p : ℕ} {x y : Variable} {us : List Variable} {e : Raw} {τ : ValueType} {vs : Values} (m : Maps ρ y (braces vs)) (l : Listed Scalar ρ us inside) where
+  comes-each : {o : Option (List (Val τ))} → ComesEach x inside e τ vs o → Comes ρ (raw.each p x y us e) (types.braces τ) o
   unfolding plain
   comes-each (all-valued h) = valued (evaluates-each m l h)
   comes-each (one-valueless n) = valueless (λ v h. nowhere (each-parts h))
@@ -271,7 +278,7 @@ module _ {ρ inside : Env Value} {p : ℕ} {x y : Variable} {us : List Variable}
       nowhere (of-each {inside = other} {ws = ws} m′ l′ b) =
           n ws (subst (λ ρ. EvaluatesEach x ρ e vs ws) (listed-once l′ l) (subst (λ vs. EvaluatesEach x other e vs ws) (braces-same (maps-once m′ m)) b))
 
-pub coming : {Γ : List ℕ} {scope : All Name Γ} {e : Raw} {d : ℕ} {t : Term Γ d} → Resolved Γ scope e d t → (ρ : All Val Γ) → Comes (valuesOf scope ρ) e d (eval t ρ)
+pub coming : {Γ : List ValueType} {scope : All Name Γ} {e : Raw} {τ : ValueType} {t : Term Γ τ} → Resolved Γ scope e τ t → (ρ : All Val Γ) → Comes (valuesOf scope ρ) e τ (eval t ρ)
 unfolding eval envOf plain
 coming {scope = scope} (resolved-var {x = x} q) ρ = valued (evaluates-var (looks-found (subst (Looks plain scope ρ x) q (looking plain scope ρ x))))
 coming {scope = scope} (resolved-let {x = x} {e₁ = e₁} {e₂ = e₂} {t₁ = t₁} {t₂ = t₂} h k) ρ = comes-let _ x e₁ e₂ (eval t₁ ρ) (λ v. eval t₂ (v ▹ ρ)) (coming h ρ) (λ v. coming k (v ▹ ρ))
@@ -280,34 +287,34 @@ coming {scope = scope} (resolved-iota {x = x} {v = v} q) ρ = comes-iota _ x (lo
 coming {scope = scope} (resolved-plus {x = x} {y = y} {v = v} {w = w} q r) ρ =
     comes-plus _ x y (lookup v ρ) (lookup w ρ) (looks-int (looking plain scope ρ x) q) (looks-int (looking plain scope ρ y) r)
 coming {scope = scope} (resolved-sum {x = x} {v = v} q) ρ = comes-sum _ x (lookup v ρ) (looks-ints (looking plain scope ρ x) q)
-coming {scope = scope} (resolved-each {c = c} {d = d} {x = x} {y = y} {us = us} {e = e} {v = v} {ls = ls} {t = t} qv ql h) ρ =
+coming {scope = scope} (resolved-each {c = c} {τ = τ} {x = x} {y = y} {us = us} {e = e} {v = v} {ls = ls} {t = t} qv ql h) ρ =
     comes-each (along (subst (LooksAtSequence plain scope ρ y) qv (as-sequence (looking plain scope ρ y)))) (listed-values scope ρ us ql)
-    (comes-items x _ e c d (λ u. eval t (u ▹ listed (pointers ls) ρ)) (λ u. coming h (u ▹ listed (pointers ls) ρ)) (lookup v ρ))
+    (comes-items x _ e c τ (λ u. eval t (u ▹ listed (anyType (pointers ls)) ρ)) (λ u. coming h (u ▹ listed (anyType (pointers ls)) ρ)) (lookup v ρ))
 
 -- ---- the theorems
 
-module _ {ρ : Env Value} {e : Raw} {d : ℕ} where
-  comes-value : {w : Val d} → Comes ρ e d (some w) → Evaluates ρ e (plain d w)
+module _ {ρ : Env Value} {e : Raw} {τ : ValueType} where
+  comes-value : {w : Val τ} → Comes ρ e τ (some w) → Evaluates ρ e (plain τ w)
   comes-value (valued h) = h
 
-  comes-none : Comes ρ e d none → (v : Value) → Evaluates ρ e v → ⊥
+  comes-none : Comes ρ e τ none → (v : Value) → Evaluates ρ e v → ⊥
   comes-none (valueless n) = n
 
-  has-value : {o : Option (Val d)} {v : Value} → Comes ρ e d o → Evaluates ρ e v → (w : Val d) × (o ≡ some w) × (v ≡ plain d w)
-  has-value {v = v} (valued {w = w} h) k = (w, refl, evaluates-once e ρ v (plain d w) k h)
+  has-value : {o : Option (Val τ)} {v : Value} → Comes ρ e τ o → Evaluates ρ e v → (w : Val τ) × (o ≡ some w) × (v ≡ plain τ w)
+  has-value {v = v} (valued {w = w} h) k = (w, refl, evaluates-once e ρ v (plain τ w) k h)
   has-value {v = v} (valueless n) k = absurd (n v k)
 
-  has-none : {o : Option (Val d)} → Comes ρ e d o → ((v : Value) → Evaluates ρ e v → ⊥) → o ≡ none
-  has-none (valued {w = w} h) n = absurd (n (plain d w) h)
+  has-none : {o : Option (Val τ)} → Comes ρ e τ o → ((v : Value) → Evaluates ρ e v → ⊥) → o ≡ none
+  has-none (valued {w = w} h) n = absurd (n (plain τ w) h)
   has-none (valueless m) n = refl
 
-module _ {Γ : List ℕ} (scope : All Name Γ) (e : Raw) {d : ℕ} {t : Term Γ d} (checked : check scope e ≡ typed d t) (ρ : All Val Γ) where
-  both : Comes (valuesOf scope ρ) e d (eval t ρ)
+module _ {Γ : List ValueType} (scope : All Name Γ) (e : Raw) {τ : ValueType} {t : Term Γ τ} (checked : check scope e ≡ typed τ t) (ρ : All Val Γ) where
+  both : Comes (valuesOf scope ρ) e τ (eval t ρ)
   both = coming (resolved scope e checked) ρ
 
-  pub value-exactly : (v : Value) → Evaluates (valuesOf scope ρ) e v ↔ ((w : Val d) × (eval t ρ ≡ some w) × (v ≡ plain d w))
+  pub value-exactly : (v : Value) → Evaluates (valuesOf scope ρ) e v ↔ ((w : Val τ) × (eval t ρ ≡ some w) × (v ≡ plain τ w))
   value-exactly v =
-      (has-value both, λ (w, q, r). subst (Evaluates (valuesOf scope ρ) e) (sym r) (comes-value (subst (Comes (valuesOf scope ρ) e d) q both)))
+      (has-value both, λ (w, q, r). subst (Evaluates (valuesOf scope ρ) e) (sym r) (comes-value (subst (Comes (valuesOf scope ρ) e τ) q both)))
 
   pub no-value-exactly : ((v : Value) → Evaluates (valuesOf scope ρ) e v → ⊥) ↔ (eval t ρ ≡ none)
-  no-value-exactly = (has-none both, λ q. comes-none (subst (Comes (valuesOf scope ρ) e d) q both))
+  no-value-exactly = (has-none both, λ q. comes-none (subst (Comes (valuesOf scope ρ) e τ) q both))

@@ -9,10 +9,10 @@ use lib.ListN.{length}
 use Rattle.snesl.specs.declared.code.Transducer.{Transducer}
 use Rattle.snesl.specs.declared.refusal.Refusal.{Refusal}
 use Rattle.snesl.specs.declared.refusal.Refusal.the-variants.{Unbound, WrongType}
-use Rattle.snesl.specs.Values.{Val}
+use Rattle.snesl.specs.Values.{ValueType, depthOf, Val}
 use Rattle.snesl.specs.Terms.{Term, All}
 use Rattle.snesl.specs.Streams.{Stream, Store, _!_}
-use Rattle.snesl.specs.Trees.{Tree}
+use Rattle.snesl.specs.Trees.{Tree, IdTree}
 use Rattle.snesl.specs.Transducers.{made, apply, operands}
 use Rattle.snesl.specs.Programs.{Program, WellFormed, Scoped}
 use Rattle.snesl.specs.Machine.{State, went, run, boundless}
@@ -53,21 +53,21 @@ use Rattle.rules.proofs.Reading.Jobs as Reading
 -- 002, Theorem 1.20, from the rules alone. If e has type τ, evaluates to v and is translated to code p with result tree st and ids from s0 up to s1; and each
 -- variable's value has its type and is held by its tree, whose ids lie below s0: then p runs under one unit, st holds v in the store at the end, the store
 -- below s0 is as it was, s0 ≤ s1, and the ids of st lie below s1.
-pub theorem-1-20 : {Γ : Env ℕ} {ρ : Env Value} {δ : Env STree} {σ : Stores} (e : Raw) {d s₀ s₁ : ℕ} {v : Value} {p : Svcode} {st : STree}
-    → Types Γ e d
+pub theorem-1-20 : {Γ : Env ValueType} {ρ : Env Value} {δ : Env STree} {σ : Stores} (e : Raw) {τ : ValueType} {s₀ s₁ : ℕ} {v : Value} {p : Svcode} {st : STree}
+    → Types Γ e τ
     → Evaluates ρ e v
     → Translates δ e s₀ s₁ p st
     → Suits σ s₀ Γ ρ δ
-    → Correct p σ s₀ s₁ st d v
+    → Correct p σ s₀ s₁ st τ v
 theorem-1-20 = Correctness.theorem
 
 -- 1. Typing (002, 1.1.2). Checking gives a typed expression exactly where the rules have a derivation, with that type;
-module _ {Γ : List ℕ} (scope : All Name Γ) (e : Raw) where
-  pub typed-exactly-by-the-rules : (d : ℕ) → ((t : Term Γ d) × (check scope e ≡ typed d t)) ↔ Types (typesOf scope) e d
+module _ {Γ : List ValueType} (scope : All Name Γ) (e : Raw) where
+  pub typed-exactly-by-the-rules : (τ : ValueType) → ((t : Term Γ τ) × (check scope e ≡ typed τ t)) ↔ Types (typesOf scope) e τ
   typed-exactly-by-the-rules = Typing.typed-exactly scope e
 
   -- it refuses exactly where there is none, and then by 5 or 6.
-  pub refused-exactly-without-a-type : ((why : Refusal) × (check scope e ≡ refused why)) ↔ ((d : ℕ) → Types (typesOf scope) e d → ⊥)
+  pub refused-exactly-without-a-type : ((why : Refusal) × (check scope e ≡ refused why)) ↔ ((τ : ValueType) → Types (typesOf scope) e τ → ⊥)
   refused-exactly-without-a-type = Typing.refused-exactly scope e
 
   pub refused-by-five-or-six : {why : Refusal} → check scope e ≡ refused why → ((p : ℕ) × (why ≡ Unbound p)) ⊎ ((p : ℕ) × (why ≡ WrongType p))
@@ -75,26 +75,26 @@ module _ {Γ : List ℕ} (scope : All Name Γ) (e : Raw) where
 
 -- A whole formula is accepted exactly if its inputs have names of their own and its expression has a type over them, and else refused.
 module _ (is : List Input) (e : Raw) where
-  pub formula-typed-exactly-by-the-rules : (d : ℕ) → ((t : Term (context is) d) × (checkFormula is e ≡ typed d t)) ↔ FormulaTypes is e d
+  pub formula-typed-exactly-by-the-rules : (τ : ValueType) → ((t : Term (context is) τ) × (checkFormula is e ≡ typed τ t)) ↔ FormulaTypes is e τ
   formula-typed-exactly-by-the-rules = Formulas.formula-typed-exactly is e
 
-  pub formula-refused-exactly-without-a-type : ((why : Refusal) × (checkFormula is e ≡ refused why)) ↔ ((d : ℕ) → FormulaTypes is e d → ⊥)
+  pub formula-refused-exactly-without-a-type : ((why : Refusal) × (checkFormula is e ≡ refused why)) ↔ ((τ : ValueType) → FormulaTypes is e τ → ⊥)
   formula-refused-exactly-without-a-type = Formulas.formula-refused-exactly is e
 
 -- Every Γ is that of some names, and an expression has at most one type.
-pub every-environment-is-a-scope : (Γ : Env ℕ) → (ds : List ℕ) × (scope : All Name ds) × (typesOf scope ≡ Γ)
+pub every-environment-is-a-scope : (Γ : Env ValueType) → (τs : List ValueType) × (scope : All Name τs) × (typesOf scope ≡ Γ)
 every-environment-is-a-scope = Typing.scoped
 
-pub one-type : {Γ : Env ℕ} {e : Raw} {c d : ℕ} → Types Γ e c → Types Γ e d → c ≡ d
+pub one-type : {Γ : Env ValueType} {e : Raw} {υ τ : ValueType} → Types Γ e υ → Types Γ e τ → υ ≡ τ
 one-type = Typing.types-once
 
--- A value has a type exactly if it is one of that depth, without its type.
-pub value-has-type-exactly : (d : ℕ) (v : Value) → HasType v d ↔ ((w : Val d) × (v ≡ plain d w))
+-- A value has a type exactly if it is one of that type, without it.
+pub value-has-type-exactly : (τ : ValueType) (v : Value) → HasType v τ ↔ ((w : Val τ) × (v ≡ plain τ w))
 value-has-type-exactly = Values.typed-exactly
 
 -- 2. Evaluation (002, 1.1.3). For an expression that is checked, the rules over names derive exactly the value that `eval` gives,
-module _ {Γ : List ℕ} (scope : All Name Γ) (e : Raw) {d : ℕ} {t : Term Γ d} (checked : check scope e ≡ typed d t) (ρ : All Val Γ) where
-  pub value-exactly-by-the-rules : (v : Value) → Evaluates (valuesOf scope ρ) e v ↔ ((w : Val d) × (eval t ρ ≡ some w) × (v ≡ plain d w))
+module _ {Γ : List ValueType} (scope : All Name Γ) (e : Raw) {τ : ValueType} {t : Term Γ τ} (checked : check scope e ≡ typed τ t) (ρ : All Val Γ) where
+  pub value-exactly-by-the-rules : (v : Value) → Evaluates (valuesOf scope ρ) e v ↔ ((w : Val τ) × (eval t ρ ≡ some w) × (v ≡ plain τ w))
   value-exactly-by-the-rules = Evaluation.value-exactly scope e checked ρ
 
   -- and no value exactly where it gives none.
@@ -106,14 +106,14 @@ pub one-value : (e : Raw) (ρ : Env Value) (v w : Value) → Evaluates ρ e v �
 one-value = Evaluation.evaluates-once
 
 -- 3. Representation (002, 1.4). The rules give a value exactly the streams that `represent` gives it, and no streams to a value of another type.
-pub represented-exactly : (d : ℕ) (v : Value) (w : Tree Stream d) → Represents d v w ↔ ((u : Val d) × (v ≡ plain d u) × (w ≡ represent d (u ∷ [])))
+pub represented-exactly : (τ : ValueType) (v : Value) (w : Tree Stream (depthOf τ)) → Represents τ v w ↔ ((u : Val τ) × (v ≡ plain τ u) × (w ≡ represent τ (u ∷ [])))
 represented-exactly = Representation.represents-exactly
 
 -- A value has one tree of streams; 002, Lemma 1.10: a tree of streams is that of one value.
-pub one-tree : (d : ℕ) (v : Value) (w w′ : Tree Stream d) → Represents d v w → Represents d v w′ → w ≡ w′
+pub one-tree : (τ : ValueType) (v : Value) (w w′ : Tree Stream (depthOf τ)) → Represents τ v w → Represents τ v w′ → w ≡ w′
 one-tree = Representation.one-tree
 
-pub lemma-1-10 : (d : ℕ) (v v′ : Value) (w : Tree Stream d) → Represents d v w → Represents d v′ w → v ≡ v′
+pub lemma-1-10 : (τ : ValueType) (v v′ : Value) (w : Tree Stream (depthOf τ)) → Represents τ v w → Represents τ v′ w → v ≡ v′
 lemma-1-10 = Representation.one-value
 
 -- 4. Transducers (002, Figures 1.4 and 1.5). On the streams of its operands a transducer makes exactly what the general and block rules give.
@@ -162,7 +162,7 @@ theorem-1-9 h k = Determined.runs-once h k (λ u. refl)
 
 -- 6. Translation (002, 1.3). For a checked expression the rules derive code with the tree of `tree` and as many ids as `size` says; grouped to the right it is
 -- the code of `code`;
-pub translated-by-the-rules : {Γ : List ℕ} (scope : All Name Γ) (e : Raw) {d : ℕ} {t : Term Γ d} → check scope e ≡ typed d t → (δ : All (Tree ℕ) Γ) (s : ℕ)
+pub translated-by-the-rules : {Γ : List ValueType} (scope : All Name Γ) (e : Raw) {τ : ValueType} {t : Term Γ τ} → check scope e ≡ typed τ t → (δ : All IdTree Γ) (s : ℕ)
     → Translated (treesOf scope δ) e s (s + size t) (plainTree (tree t δ s)) (code t δ s)
 translated-by-the-rules scope e checked = Translation.translated (Typing.resolved scope e checked)
 

@@ -11,18 +11,20 @@ use lib.Dec.{ltb}
 use lib.IntN.{ℤ}
 use Rattle.laws.proofs.Never.{never}
 use Rattle.laws.proofs.Tests.{both-true}
+use Rattle.snesl.specs.declared.code.Base.{Base}
+use Rattle.snesl.specs.declared.code.Base.the-variants as base
 use Rattle.snesl.specs.declared.code.Variable.{Variable}
 use Rattle.snesl.specs.declared.refusal.Refusal.{Refusal}
 use Rattle.snesl.specs.declared.refusal.Refusal.the-variants.{Unbound, WrongType}
 use Rattle.snesl.specs.Limits.{mostDepth}
-use Rattle.snesl.specs.Values.{each-none, each-more}
+use Rattle.snesl.specs.Values.{ValueType, scalar, braces, int, depthOf, each-none, each-more}
 use Rattle.snesl.specs.Terms as terms
-use Rattle.snesl.specs.Terms.{_∋_, Term, listedTypes, All, ∅, _▹_}
+use Rattle.snesl.specs.Terms.{_∋_, Term, anyType, listedTypes, All, ∅, _▹_}
 use Rattle.snesl.specs.Records as raw
 use Rattle.snesl.specs.Records.{Raw}
-use Rattle.snesl.specs.Checking.{Name, same, Found, missing, found, find, isBound, asInt, asInts, Sequence, noSequence, sequence, asSequence, names, usable, listedFirst, listedInts, listedNames, pointers, Typed, refused, typed, demand, typedIf, typedSequence, typedThen, check}
+use Rattle.snesl.specs.Checking.{Name, same, Found, missing, found, find, isBound, AnyScalar, noScalar, aScalar, asScalar, asInt, asInts, Sequence, noSequence, sequence, asSequence, names, usable, NamedScalars, listedFirst, listedScalars, listedNames, pointers, Typed, refused, typed, demand, typedIf, typedSequence, typedThen, check}
 use Rattle.rules.specs.Names.{Env, nothing, named, Maps, maps-none, maps-more, Listed, listed-none, listed-more}
-use Rattle.rules.specs.Typing.{BuiltIn, Calls, calls-const, calls-iota, calls-plus, calls-sum, takes-const, takes-iota, takes-plus, takes-sum, Unlisted, Once, once-none, once-more, IsInt, Types, types-var, types-let, types-call, types-each, typesOf}
+use Rattle.rules.specs.Typing.{BuiltIn, Calls, calls-const, calls-iota, calls-plus, calls-sum, takes-const, takes-iota, takes-plus, takes-sum, Unlisted, Once, once-none, once-more, IsScalar, is-scalar, Types, types-var, types-let, types-call, types-each, typesOf}
 use Rattle.rules.proofs.Names.{same-true, same-false, maps-once, Finds, finds-none, finds-one, finding}
 
 -- A rule's premises from its conclusion, for each expression.
@@ -35,42 +37,42 @@ not-let = elim [ ]
 pub not-each : {p : ℕ} {x y : Variable} {us : List Variable} {e : Raw} {φ : BuiltIn} {xs : List Variable} → Calls (raw.each p x y us e) φ xs → ⊥
 not-each = elim [ ]
 
-record OfEach (Γ : Env ℕ) (x y : Variable) (us : List Variable) (e : Raw) (d : ℕ) : Type 0 where
-  item : ℕ
-  body : ℕ
-  inside : Env ℕ
-  sequence-is : Maps Γ y (suc item)
-  listed : Listed IsInt Γ us inside
+record OfEach (Γ : Env ValueType) (x y : Variable) (us : List Variable) (e : Raw) (τ : ValueType) : Type 0 where
+  item : ValueType
+  body : ValueType
+  inside : Env ValueType
+  sequence-is : Maps Γ y (braces item)
+  listed : Listed IsScalar Γ us inside
   apart : Unlisted x us
   once : Once us
   body-is : Types (named x item inside) e body
-  deep : suc body ≤ mostDepth
-  depth : suc body ≡ d
+  deep : suc (depthOf body) ≤ mostDepth
+  type-is : braces body ≡ τ
 
-module _ {Γ : Env ℕ} {p : ℕ} where
-  of-var : {x : Variable} {d : ℕ} → Types Γ (raw.var p x) d → Maps Γ x d
+module _ {Γ : Env ValueType} {p : ℕ} where
+  of-var : {x : Variable} {τ : ValueType} → Types Γ (raw.var p x) τ → Maps Γ x τ
   of-var (types-var h) = h
   of-var (types-call c t m) = absurd (not-var c)
 
-  of-let : {x : Variable} {e₁ e₂ : Raw} {d : ℕ} → Types Γ (raw.bind p x e₁ e₂) d → (c : ℕ) × Types Γ e₁ c × Types (named x c Γ) e₂ d
-  of-let (types-let {c = c} h k) = (c, h, k)
+  of-let : {x : Variable} {e₁ e₂ : Raw} {τ : ValueType} → Types Γ (raw.bind p x e₁ e₂) τ → (c : ValueType) × Types Γ e₁ c × Types (named x c Γ) e₂ τ
+  of-let (types-let {υ = c} h k) = (c, h, k)
   of-let (types-call c t m) = absurd (not-let c)
 
-  of-const : {z : ℤ} {d : ℕ} → Types Γ (raw.const p z) d → 0 ≡ d
+  of-const : {z : ℤ} {τ : ValueType} → Types Γ (raw.const p z) τ → int ≡ τ
   of-const (types-call calls-const takes-const m) = refl
 
-  of-iota : {x : Variable} {d : ℕ} → Types Γ (raw.iota p x) d → Maps Γ x 0 × (1 ≡ d)
+  of-iota : {x : Variable} {τ : ValueType} → Types Γ (raw.iota p x) τ → Maps Γ x int × (braces int ≡ τ)
   of-iota (types-call calls-iota takes-iota (maps-more h m)) = (h, refl)
 
-  of-plus : {x y : Variable} {d : ℕ} → Types Γ (raw.plus p x y) d → Maps Γ x 0 × Maps Γ y 0 × (0 ≡ d)
+  of-plus : {x y : Variable} {τ : ValueType} → Types Γ (raw.plus p x y) τ → Maps Γ x int × Maps Γ y int × (int ≡ τ)
   of-plus (types-call calls-plus takes-plus (maps-more h (maps-more k m))) = (h, k, refl)
 
-  of-sum : {x : Variable} {d : ℕ} → Types Γ (raw.sum p x) d → Maps Γ x 1 × (0 ≡ d)
+  of-sum : {x : Variable} {τ : ValueType} → Types Γ (raw.sum p x) τ → Maps Γ x (braces int) × (int ≡ τ)
   of-sum (types-call calls-sum takes-sum (maps-more h m)) = (h, refl)
 
-  of-each : {x y : Variable} {us : List Variable} {e : Raw} {d : ℕ} → Types Γ (raw.each p x y us e) d → OfEach Γ x y us e d
-  of-each (types-each {Δ = Δ} {c = c} {d = d} h l a o b m) =
-      record { item = c; body = d; inside = Δ; sequence-is = h; listed = l; apart = a; once = o; body-is = b; deep = m; depth = refl }
+  of-each : {x y : Variable} {us : List Variable} {e : Raw} {τ : ValueType} → Types Γ (raw.each p x y us e) τ → OfEach Γ x y us e τ
+  of-each (types-each {Δ = Δ} {υ = c} {τ = τ} h l a o b m) =
+      record { item = c; body = τ; inside = Δ; sequence-is = h; listed = l; apart = a; once = o; body-is = b; deep = m; type-is = refl }
   of-each (types-call c t m) = absurd (not-each c)
 
 pub listed-once : {A : Type 0} {Must : A → Type 0} {Γ Δ Δ′ : Env A} {us : List Variable} → Listed Must Γ us Δ → Listed Must Γ us Δ′ → Δ ≡ Δ′
@@ -80,62 +82,78 @@ listed-once (listed-more {u = u} h m l) (listed-more h′ m′ l′) =
     let q = listed-once l l′ in
     λ i. named u (p i) (q i)
 
+braces-same : {c τ : ValueType} → braces c ≡ braces τ → c ≡ τ
+braces-same q = cc
+
 -- The rules give an expression at most one type.
-pub types-once : {Γ : Env ℕ} {e : Raw} {c d : ℕ} → Types Γ e c → Types Γ e d → c ≡ d
+pub types-once : {Γ : Env ValueType} {e : Raw} {c τ : ValueType} → Types Γ e c → Types Γ e τ → c ≡ τ
 types-once (types-var h) k = maps-once h (of-var k)
-types-once {Γ} {d = d} (types-let {x = x} {e₂ = e₂} h₁ h₂) k =
+types-once {Γ} {τ = τ} (types-let {x = x} {e₂ = e₂} h₁ h₂) k =
     let (c, k₁, k₂) = of-let k in
-    types-once h₂ (subst (λ n. Types (named x n Γ) e₂ d) (sym (types-once h₁ k₁)) k₂)
+    types-once h₂ (subst (λ n. Types (named x n Γ) e₂ τ) (sym (types-once h₁ k₁)) k₂)
 types-once (types-call calls-const takes-const m) k = of-const k
 types-once (types-call calls-iota takes-iota m) k = of-iota k .1
 types-once (types-call calls-plus takes-plus m) k = of-plus k .2
 types-once (types-call calls-sum takes-sum m) k = of-sum k .1
-types-once {Γ} (types-each {Δ = Δ} {c = c} {x = x} {e = e} h l a o b m) k =
+types-once {Γ} (types-each {Δ = Δ} {υ = c} {x = x} {e = e} h l a o b m) k =
     let r = of-each k in
-    let same-item : suc c ≡ suc (r .item) = maps-once h (r .sequence-is) in
-    let p : c ≡ r .item = omega arith in
+    let p : c ≡ r .item = braces-same (maps-once h (r .sequence-is)) in
     let q = listed-once l (r .listed) in
     let pq : named x c Δ ≡ named x (r .item) (r .inside) = λ i. named x (p i) (q i) in
-    ap suc (types-once b (subst (λ Γ. Types Γ e (r .body)) (sym pq) (r .body-is))) ∙ r .depth
+    ap braces (types-once b (subst (λ Γ. Types Γ e (r .body)) (sym pq) (r .body-is))) ∙ r .type-is
 
 -- ---- what checking asks of a name
 
-module _ {Γ : List ℕ} {scope : All Name Γ} {x : Variable} where
-  unbound-name : {f : Found Γ} {d : ℕ} → Finds scope x f → isBound f ≡ false → Maps (typesOf scope) x d → ⊥
-  unbound-name {d = d} (finds-none h) q m = h d m
+module _ {Γ : List ValueType} {scope : All Name Γ} {x : Variable} where
+  unbound-name : {f : Found Γ} {τ : ValueType} → Finds scope x f → isBound f ≡ false → Maps (typesOf scope) x τ → ⊥
+  unbound-name {τ = τ} (finds-none h) q m = h τ m
   unbound-name (finds-one h) q m = never (cc)
 
-  an-int : {f : Found Γ} {v : Γ ∋ 0} → Finds scope x f → asInt f ≡ some v → Maps (typesOf scope) x 0
+  a-scalar : {f : Found Γ} {b : Base} {v : Γ ∋ scalar b} → Finds scope x f → asScalar f ≡ aScalar b v → Maps (typesOf scope) x (scalar b)
+  a-scalar (finds-none h) q = never (cc)
+  a-scalar {b = b} (finds-one {τ = scalar c} h) q = let e : c ≡ b = cc in subst (λ b. Maps (typesOf scope) x (scalar b)) e h
+  a-scalar (finds-one {τ = braces τ} h) q = never (cc)
+
+  no-scalar : {f : Found Γ} {τ : ValueType} → Finds scope x f → asScalar f ≡ noScalar → IsScalar τ → Maps (typesOf scope) x τ → ⊥
+  no-scalar {τ = τ} (finds-none h) q s m = h τ m
+  no-scalar (finds-one {τ = scalar b} h) q s m = never (cc)
+  no-scalar (finds-one {τ = braces υ} h) q (is-scalar {b = b}) m = let z : braces υ ≡ scalar b = maps-once h m in never (cc)
+
+  an-int : {f : Found Γ} {v : Γ ∋ int} → Finds scope x f → asInt (asScalar f) ≡ some v → Maps (typesOf scope) x int
   an-int (finds-none h) q = never (cc)
-  an-int (finds-one {d = zero} h) q = h
-  an-int (finds-one {d = suc d} h) q = never (cc)
+  an-int (finds-one {τ = scalar base.Int} h) q = h
+  an-int (finds-one {τ = scalar base.Bool} h) q = never (cc)
+  an-int (finds-one {τ = braces τ} h) q = never (cc)
 
-  no-int : {f : Found Γ} → Finds scope x f → asInt f ≡ none → Maps (typesOf scope) x 0 → ⊥
-  no-int (finds-none h) q m = h 0 m
-  no-int (finds-one {d = zero} h) q m = never (cc)
-  no-int (finds-one {d = suc d} h) q m = let z : suc d ≡ 0 = maps-once h m in omega arith
+  no-int : {f : Found Γ} → Finds scope x f → asInt (asScalar f) ≡ none → Maps (typesOf scope) x int → ⊥
+  no-int (finds-none h) q m = h int m
+  no-int (finds-one {τ = scalar base.Int} h) q m = never (cc)
+  no-int (finds-one {τ = scalar base.Bool} h) q m = let z : scalar base.Bool ≡ int = maps-once h m in never (cc)
+  no-int (finds-one {τ = braces τ} h) q m = let z : braces τ ≡ int = maps-once h m in never (cc)
 
-  a-sequence : {f : Found Γ} {c : ℕ} {v : Γ ∋ suc c} → Finds scope x f → asSequence f ≡ sequence c v → Maps (typesOf scope) x (suc c)
+  a-sequence : {f : Found Γ} {c : ValueType} {v : Γ ∋ braces c} → Finds scope x f → asSequence f ≡ sequence c v → Maps (typesOf scope) x (braces c)
   a-sequence (finds-none h) q = never (cc)
-  a-sequence (finds-one {d = zero} h) q = never (cc)
-  a-sequence {c = c} (finds-one {d = suc d} h) q = let e : d ≡ c = cc in subst (λ n. Maps (typesOf scope) x (suc n)) e h
+  a-sequence (finds-one {τ = scalar b} h) q = never (cc)
+  a-sequence {c = c} (finds-one {τ = braces τ} h) q = let e : τ ≡ c = cc in subst (λ n. Maps (typesOf scope) x (braces n)) e h
 
-  no-sequence : {f : Found Γ} {c : ℕ} → Finds scope x f → asSequence f ≡ noSequence → Maps (typesOf scope) x (suc c) → ⊥
-  no-sequence {c = c} (finds-none h) q m = h (suc c) m
-  no-sequence {c = c} (finds-one {d = zero} h) q m = let z : 0 ≡ suc c = maps-once h m in omega arith
-  no-sequence (finds-one {d = suc d} h) q m = never (cc)
+  no-sequence : {f : Found Γ} {c : ValueType} → Finds scope x f → asSequence f ≡ noSequence → Maps (typesOf scope) x (braces c) → ⊥
+  no-sequence {c = c} (finds-none h) q m = h (braces c) m
+  no-sequence {c = c} (finds-one {τ = scalar b} h) q m = let z : scalar b ≡ braces c = maps-once h m in never (cc)
+  no-sequence (finds-one {τ = braces τ} h) q m = never (cc)
 
-  some-ints : {f : Found Γ} {v : Γ ∋ 1} → Finds scope x f → asInts (asSequence f) ≡ some v → Maps (typesOf scope) x 1
+  some-ints : {f : Found Γ} {v : Γ ∋ braces int} → Finds scope x f → asInts (asSequence f) ≡ some v → Maps (typesOf scope) x (braces int)
   some-ints (finds-none h) q = never (cc)
-  some-ints (finds-one {d = zero} h) q = never (cc)
-  some-ints (finds-one {d = suc zero} h) q = h
-  some-ints (finds-one {d = suc (suc d)} h) q = never (cc)
+  some-ints (finds-one {τ = scalar b} h) q = never (cc)
+  some-ints (finds-one {τ = braces (scalar base.Int)} h) q = h
+  some-ints (finds-one {τ = braces (scalar base.Bool)} h) q = never (cc)
+  some-ints (finds-one {τ = braces (braces τ)} h) q = never (cc)
 
-  no-ints : {f : Found Γ} → Finds scope x f → asInts (asSequence f) ≡ none → Maps (typesOf scope) x 1 → ⊥
-  no-ints (finds-none h) q m = h 1 m
-  no-ints (finds-one {d = zero} h) q m = let z : _≡_ {A = ℕ} 0 1 = maps-once h m in omega arith
-  no-ints (finds-one {d = suc zero} h) q m = never (cc)
-  no-ints (finds-one {d = suc (suc d)} h) q m = let z : suc (suc d) ≡ 1 = maps-once h m in omega arith
+  no-ints : {f : Found Γ} → Finds scope x f → asInts (asSequence f) ≡ none → Maps (typesOf scope) x (braces int) → ⊥
+  no-ints (finds-none h) q m = h (braces int) m
+  no-ints (finds-one {τ = scalar b} h) q m = let z : scalar b ≡ braces int = maps-once h m in never (cc)
+  no-ints (finds-one {τ = braces (scalar base.Int)} h) q m = never (cc)
+  no-ints (finds-one {τ = braces (scalar base.Bool)} h) q m = let z : braces (scalar base.Bool) ≡ braces int = maps-once h m in never (cc)
+  no-ints (finds-one {τ = braces (braces τ)} h) q m = let z : braces (braces τ) ≡ braces int = maps-once h m in never (cc)
 
 -- ---- what it asks of a using list
 
@@ -157,107 +175,107 @@ names-true u (v ∷ us) e (each-more n h) = go (same u v) refl e (names-true u u
     go true q r below = n (same-true u v q)
     go false q r below = below r h
 
-module _ {Γ : List ℕ} (scope : All Name Γ) (x : Variable) where
+module _ {Γ : List ValueType} (scope : All Name Γ) (x : Variable) where
   usable-true : (us : List Variable) → usable scope x us ≡ true → Unlisted x us × Once us
   unfolding usable
   usable-true [] e = (each-none, once-none)
   usable-true (u ∷ us) e = go (isBound (find u scope)) (same x u) refl (names u us) refl e (usable-true us)
     where
-      go : (b c : Bool) → same x u ≡ c → (d : Bool) → names u us ≡ d
-          → (b && (not c && (not d && usable scope x us))) ≡ true
+      go : (b c : Bool) → same x u ≡ c → (τ : Bool) → names u us ≡ τ
+          → (b && (not c && (not τ && usable scope x us))) ≡ true
           → (usable scope x us ≡ true → Unlisted x us × Once us)
           → Unlisted x (u ∷ us) × Once (u ∷ us)
-      go false c qc d qd r below = never (cc)
-      go true true qc d qd r below = never (cc)
+      go false c qc τ qd r below = never (cc)
+      go true true qc τ qd r below = never (cc)
       go true false qc true qd r below = never (cc)
       go true false qc false qd r below =
           let (a, o) = below r in
           (each-more (same-false x u qc) a, once-more (names-false u us qd) o)
 
-  usable-false : (us : List Variable) {Δ : Env ℕ} → usable scope x us ≡ false → Listed IsInt (typesOf scope) us Δ → Unlisted x us → Once us → ⊥
+  usable-false : (us : List Variable) {Δ : Env ValueType} → usable scope x us ≡ false → Listed IsScalar (typesOf scope) us Δ → Unlisted x us → Once us → ⊥
   unfolding usable
   usable-false [] e l a o = never (cc)
   usable-false (u ∷ us) e (listed-more {Δ = Δ} h m l) (each-more n a) (once-more k o) =
       go (isBound (find u scope)) refl (same x u) refl (names u us) refl e (usable-false us)
     where
-      go : (b : Bool) → isBound (find u scope) ≡ b → (c : Bool) → same x u ≡ c → (d : Bool) → names u us ≡ d
-          → (b && (not c && (not d && usable scope x us))) ≡ false
-          → (usable scope x us ≡ false → Listed IsInt (typesOf scope) us Δ → Unlisted x us → Once us → ⊥)
+      go : (b : Bool) → isBound (find u scope) ≡ b → (c : Bool) → same x u ≡ c → (τ : Bool) → names u us ≡ τ
+          → (b && (not c && (not τ && usable scope x us))) ≡ false
+          → (usable scope x us ≡ false → Listed IsScalar (typesOf scope) us Δ → Unlisted x us → Once us → ⊥)
           → ⊥
-      go false qb c qc d qd r below = unbound-name (finding scope u) qb h
-      go true qb true qc d qd r below = n (same-true x u qc)
+      go false qb c qc τ qd r below = unbound-name (finding scope u) qb h
+      go true qb true qc τ qd r below = n (same-true x u qc)
       go true qb false qc true qd r below = names-true u us qd k
       go true qb false qc false qd r below = below r l a o
 
-module _ {Γ : List ℕ} (scope : All Name Γ) where
-  all-ints : (us : List Variable) {ls : List (Variable × (Γ ∋ 0))} → listedInts scope us ≡ some ls → Listed IsInt (typesOf scope) us (typesOf (listedNames ls))
-  unfolding listedInts listedNames typesOf
-  all-ints [] {ls} e = let q : [] ≡ ls = cc in subst (λ l. Listed IsInt (typesOf scope) [] (typesOf (listedNames l))) q listed-none
-  all-ints (u ∷ us) {ls} e = go (asInt (find u scope)) refl (listedInts scope us) refl e (λ l q. all-ints us q)
+module _ {Γ : List ValueType} (scope : All Name Γ) where
+  all-scalars : (us : List Variable) {ls : NamedScalars Γ} → listedScalars scope us ≡ some ls → Listed IsScalar (typesOf scope) us (typesOf (listedNames ls))
+  unfolding listedScalars listedNames typesOf
+  all-scalars [] {ls} e = let q : [] ≡ ls = cc in subst (λ l. Listed IsScalar (typesOf scope) [] (typesOf (listedNames l))) q listed-none
+  all-scalars (u ∷ us) {ls} e = go (asScalar (find u scope)) refl (listedScalars scope us) refl e (λ l q. all-scalars us q)
     where
-      go : (o : Option (Γ ∋ 0)) → asInt (find u scope) ≡ o → (r : Option (List (Variable × (Γ ∋ 0)))) → listedInts scope us ≡ r
+      go : (o : AnyScalar Γ) → asScalar (find u scope) ≡ o → (r : Option (NamedScalars Γ)) → listedScalars scope us ≡ r
           → listedFirst u o r ≡ some ls
-          → ((ls : List (Variable × (Γ ∋ 0))) → listedInts scope us ≡ some ls → Listed IsInt (typesOf scope) us (typesOf (listedNames ls)))
-          → Listed IsInt (typesOf scope) (u ∷ us) (typesOf (listedNames ls))
-      go none qo r qr q below = never (cc)
-      go (some v) qo none qr q below = never (cc)
-      go (some v) qo (some l) qr q below =
-          let s : (u, v) ∷ l ≡ ls = cc in
-          subst (λ l. Listed IsInt (typesOf scope) (u ∷ us) (typesOf (listedNames l))) s
-          (listed-more (an-int (finding scope u) qo) refl (below l qr))
+          → ((ls : NamedScalars Γ) → listedScalars scope us ≡ some ls → Listed IsScalar (typesOf scope) us (typesOf (listedNames ls)))
+          → Listed IsScalar (typesOf scope) (u ∷ us) (typesOf (listedNames ls))
+      go noScalar qo r qr q below = never (cc)
+      go (aScalar b v) qo none qr q below = never (cc)
+      go (aScalar b v) qo (some l) qr q below =
+          let s : (u, (b, v)) ∷ l ≡ ls = cc in
+          subst (λ l. Listed IsScalar (typesOf scope) (u ∷ us) (typesOf (listedNames l))) s
+          (listed-more (a-scalar (finding scope u) qo) is-scalar (below l qr))
 
-  not-ints : (us : List Variable) {Δ : Env ℕ} → listedInts scope us ≡ none → Listed IsInt (typesOf scope) us Δ → ⊥
-  unfolding listedInts
-  not-ints [] e l = never (cc)
-  not-ints (u ∷ us) e (listed-more {Δ = Δ} h m l) = go (asInt (find u scope)) refl (listedInts scope us) refl e (not-ints us)
+  not-scalars : (us : List Variable) {Δ : Env ValueType} → listedScalars scope us ≡ none → Listed IsScalar (typesOf scope) us Δ → ⊥
+  unfolding listedScalars
+  not-scalars [] e l = never (cc)
+  not-scalars (u ∷ us) e (listed-more {Δ = Δ} h m l) = go (asScalar (find u scope)) refl (listedScalars scope us) refl e (not-scalars us)
     where
-      go : (o : Option (Γ ∋ 0)) → asInt (find u scope) ≡ o → (r : Option (List (Variable × (Γ ∋ 0)))) → listedInts scope us ≡ r
+      go : (o : AnyScalar Γ) → asScalar (find u scope) ≡ o → (r : Option (NamedScalars Γ)) → listedScalars scope us ≡ r
           → listedFirst u o r ≡ none
-          → (listedInts scope us ≡ none → Listed IsInt (typesOf scope) us Δ → ⊥)
+          → (listedScalars scope us ≡ none → Listed IsScalar (typesOf scope) us Δ → ⊥)
           → ⊥
-      go none qo r qr q below = no-int (finding scope u) qo (subst (λ n. Maps (typesOf scope) u n) m h)
-      go (some v) qo none qr q below = below qr l
-      go (some v) qo (some l′) qr q below = never (cc)
+      go noScalar qo r qr q below = no-scalar (finding scope u) qo m h
+      go (aScalar b v) qo none qr q below = below qr l
+      go (aScalar b v) qo (some l′) qr q below = never (cc)
 
 -- ---- names resolved: which typed expression a named one is
 
-pub data Resolved : (Γ : List ℕ) → All Name Γ → Raw → (d : ℕ) → Term Γ d → Type 0 where
-  resolved-var : {Γ : List ℕ} {scope : All Name Γ} {p d : ℕ} {x : Variable} {v : Γ ∋ d}
-      → find x scope ≡ found d v
-      → Resolved Γ scope (raw.var p x) d (terms.var v)
-  resolved-let : {Γ : List ℕ} {scope : All Name Γ} {p c d : ℕ} {x : Variable} {e₁ e₂ : Raw} {t₁ : Term Γ c} {t₂ : Term (c ∷ Γ) d}
+pub data Resolved : (Γ : List ValueType) → All Name Γ → Raw → (τ : ValueType) → Term Γ τ → Type 0 where
+  resolved-var : {Γ : List ValueType} {scope : All Name Γ} {p : ℕ} {τ : ValueType} {x : Variable} {v : Γ ∋ τ}
+      → find x scope ≡ found τ v
+      → Resolved Γ scope (raw.var p x) τ (terms.var v)
+  resolved-let : {Γ : List ValueType} {scope : All Name Γ} {p : ℕ} {c τ : ValueType} {x : Variable} {e₁ e₂ : Raw} {t₁ : Term Γ c} {t₂ : Term (c ∷ Γ) τ}
       → Resolved Γ scope e₁ c t₁
-      → Resolved (c ∷ Γ) (x ▹ scope) e₂ d t₂
-      → Resolved Γ scope (raw.bind p x e₁ e₂) d (terms.bind t₁ t₂)
-  resolved-const : {Γ : List ℕ} {scope : All Name Γ} {p : ℕ} {z : ℤ} → Resolved Γ scope (raw.const p z) 0 (terms.const z)
-  resolved-iota : {Γ : List ℕ} {scope : All Name Γ} {p : ℕ} {x : Variable} {v : Γ ∋ 0}
-      → asInt (find x scope) ≡ some v
-      → Resolved Γ scope (raw.iota p x) 1 (terms.iota v)
-  resolved-plus : {Γ : List ℕ} {scope : All Name Γ} {p : ℕ} {x y : Variable} {v w : Γ ∋ 0}
-      → asInt (find x scope) ≡ some v
-      → asInt (find y scope) ≡ some w
-      → Resolved Γ scope (raw.plus p x y) 0 (terms.plus v w)
-  resolved-sum : {Γ : List ℕ} {scope : All Name Γ} {p : ℕ} {x : Variable} {v : Γ ∋ 1}
+      → Resolved (c ∷ Γ) (x ▹ scope) e₂ τ t₂
+      → Resolved Γ scope (raw.bind p x e₁ e₂) τ (terms.bind t₁ t₂)
+  resolved-const : {Γ : List ValueType} {scope : All Name Γ} {p : ℕ} {z : ℤ} → Resolved Γ scope (raw.const p z) int (terms.const z)
+  resolved-iota : {Γ : List ValueType} {scope : All Name Γ} {p : ℕ} {x : Variable} {v : Γ ∋ int}
+      → asInt (asScalar (find x scope)) ≡ some v
+      → Resolved Γ scope (raw.iota p x) (braces int) (terms.iota v)
+  resolved-plus : {Γ : List ValueType} {scope : All Name Γ} {p : ℕ} {x y : Variable} {v w : Γ ∋ int}
+      → asInt (asScalar (find x scope)) ≡ some v
+      → asInt (asScalar (find y scope)) ≡ some w
+      → Resolved Γ scope (raw.plus p x y) int (terms.plus v w)
+  resolved-sum : {Γ : List ValueType} {scope : All Name Γ} {p : ℕ} {x : Variable} {v : Γ ∋ braces int}
       → asInts (asSequence (find x scope)) ≡ some v
-      → Resolved Γ scope (raw.sum p x) 0 (terms.sum v)
-  resolved-each : {Γ : List ℕ} {scope : All Name Γ} {p c d : ℕ} {x y : Variable} {us : List Variable} {e : Raw} {v : Γ ∋ suc c}
-      {ls : List (Variable × (Γ ∋ 0))} {t : Term (c ∷ listedTypes (pointers ls)) d}
+      → Resolved Γ scope (raw.sum p x) int (terms.sum v)
+  resolved-each : {Γ : List ValueType} {scope : All Name Γ} {p : ℕ} {c τ : ValueType} {x y : Variable} {us : List Variable} {e : Raw} {v : Γ ∋ braces c}
+      {ls : NamedScalars Γ} {t : Term (c ∷ listedTypes (anyType (pointers ls))) τ}
       → asSequence (find y scope) ≡ sequence c v
-      → listedInts scope us ≡ some ls
-      → Resolved (c ∷ listedTypes (pointers ls)) (x ▹ listedNames ls) e d t
-      → Resolved Γ scope (raw.each p x y us e) (suc d) (terms.each v (pointers ls) t)
+      → listedScalars scope us ≡ some ls
+      → Resolved (c ∷ listedTypes (anyType (pointers ls))) (x ▹ listedNames ls) e τ t
+      → Resolved Γ scope (raw.each p x y us e) (braces τ) (terms.each v (pointers ls) t)
 
 -- ---- what checking answers, beside what the rules have
 
-abbrev pub Untyped : {Γ : List ℕ} → All Name Γ → Raw → Type 0
-Untyped scope e = (d : ℕ) → Types (typesOf scope) e d → ⊥
+abbrev pub Untyped : {Γ : List ValueType} → All Name Γ → Raw → Type 0
+Untyped scope e = (τ : ValueType) → Types (typesOf scope) e τ → ⊥
 
-pub data Checked {Γ : List ℕ} (scope : All Name Γ) (e : Raw) : Typed Γ → Type 0 where
-  passed : {d : ℕ} {t : Term Γ d} → Types (typesOf scope) e d → Resolved Γ scope e d t → Checked scope e (typed d t)
+pub data Checked {Γ : List ValueType} (scope : All Name Γ) (e : Raw) : Typed Γ → Type 0 where
+  passed : {τ : ValueType} {t : Term Γ τ} → Types (typesOf scope) e τ → Resolved Γ scope e τ t → Checked scope e (typed τ t)
   unbound : {p : ℕ} → Untyped scope e → Checked scope e (refused (Unbound p))
   mistyped : {p : ℕ} → Untyped scope e → Checked scope e (refused (WrongType p))
 
-module _ {Γ : List ℕ} {scope : All Name Γ} {e : Raw} (p : ℕ) where
+module _ {Γ : List ValueType} {scope : All Name Γ} {e : Raw} (p : ℕ) where
   names-asked : (b : Bool) (r : Typed Γ) → (b ≡ false → Untyped scope e) → (b ≡ true → Checked scope e r) → Checked scope e (demand b (Unbound p) r)
   names-asked true r f g = g refl
   names-asked false r f g = unbound (f refl)
@@ -273,20 +291,20 @@ module _ {Γ : List ℕ} {scope : All Name Γ} {e : Raw} (p : ℕ) where
   if-asked none f g h = mistyped (g refl)
   if-asked (some a) f g h = h a refl
 
-  sequence-asked : (o : Sequence Γ) (f : (c : ℕ) → Γ ∋ suc c → Typed Γ)
+  sequence-asked : (o : Sequence Γ) (f : (c : ValueType) → Γ ∋ braces c → Typed Γ)
       → (o ≡ noSequence → Untyped scope e)
-      → ((c : ℕ) (v : Γ ∋ suc c) → o ≡ sequence c v → Checked scope e (f c v))
+      → ((c : ValueType) (v : Γ ∋ braces c) → o ≡ sequence c v → Checked scope e (f c v))
       → Checked scope e (typedSequence p o f)
   sequence-asked noSequence f g h = mistyped (g refl)
   sequence-asked (sequence c v) f g h = h c v refl
 
 -- a part that has no type, then one that has
-part-asked : {Γ Δ : List ℕ} {scope : All Name Γ} {inner : All Name Δ} {e e′ : Raw} {r : Typed Δ} (f : (d : ℕ) → Term Δ d → Typed Γ)
+part-asked : {Γ Δ : List ValueType} {scope : All Name Γ} {inner : All Name Δ} {e e′ : Raw} {r : Typed Δ} (f : (τ : ValueType) → Term Δ τ → Typed Γ)
     → Checked inner e′ r
     → (Untyped inner e′ → Untyped scope e)
-    → ((d : ℕ) (t : Term Δ d) → Types (typesOf inner) e′ d → Resolved Δ inner e′ d t → Checked scope e (f d t))
+    → ((τ : ValueType) (t : Term Δ τ) → Types (typesOf inner) e′ τ → Resolved Δ inner e′ τ t → Checked scope e (f τ t))
     → Checked scope e (typedThen r f)
-part-asked f (passed {d = d} {t = t} h w) g k = k d t h w
+part-asked f (passed {τ = τ} {t = t} h w) g k = k τ t h w
 part-asked f (unbound n) g k = unbound (g n)
 part-asked f (mistyped n) g k = mistyped (g n)
 
@@ -294,15 +312,15 @@ either-false : (a b : Bool) → (a && b) ≡ false → (a ≡ false) ⊎ (b ≡ 
 either-false true b e = inr e
 either-false false b e = inl refl
 
-module _ {Γ : List ℕ} (scope : All Name Γ) (p : ℕ) where
+module _ {Γ : List ValueType} (scope : All Name Γ) (p : ℕ) where
   checking-var : (x : Variable) → Checked scope (raw.var p x) (check scope (raw.var p x))
   unfolding check
   checking-var x = go (find x scope) refl (finding scope x)
     where
       go : (f : Found Γ) → find x scope ≡ f → Finds scope x f
-          → Checked scope (raw.var p x) (elim f [ missing ↦ refused (Unbound p) | found d v ↦ typed d (terms.var v) ])
-      go missing q (finds-none h) = unbound (λ d k. h d (of-var k))
-      go (found d v) q (finds-one h) = passed (types-var h) (resolved-var q)
+          → Checked scope (raw.var p x) (elim f [ missing ↦ refused (Unbound p) | found τ v ↦ typed τ (terms.var v) ])
+      go missing q (finds-none h) = unbound (λ τ k. h τ (of-var k))
+      go (found τ v) q (finds-one h) = passed (types-var h) (resolved-var q)
 
   checking-const : (z : ℤ) → Checked scope (raw.const p z) (check scope (raw.const p z))
   unfolding check
@@ -312,8 +330,8 @@ module _ {Γ : List ℕ} (scope : All Name Γ) (p : ℕ) where
   unfolding check
   checking-iota x =
       let f = finding scope x in
-      names-asked p (isBound (find x scope)) _ (λ q d k. unbound-name f q (of-iota k .0))
-      (λ b. if-asked p (asInt (find x scope)) (λ v. typed 1 (terms.iota v)) (λ q d k. no-int f q (of-iota k .0))
+      names-asked p (isBound (find x scope)) _ (λ q τ k. unbound-name f q (of-iota k .0))
+      (λ b. if-asked p (asInt (asScalar (find x scope))) (λ v. typed (braces int) (terms.iota v)) (λ q τ k. no-int f q (of-iota k .0))
       (λ v q. passed (types-call calls-iota takes-iota (maps-more (an-int f q) maps-none)) (resolved-iota q)))
 
   checking-plus : (x y : Variable) → Checked scope (raw.plus p x y) (check scope (raw.plus p x y))
@@ -322,105 +340,104 @@ module _ {Γ : List ℕ} (scope : All Name Γ) (p : ℕ) where
       let f = finding scope x in
       let g = finding scope y in
       names-asked p (isBound (find x scope) && isBound (find y scope)) _
-      (λ q d k. ⊎-elim (λ r. unbound-name f r (of-plus k .0)) (λ r. unbound-name g r (of-plus k .1)) (either-false _ _ q))
-      (λ b. if-asked p (asInt (find x scope)) (λ v. typedIf p (asInt (find y scope)) (λ w. typed 0 (terms.plus v w))) (λ q d k. no-int f q (of-plus k .0))
-      (λ v q. if-asked p (asInt (find y scope)) (λ w. typed 0 (terms.plus v w)) (λ r d k. no-int g r (of-plus k .1))
+      (λ q τ k. ⊎-elim (λ r. unbound-name f r (of-plus k .0)) (λ r. unbound-name g r (of-plus k .1)) (either-false _ _ q))
+      (λ b. if-asked p (asInt (asScalar (find x scope))) (λ v. typedIf p (asInt (asScalar (find y scope))) (λ w. typed int (terms.plus v w))) (λ q τ k. no-int f q (of-plus k .0))
+      (λ v q. if-asked p (asInt (asScalar (find y scope))) (λ w. typed int (terms.plus v w)) (λ r τ k. no-int g r (of-plus k .1))
       (λ w r. passed (types-call calls-plus takes-plus (maps-more (an-int f q) (maps-more (an-int g r) maps-none))) (resolved-plus q r))))
 
   checking-sum : (x : Variable) → Checked scope (raw.sum p x) (check scope (raw.sum p x))
   unfolding check
   checking-sum x =
       let f = finding scope x in
-      names-asked p (isBound (find x scope)) _ (λ q d k. unbound-name f q (of-sum k .0))
-      (λ b. if-asked p (asInts (asSequence (find x scope))) (λ v. typed 0 (terms.sum v)) (λ q d k. no-ints f q (of-sum k .0))
+      names-asked p (isBound (find x scope)) _ (λ q τ k. unbound-name f q (of-sum k .0))
+      (λ b. if-asked p (asInts (asSequence (find x scope))) (λ v. typed int (terms.sum v)) (λ q τ k. no-ints f q (of-sum k .0))
       (λ v q. passed (types-call calls-sum takes-sum (maps-more (some-ints f q) maps-none)) (resolved-sum q)))
 
   checking-let : (x : Variable) (e₁ e₂ : Raw)
       → Checked scope e₁ (check scope e₁)
-      → ((c : ℕ) → Checked (_▹_ {d = c} x scope) e₂ (check (_▹_ {d = c} x scope) e₂))
+      → ((c : ValueType) → Checked (_▹_ {τ = c} x scope) e₂ (check (_▹_ {τ = c} x scope) e₂))
       → Checked scope (raw.bind p x e₁ e₂) (check scope (raw.bind p x e₁ e₂))
   unfolding check typesOf
   checking-let x e₁ e₂ h₁ h₂ =
-      part-asked (λ c t₁. typedThen (check (_▹_ {d = c} x scope) e₂) (λ d t₂. typed d (terms.bind t₁ t₂))) h₁ (λ n d k. let (c, k₁, k₂) = of-let k in n c k₁)
+      part-asked (λ c t₁. typedThen (check (_▹_ {τ = c} x scope) e₂) (λ τ t₂. typed τ (terms.bind t₁ t₂))) h₁ (λ n τ k. let (c, k₁, k₂) = of-let k in n c k₁)
       (λ c t₁ k₁ w₁.
-      part-asked (λ d t₂. typed d (terms.bind t₁ t₂)) (h₂ c) (λ n d k. let (b, j₁, j₂) = of-let k in n d (subst (λ a. Types (named x a (typesOf scope)) e₂ d) (types-once j₁ k₁) j₂))
-      (λ d t₂ k₂ w₂. passed (types-let k₁ k₂) (resolved-let w₁ w₂)))
+      part-asked (λ τ t₂. typed τ (terms.bind t₁ t₂)) (h₂ c) (λ n τ k. let (b, j₁, j₂) = of-let k in n τ (subst (λ a. Types (named x a (typesOf scope)) e₂ τ) (types-once j₁ k₁) j₂))
+      (λ τ t₂ k₂ w₂. passed (types-let k₁ k₂) (resolved-let w₁ w₂)))
 
   -- the body of a comprehension that has its types is the one that was checked
-  body-typed : {x y : Variable} {us : List Variable} {e : Raw} {c d : ℕ} {Δ : Env ℕ}
-      → Maps (typesOf scope) y (suc c)
-      → Listed IsInt (typesOf scope) us Δ
-      → OfEach (typesOf scope) x y us e d
-      → (b : ℕ) × Types (named x c Δ) e b × (suc b ≤ mostDepth)
+  body-typed : {x y : Variable} {us : List Variable} {e : Raw} {c τ : ValueType} {Δ : Env ValueType}
+      → Maps (typesOf scope) y (braces c)
+      → Listed IsScalar (typesOf scope) us Δ
+      → OfEach (typesOf scope) x y us e τ
+      → (b : ValueType) × Types (named x c Δ) e b × (suc (depthOf b) ≤ mostDepth)
   body-typed {x} {e = e} {c = c} {Δ = Δ} h l r =
-      let same-item : suc c ≡ suc (r .item) = maps-once h (r .sequence-is) in
-      let i : c ≡ r .item = omega arith in
+      let i : c ≡ r .item = braces-same (maps-once h (r .sequence-is)) in
       let q = listed-once l (r .listed) in
       let same-scope : named x c Δ ≡ named x (r .item) (r .inside) = λ j. named x (i j) (q j) in
       (r .body, subst (λ Γ. Types Γ e (r .body)) (sym same-scope) (r .body-is), r .deep)
 
   checking-each : (x y : Variable) (us : List Variable) (e : Raw)
-      → ((c : ℕ) (ls : List (Variable × (Γ ∋ 0))) → Checked (_▹_ {d = c} x (listedNames ls)) e (check (_▹_ {d = c} x (listedNames ls)) e))
+      → ((c : ValueType) (ls : NamedScalars Γ) → Checked (_▹_ {τ = c} x (listedNames ls)) e (check (_▹_ {τ = c} x (listedNames ls)) e))
       → Checked scope (raw.each p x y us e) (check scope (raw.each p x y us e))
   unfolding check typesOf
   checking-each x y us e body =
       let f = finding scope y in
-      let shut : (c : ℕ) → Γ ∋ suc c → (ls : List (Variable × (Γ ∋ 0))) → (d : ℕ) → Term (c ∷ listedTypes (pointers ls)) d → Typed Γ =
-      λ c v ls d t. demand (ltb d mostDepth) (WrongType p) (typed (suc d) (terms.each v (pointers ls) t)) in
-      let inside : (c : ℕ) → Γ ∋ suc c → List (Variable × (Γ ∋ 0)) → Typed Γ =
-      λ c v ls. typedThen (check (_▹_ {d = c} x (listedNames ls)) e) (shut c v ls) in
+      let shut : (c : ValueType) → Γ ∋ braces c → (ls : NamedScalars Γ) → (τ : ValueType) → Term (c ∷ listedTypes (anyType (pointers ls))) τ → Typed Γ =
+      λ c v ls τ t. demand (ltb (depthOf τ) mostDepth) (WrongType p) (typed (braces τ) (terms.each v (pointers ls) t)) in
+      let inside : (c : ValueType) → Γ ∋ braces c → NamedScalars Γ → Typed Γ =
+      λ c v ls. typedThen (check (_▹_ {τ = c} x (listedNames ls)) e) (shut c v ls) in
       names-asked p (isBound (find y scope) && usable scope x us) _
-      (λ q d k. let r = of-each k in
+      (λ q τ k. let r = of-each k in
       ⊎-elim (λ z. unbound-name f z (r .sequence-is)) (λ z. usable-false scope x us z (r .listed) (r .apart) (r .once)) (either-false _ _ q))
       (λ named-well.
       let (a, o) = usable-true scope x us (both-true (isBound (find y scope)) _ named-well .1) in
-      sequence-asked p (asSequence (find y scope)) (λ c v. typedIf p (listedInts scope us) (inside c v)) (λ q d k. no-sequence f q (of-each k .sequence-is))
+      sequence-asked p (asSequence (find y scope)) (λ c v. typedIf p (listedScalars scope us) (inside c v)) (λ q τ k. no-sequence f q (of-each k .sequence-is))
       (λ c v qv.
       let h = a-sequence f qv in
-      if-asked p (listedInts scope us) (inside c v) (λ q d k. not-ints scope us q (of-each k .listed))
+      if-asked p (listedScalars scope us) (inside c v) (λ q τ k. not-scalars scope us q (of-each k .listed))
       (λ ls ql.
-      let l = all-ints scope us ql in
-      part-asked (shut c v ls) (body c ls) (λ n d k. let (b, t, z) = body-typed h l (of-each k) in n b t)
-      (λ d t k w.
-      type-asked p (ltb d mostDepth) _
-      (λ q b j. let (b′, k′, z) = body-typed h l (of-each j) in omega (arith, ltb-false d mostDepth q, types-once k′ k, z))
-      (λ q. passed (types-each h l a o k (ltb-true d mostDepth q)) (resolved-each qv ql w))))))
+      let l = all-scalars scope us ql in
+      part-asked (shut c v ls) (body c ls) (λ n τ k. let (b, t, z) = body-typed h l (of-each k) in n b t)
+      (λ τ t k w.
+      type-asked p (ltb (depthOf τ) mostDepth) _
+      (λ q b j. let (b′, k′, z) = body-typed h l (of-each j) in omega (arith, ltb-false (depthOf τ) mostDepth q, ap depthOf (types-once k′ k), z))
+      (λ q. passed (types-each h l a o k (ltb-true (depthOf τ) mostDepth q)) (resolved-each qv ql w))))))
 
-pub checking : {Γ : List ℕ} (scope : All Name Γ) (e : Raw) → Checked scope e (check scope e)
+pub checking : {Γ : List ValueType} (scope : All Name Γ) (e : Raw) → Checked scope e (check scope e)
 checking scope (raw.var p x) = checking-var scope p x
-checking scope (raw.bind p x e₁ e₂) = checking-let scope p x e₁ e₂ (checking scope e₁) (λ c. checking (_▹_ {d = c} x scope) e₂)
+checking scope (raw.bind p x e₁ e₂) = checking-let scope p x e₁ e₂ (checking scope e₁) (λ c. checking (_▹_ {τ = c} x scope) e₂)
 checking scope (raw.const p z) = checking-const scope p z
 checking scope (raw.iota p x) = checking-iota scope p x
 checking scope (raw.plus p x y) = checking-plus scope p x y
 checking scope (raw.sum p x) = checking-sum scope p x
-checking scope (raw.each p x y us e) = checking-each scope p x y us e (λ c ls. checking (_▹_ {d = c} x (listedNames ls)) e)
+checking scope (raw.each p x y us e) = checking-each scope p x y us e (λ c ls. checking (_▹_ {τ = c} x (listedNames ls)) e)
 
 -- ---- the theorems
 
-module _ {Γ : List ℕ} {scope : All Name Γ} {e : Raw} where
-  of-passed : {d : ℕ} {t : Term Γ d} → Checked scope e (typed d t) → Types (typesOf scope) e d × Resolved Γ scope e d t
+module _ {Γ : List ValueType} {scope : All Name Γ} {e : Raw} where
+  of-passed : {τ : ValueType} {t : Term Γ τ} → Checked scope e (typed τ t) → Types (typesOf scope) e τ × Resolved Γ scope e τ t
   of-passed (passed h w) = (h, w)
 
   of-refused : {r : Refusal} → Checked scope e (refused r) → Untyped scope e × (((p : ℕ) × (r ≡ Unbound p)) ⊎ ((p : ℕ) × (r ≡ WrongType p)))
   of-refused (unbound {p = p} n) = (n, inl (p, refl))
   of-refused (mistyped {p = p} n) = (n, inr (p, refl))
 
-  has-term : {r : Typed Γ} {d : ℕ} → Checked scope e r → Types (typesOf scope) e d → (t : Term Γ d) × (r ≡ typed d t)
-  has-term (passed {d = c} {t = u} h w) k = subst (λ n. (t : Term Γ n) × (typed c u ≡ typed n t)) (types-once h k) (u, refl)
-  has-term {d = d} (unbound n) k = absurd (n d k)
-  has-term {d = d} (mistyped n) k = absurd (n d k)
+  has-term : {r : Typed Γ} {τ : ValueType} → Checked scope e r → Types (typesOf scope) e τ → (t : Term Γ τ) × (r ≡ typed τ t)
+  has-term (passed {τ = c} {t = u} h w) k = subst (λ n. (t : Term Γ n) × (typed c u ≡ typed n t)) (types-once h k) (u, refl)
+  has-term {τ = τ} (unbound n) k = absurd (n τ k)
+  has-term {τ = τ} (mistyped n) k = absurd (n τ k)
 
   has-none : {r : Typed Γ} → Checked scope e r → Untyped scope e → (why : Refusal) × (r ≡ refused why)
-  has-none (passed {d = d} h w) n = absurd (n d h)
+  has-none (passed {τ = τ} h w) n = absurd (n τ h)
   has-none (unbound {p = p} m) n = (Unbound p, refl)
   has-none (mistyped {p = p} m) n = (WrongType p, refl)
 
-module _ {Γ : List ℕ} (scope : All Name Γ) (e : Raw) where
-  pub resolved : {d : ℕ} {t : Term Γ d} → check scope e ≡ typed d t → Resolved Γ scope e d t
+module _ {Γ : List ValueType} (scope : All Name Γ) (e : Raw) where
+  pub resolved : {τ : ValueType} {t : Term Γ τ} → check scope e ≡ typed τ t → Resolved Γ scope e τ t
   resolved q = of-passed (subst (Checked scope e) q (checking scope e)) .1
 
-  pub typed-exactly : (d : ℕ) → ((t : Term Γ d) × (check scope e ≡ typed d t)) ↔ Types (typesOf scope) e d
-  typed-exactly d = (λ (t, q). of-passed (subst (Checked scope e) q (checking scope e)) .0, λ k. has-term (checking scope e) k)
+  pub typed-exactly : (τ : ValueType) → ((t : Term Γ τ) × (check scope e ≡ typed τ t)) ↔ Types (typesOf scope) e τ
+  typed-exactly τ = (λ (t, q). of-passed (subst (Checked scope e) q (checking scope e)) .0, λ k. has-term (checking scope e) k)
 
   pub refused-exactly : ((why : Refusal) × (check scope e ≡ refused why)) ↔ Untyped scope e
   refused-exactly = (λ (why, q). of-refused (subst (Checked scope e) q (checking scope e)) .0, λ n. has-none (checking scope e) n)
@@ -429,7 +446,7 @@ module _ {Γ : List ℕ} (scope : All Name Γ) (e : Raw) where
   refused-by q = of-refused (subst (Checked scope e) q (checking scope e)) .1
 
 -- every Γ is that of some names
-pub scoped : (Γ : Env ℕ) → (ds : List ℕ) × (scope : All Name ds) × (typesOf scope ≡ Γ)
+pub scoped : (Γ : Env ValueType) → (τs : List ValueType) × (scope : All Name τs) × (typesOf scope ≡ Γ)
 unfolding typesOf
 scoped nothing = ([], ∅, refl)
-scoped (named x d Γ) = let (ds, scope, q) = scoped Γ in (d ∷ ds, x ▹ scope, ap (named x d) q)
+scoped (named x τ Γ) = let (τs, scope, q) = scoped Γ in (τ ∷ τs, x ▹ scope, ap (named x τ) q)

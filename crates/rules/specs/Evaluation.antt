@@ -1,18 +1,18 @@
 -- The evaluation rules (002, 1.1.3) over names and values of no type, with 01's range and sum. That the rules give no value is that there is no derivation.
 use Prim.Native.Nat.{ℕ, zero, suc}
-use mathlib.Core.Bool.{true}
+use mathlib.Core.Bool.{Bool, true}
 use mathlib.Core.List.{List, [], _∷_}
 use mathlib.Core.Path.{_≡_}
 use lib.IntN.{ℤ, pos, _+ℤ_}
 use Rattle.snesl.specs.declared.code.Variable.{Variable}
-use Rattle.snesl.specs.Values.{Val, inRange}
+use Rattle.snesl.specs.Values.{ValueType, Val, inRange}
 use Rattle.snesl.specs.Terms.{All}
 use Rattle.snesl.specs.Records as raw
 use Rattle.snesl.specs.Records.{Raw}
 use Rattle.snesl.specs.Checking.{Name}
 use Rattle.rules.specs.Names.{Env, named, Maps, MapsAll, Listed, envOf}
 use Rattle.rules.specs.Typing.{BuiltIn, const, iota, plus, sum, Calls}
-use Rattle.rules.specs.Values.{Value, Values, int, braces, empty, item, plain}
+use Rattle.rules.specs.Values.{Value, Values, int, bool, braces, empty, item, plain}
 
 -- k, k + 1, .., n of them, each in range
 pub data Counts : ℕ → ℕ → Values → Type 0 where
@@ -31,8 +31,10 @@ pub data Gives : BuiltIn → List Value → Value → Type 0 where
   gives-plus : {n₁ n₂ n₃ : ℤ} → n₃ ≡ n₁ +ℤ n₂ → inRange n₃ ≡ true → Gives plus (int n₁ ∷ int n₂ ∷ []) (int n₃)
   gives-sum : {vs : Values} {n : ℤ} → Totals vs n → inRange n ≡ true → Gives sum (braces vs ∷ []) (int n)
 
-pub data Number : Value → Type 0 where
-  number : {n : ℤ} → Number (int n)
+-- n, T or F
+pub data Scalar : Value → Type 0 where
+  number : {n : ℤ} → Scalar (int n)
+  truth : {c : Bool} → Scalar (bool c)
 
 -- ρ ⊢ e ↓ v, and the same of a body for each item of a sequence
 mutual
@@ -49,7 +51,7 @@ mutual
         → Evaluates ρ e v
     evaluates-each : {ρ inside : Env Value} {p : ℕ} {x y : Variable} {us : List Variable} {e : Raw} {vs ws : Values}
         → Maps ρ y (braces vs)
-        → Listed Number ρ us inside
+        → Listed Scalar ρ us inside
         → EvaluatesEach x inside e vs ws
         → Evaluates ρ (raw.each p x y us e) (braces ws)
 
@@ -61,5 +63,5 @@ mutual
         → EvaluatesEach x ρ e (item v vs) (item w ws)
 
 -- the ρ of names and their values
-abbrev pub valuesOf : {Γ : List ℕ} → All Name Γ → All Val Γ → Env Value
+abbrev pub valuesOf : {Γ : List ValueType} → All Name Γ → All Val Γ → Env Value
 valuesOf scope ρ = envOf plain scope ρ

@@ -4,9 +4,11 @@ use mathlib.Core.List.{List, [], _∷_, _++_, map}
 use mathlib.Core.Path.{_≡_}
 use lib.IntN.{ℤ}
 use lib.ListN.{length}
+use Rattle.snesl.specs.declared.code.Base.{Base}
+use Rattle.snesl.specs.declared.code.Base.the-variants as base
 use Rattle.snesl.specs.declared.code.Variable.{Variable}
 use Rattle.snesl.specs.Ascii.{ascii}
-use Rattle.snesl.specs.Notation.{IN, VR, LT, IO, PL, SM, EA}
+use Rattle.snesl.specs.Notation.{IN, IB, VR, LT, IO, PL, SM, EA}
 use Rattle.snesl.specs.Limits.{mostBytes, mostInputs, mostRecords, mostNesting, mostListed, mostDepth, lastVariable}
 use Rattle.snesl.specs.Values.{Each}
 use Rattle.snesl.specs.Records as raw
@@ -43,11 +45,16 @@ pub data Spells : (levels k : ℕ) → List ℕ → Raw → (records : ℕ) → 
       → n ≡ 1 + n₁
       → Spells (suc l) k bs (raw.each k x y us e) n
 
--- IN records, at most `left`, from offset k on
+-- the record of an input: IN for braces round int, IB for braces round bool
+abbrev pub inputRecord : Base → (x depth : ℕ) → List ℕ
+inputRecord base.Int x d = IN x d
+inputRecord base.Bool x d = IB x d
+
+-- input records, at most `left`, from offset k on
 pub data SpellsInputs : (left k : ℕ) → List ℕ → List Input → Type 0 where
   inputs-none : {left k : ℕ} → SpellsInputs left k [] []
   inputs-more : {left k : ℕ} {bs rest : List ℕ} {i : Input} {is : List Input}
-      → bs ≡ IN (i .name .0) (i .depth) ++ rest
+      → bs ≡ inputRecord (i .base) (i .name .0) (i .depth) ++ rest
       → i .place ≡ k
       → Names (i .name)
       → i .depth ≤ mostDepth

@@ -1,8 +1,8 @@
 -- 002's environments, mappings from variables (Γ, ρ and δ), as they are made up: nothing, or one variable more, which hides an older one of its name.
 use mathlib.Core.List.{List, [], _∷_}
 use mathlib.Core.Path.{_≡_}
-use Prim.Native.Nat.{ℕ}
 use Rattle.snesl.specs.declared.code.Variable.{Variable}
+use Rattle.snesl.specs.Values.{ValueType}
 use Rattle.snesl.specs.Terms.{All, ∅, _▹_}
 use Rattle.snesl.specs.Checking.{Name}
 
@@ -30,6 +30,6 @@ pub data Listed {A : Type 0} (Must : A → Type 0) (Γ : Env A) : List Variable 
       → Listed Must Γ (u ∷ us) (named u a Δ)
 
 -- the mapping of names to what stands beside them in a context, with f applied to each
-unfoldable pub envOf : {P : ℕ → Type 0} {A : Type 0} {Γ : List ℕ} → ((d : ℕ) → P d → A) → All Name Γ → All P Γ → Env A
+unfoldable pub envOf : {P : ValueType → Type 0} {A : Type 0} {Γ : List ValueType} → ((τ : ValueType) → P τ → A) → All Name Γ → All P Γ → Env A
 envOf f ∅ ∅ = nothing
-envOf f (_▹_ {d = d} x scope) (p ▹ ps) = named x (f d p) (envOf f scope ps)
+envOf f (_▹_ {τ = τ} x scope) (p ▹ ps) = named x (f τ p) (envOf f scope ps)

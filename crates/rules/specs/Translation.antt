@@ -3,6 +3,7 @@ use Prim.Native.Nat.{ℕ, suc, _+_}
 use mathlib.Core.List.{List, [], _∷_, _++_}
 use mathlib.Core.Path.{_≡_}
 use lib.IntN.{ℤ, pos}
+use Rattle.snesl.specs.declared.code.Operation.the-variants.{Plus}
 use Rattle.snesl.specs.declared.code.Variable.{Variable}
 use Rattle.snesl.specs.Programs.{without, among, ascending}
 use Rattle.snesl.specs.Records as raw
@@ -29,7 +30,7 @@ fv (seq p q) = fv p ++ without (fv q) (dv p)
 -- φ(st1, .., stk) ⇒ (p, st), with ids from s0 up to s1. 002's iota takes s1 into its WithCtrl; here, as in 01, it takes in nothing.
 pub data Becomes : BuiltIn → List STree → (s₀ s₁ : ℕ) → Svcode → STree → Type 0 where
   becomes-const : {n : ℤ} {s₀ s₁ : ℕ} → s₁ ≡ s₀ + 1 → Becomes (const n) [] s₀ s₁ (assign s₀ (xducers.const n) []) (one s₀)
-  becomes-plus : {r s s₀ s₁ : ℕ} → s₁ ≡ s₀ + 1 → Becomes plus (one r ∷ one s ∷ []) s₀ s₁ (assign s₀ xducers.mapTwoPlus (r ∷ s ∷ [])) (one s₀)
+  becomes-plus : {r s s₀ s₁ : ℕ} → s₁ ≡ s₀ + 1 → Becomes plus (one r ∷ one s ∷ []) s₀ s₁ (assign s₀ (xducers.mapTwo Plus) (r ∷ s ∷ [])) (one s₀)
   becomes-iota : {s s₀ a b c s₁ : ℕ}
       → a ≡ s₀ + 1
       → b ≡ s₀ + 2

@@ -3,9 +3,10 @@ use Prim.Native.Nat.{ℕ, suc}
 use mathlib.Core.List.{List, [], _∷_, _++_}
 use mathlib.Core.Option.{some}
 use mathlib.Core.Path.{_≡_}
+use Rattle.snesl.specs.Values.{ValueType}
 use Rattle.snesl.specs.Streams.{Stream}
 use Rattle.snesl.specs.Terms.{All}
-use Rattle.snesl.specs.Trees.{Tree, leaf, node}
+use Rattle.snesl.specs.Trees.{Tree, IdTree, leaf, node}
 use Rattle.snesl.specs.Checking.{Name}
 use Rattle.rules.specs.Names.{Env, envOf}
 use Rattle.rules.specs.Instructions.{Stores}
@@ -31,5 +32,5 @@ plainTree (leaf s) = one s
 plainTree (node st s) = pair (plainTree st) s
 
 -- the δ of names and their trees
-abbrev pub treesOf : {Γ : List ℕ} → All Name Γ → All (Tree ℕ) Γ → Env STree
-treesOf scope δ = envOf (λ d. plainTree) scope δ
+abbrev pub treesOf : {Γ : List ValueType} → All Name Γ → All IdTree Γ → Env STree
+treesOf scope δ = envOf (λ τ. plainTree) scope δ

@@ -3,13 +3,14 @@ use Prim.Native.Nat.{ℕ, suc, _≤_}
 use mathlib.Core.List.{List, [], _∷_}
 use mathlib.Core.Path.{_≡_}
 use lib.IntN.{ℤ}
+use Rattle.snesl.specs.declared.code.Base.{Base}
 use Rattle.snesl.specs.declared.code.Variable.{Variable}
 use Rattle.snesl.specs.Limits.{mostDepth}
-use Rattle.snesl.specs.Values.{Each}
+use Rattle.snesl.specs.Values.{ValueType, scalar, braces, int, depthOf, Each}
 use Rattle.snesl.specs.Terms.{All, ∅, _▹_}
 use Rattle.snesl.specs.Records as raw
 use Rattle.snesl.specs.Records.{Raw, Input}
-use Rattle.snesl.specs.Checking.{Name}
+use Rattle.snesl.specs.Checking.{Name, inputType}
 use Rattle.rules.specs.Names.{Env, nothing, named, Maps, MapsAll, Listed}
 
 -- φ ::= constn | iota | plus, and 01's sum
@@ -26,12 +27,12 @@ pub data Calls : Raw → BuiltIn → List Variable → Type 0 where
   calls-plus : {p : ℕ} {x y : Variable} → Calls (raw.plus p x y) plus (x ∷ y ∷ [])
   calls-sum : {p : ℕ} {x : Variable} → Calls (raw.sum p x) sum (x ∷ [])
 
--- φ : (τ1, .., τk) → τ. A type is its depth: 0 is int, 1 is {int}.
-pub data Takes : BuiltIn → List ℕ → ℕ → Type 0 where
-  takes-const : {z : ℤ} → Takes (const z) [] 0
-  takes-iota : Takes iota (0 ∷ []) 1
-  takes-plus : Takes plus (0 ∷ 0 ∷ []) 0
-  takes-sum : Takes sum (1 ∷ []) 0
+-- φ : (τ1, .., τk) → τ
+pub data Takes : BuiltIn → List ValueType → ValueType → Type 0 where
+  takes-const : {z : ℤ} → Takes (const z) [] int
+  takes-iota : Takes iota (int ∷ []) (braces int)
+  takes-plus : Takes plus (int ∷ int ∷ []) int
+  takes-sum : Takes sum (braces int ∷ []) int
 
 -- x is not in the list
 abbrev pub Unlisted : Variable → List Variable → Type 0
@@ -42,44 +43,45 @@ pub data Once : List Variable → Type 0 where
   once-none : Once []
   once-more : {u : Variable} {us : List Variable} → Unlisted u us → Once us → Once (u ∷ us)
 
-abbrev pub IsInt : ℕ → Type 0
-IsInt d = d ≡ 0
+-- int or bool
+pub data IsScalar : ValueType → Type 0 where
+  is-scalar : {b : Base} → IsScalar (scalar b)
 
 -- Γ ⊢ e : τ. A comprehension's body sees x and the listed variables and nothing else. 01 adds that x is not listed, that no variable is listed twice, and
 -- that no depth is above its limit.
-pub data Types : Env ℕ → Raw → ℕ → Type 0 where
-  types-var : {Γ : Env ℕ} {p d : ℕ} {x : Variable} → Maps Γ x d → Types Γ (raw.var p x) d
-  types-let : {Γ : Env ℕ} {p c d : ℕ} {x : Variable} {e₁ e₂ : Raw}
-      → Types Γ e₁ c
-      → Types (named x c Γ) e₂ d
-      → Types Γ (raw.bind p x e₁ e₂) d
-  types-call : {Γ : Env ℕ} {e : Raw} {φ : BuiltIn} {xs : List Variable} {ts : List ℕ} {d : ℕ}
+pub data Types : Env ValueType → Raw → ValueType → Type 0 where
+  types-var : {Γ : Env ValueType} {p : ℕ} {τ : ValueType} {x : Variable} → Maps Γ x τ → Types Γ (raw.var p x) τ
+  types-let : {Γ : Env ValueType} {p : ℕ} {υ τ : ValueType} {x : Variable} {e₁ e₂ : Raw}
+      → Types Γ e₁ υ
+      → Types (named x υ Γ) e₂ τ
+      → Types Γ (raw.bind p x e₁ e₂) τ
+  types-call : {Γ : Env ValueType} {e : Raw} {φ : BuiltIn} {xs : List Variable} {τs : List ValueType} {τ : ValueType}
       → Calls e φ xs
-      → Takes φ ts d
-      → MapsAll Γ xs ts
-      → Types Γ e d
-  types-each : {Γ Δ : Env ℕ} {p c d : ℕ} {x y : Variable} {us : List Variable} {e : Raw}
-      → Maps Γ y (suc c)
-      → Listed IsInt Γ us Δ
+      → Takes φ τs τ
+      → MapsAll Γ xs τs
+      → Types Γ e τ
+  types-each : {Γ Δ : Env ValueType} {p : ℕ} {υ τ : ValueType} {x y : Variable} {us : List Variable} {e : Raw}
+      → Maps Γ y (braces υ)
+      → Listed IsScalar Γ us Δ
       → Unlisted x us
       → Once us
-      → Types (named x c Δ) e d
-      → suc d ≤ mostDepth
-      → Types Γ (raw.each p x y us e) (suc d)
+      → Types (named x υ Δ) e τ
+      → suc (depthOf τ) ≤ mostDepth
+      → Types Γ (raw.each p x y us e) (braces τ)
 
 -- a formula's inputs, first one first, added to Γ: 01 asks that each has a name of its own
-pub data Declares : Env ℕ → List Input → Env ℕ → Type 0 where
-  declares-none : {Γ : Env ℕ} → Declares Γ [] Γ
-  declares-more : {Γ Δ : Env ℕ} {i : Input} {is : List Input}
-      → ((d : ℕ) → Maps Γ (i .name) d → ⊥)
-      → Declares (named (i .name) (i .depth) Γ) is Δ
+pub data Declares : Env ValueType → List Input → Env ValueType → Type 0 where
+  declares-none : {Γ : Env ValueType} → Declares Γ [] Γ
+  declares-more : {Γ Δ : Env ValueType} {i : Input} {is : List Input}
+      → ((τ : ValueType) → Maps Γ (i .name) τ → ⊥)
+      → Declares (named (i .name) (inputType i) Γ) is Δ
       → Declares Γ (i ∷ is) Δ
 
 -- a formula, inputs and expression, has type τ
-pub data FormulaTypes (is : List Input) (e : Raw) (d : ℕ) : Type 0 where
-  formula-types : {Γ : Env ℕ} → Declares nothing is Γ → Types Γ e d → FormulaTypes is e d
+pub data FormulaTypes (is : List Input) (e : Raw) (τ : ValueType) : Type 0 where
+  formula-types : {Γ : Env ValueType} → Declares nothing is Γ → Types Γ e τ → FormulaTypes is e τ
 
 -- the Γ of names that Checking.antt keeps beside a context
-unfoldable pub typesOf : {Γ : List ℕ} → All Name Γ → Env ℕ
+unfoldable pub typesOf : {Γ : List ValueType} → All Name Γ → Env ValueType
 typesOf ∅ = nothing
-typesOf (_▹_ {d = d} x scope) = named x d (typesOf scope)
+typesOf (_▹_ {τ = τ} x scope) = named x τ (typesOf scope)

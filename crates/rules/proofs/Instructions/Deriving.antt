@@ -2,7 +2,7 @@
 use Prim.Native.Nat.{ℕ, suc, _+_, _≤_, _<_}
 use native.Mathlib.Omega.{arith}
 use mathlib.Core.Bool.{Bool, true, false}
-use mathlib.Core.List.{List, [], _∷_, _++_, List·Memᴰ·head, List·Memᴰ·tail, List·Memᴰ·not-nil, List·Memᴰ·cases-cons, List·Memᴰ·append-cases, Memᴰ·append-left, Memᴰ·append-right}
+use mathlib.Core.List.{List, [], _∷_, _++_, List·Memᴰ·head, List·Memᴰ·tail, List·Memᴰ·not-nil, List·Memᴰ·cases-cons, List·Memᴰ·eq-of-singleton, List·Memᴰ·append-cases, Memᴰ·append-left, Memᴰ·append-right}
 use mathlib.Core.Logic.{_⊎_, inl, inr, ⊎-elim}
 use mathlib.Core.Option.{Option, some, none}
 use mathlib.Core.Path.{_≡_, refl, sym, ap, _∙_, subst}
@@ -10,8 +10,10 @@ use borrow.Author.Tests.{eqb-false, eq-eqb, ne-eqb}
 use lib.Dec.{eqb}
 use lib.ListN.{length, length-append}
 use Rattle.laws.proofs.Never.{never}
+use Rattle.snesl.specs.declared.code.Base.the-variants as base
+use Rattle.snesl.specs.declared.code.Kind.{Kind}
 use Rattle.snesl.specs.declared.code.Transducer.{Transducer}
-use Rattle.snesl.specs.Streams.{Stream, ints, flags, units, Store, _!_}
+use Rattle.snesl.specs.Streams.{Stream, ints, bools, flags, units, kindOf, Store, _!_}
 use Rattle.snesl.specs.Transducers.{made, apply, operands}
 use Rattle.snesl.specs.Programs as programs
 use Rattle.snesl.specs.Programs.{Program, done, define, count, member, dv, Within, WellFormed, well-done, well-define, well-withCtrl, Scoped, scoped-define, scoped-withCtrl}
@@ -23,11 +25,11 @@ use Rattle.snesl.proofs.Compiled.Members.{_∈_, _∉_, member-true, member-fal
 use Rattle.snesl.proofs.Correctness.RunParts.{step-made, run-skipped, run-body}
 use Rattle.snesl.proofs.Correctness.Grown.{new-stream, next-id}
 use Rattle.snesl.proofs.Bounded.Runs.{Ran, ran-done, ran-define, ran-skip, ran-body, ran, run-done, went-length, grows}
-use Rattle.rules.specs.Xducers.{Kind, gives, xducer, Fetches, fetches-none, fetches-more}
+use Rattle.rules.specs.Xducers.{Xducer, gives, xducer, Fetches, fetches-none, fetches-more}
 use Rattle.rules.specs.Agreement.{Agree, Derived}
-use Rattle.rules.specs.Instructions.{Svcode, withCtrl, firstOf, when, kindIn, emptyOf, Stores, IsEmpty, Runs, p-empty, p-xducer, p-wc-emp, p-wc-nonemp, p-seq, written}
+use Rattle.rules.specs.Instructions.{Svcode, withCtrl, Kinds, firstOf, when, baseFor, givesFor, givenKind, kindIn, kindAt, kindsIn, emptyOf, Stores, IsEmpty, Runs, p-empty, p-xducer, p-wc-emp, p-wc-nonemp, p-seq, written}
 use Rattle.rules.proofs.Xducers.Exactly.{apply-exactly, apply-fetches}
-use Rattle.rules.proofs.Instructions.Stores.{kept, skipped-adds, skipped-kind}
+use Rattle.rules.proofs.Instructions.Stores.{kept, skipped-adds, HasKinds, skipped-kind, covers-kinds}
 
 -- ---- what well-formed code makes known are ids of its own, each of a kind
 
@@ -42,28 +44,85 @@ known-between {s} {u} (well-withCtrl {outs = outs} {b = b} {p = p} w i o a v c) 
     ⊎-elim (λ m. let (low, high) = known-between w (o u m) in (omega arith, omega arith)) (λ m. let (low, high) = known-between v m in (omega arith, omega arith))
     (List·Memᴰ·append-cases outs h)
 
-known-kind : {s u : ℕ} {p : Program} → WellFormed s p → u ∈ dv s p → (k : Kind) × (kindIn (written s p) u ≡ some k)
+no-first : {a b : Option Kind} → a ≡ none → b ≡ none → firstOf a b ≡ none
+no-first p q = λ i. firstOf (p i) (q i)
+
+is-member : {u : ℕ} (outs : List ℕ) → u ∈ outs → member u outs ≡ true
+is-member {u} outs h = go (member u outs) refl
+  where
+    go : (m : Bool) → member u outs ≡ m → m ≡ true
+    go true e = refl
+    go false e = absurd (member-false outs e h)
+
+no-member : {u : ℕ} (outs : List ℕ) → u ∉ outs → member u outs ≡ false
+no-member {u} outs n = go (member u outs) refl
+  where
+    go : (m : Bool) → member u outs ≡ m → m ≡ false
+    go true e = absurd (n (member-true outs e))
+    go false e = refl
+
+-- code makes known no other ids
+no-kind : (p : Program) (s u : ℕ) (κ : Kinds) → u ∉ dv s p → kindIn κ (written s p) u ≡ none
 unfolding dv kindIn written
-known-kind well-done h = absurd (List·Memᴰ·not-nil h)
-known-kind {s} {u} (well-define {t = t} {p = p} a w b) h = go (eqb u s) refl (known-kind w) (List·Memᴰ·cases-cons h)
+no-kind done s u κ n = refl
+no-kind (define t p) s u κ n =
+    no-first (no-kind p (suc s) u _ (λ h. n (List·Memᴰ·tail h))) (ap (when (givenKind κ (xducer t) (operands t))) (ne-eqb u s (λ e. n (List·Memᴰ·head e))))
+no-kind (programs.withCtrl outs c ins b p) s u κ n =
+    no-first (no-kind p (s + count b) u _ (λ h. n (Memᴰ·append-right outs h))) (not-out (member u outs) refl)
   where
-    go : (t′ : Bool) → eqb u s ≡ t′
-        → (u ∈ dv (suc s) p → (k : Kind) × (kindIn (written (suc s) p) u ≡ some k))
-        → (u ≡ s) ⊎ (u ∈ dv (suc s) p)
-        → (k : Kind) × (firstOf (when (some (gives (xducer t))) t′) (kindIn (written (suc s) p) u) ≡ some k)
-    go true e rest m = (gives (xducer t), refl)
-    go false e rest (inl m) = absurd (eqb-false u s e m)
-    go false e rest (inr m) = rest m
-known-kind {u = u} (well-withCtrl {s = s} {outs = outs} {b = b} {p = p} w i o a v c) h = go (member u outs) refl (known-kind w) (known-kind v) (List·Memᴰ·append-cases outs h)
+    not-out : (m : Bool) → member u outs ≡ m → when (kindIn κ (written s b) u) m ≡ none
+    not-out true e = absurd (n (Memᴰ·append-left _ (member-true outs e)))
+    not-out false e = refl
+
+-- two mappings of kinds that know the same of these ids
+record BothKnow (ids : List ℕ) (κ κ₂ : Kinds) : Type 0 where
+  both : (u : ℕ) → u ∈ ids → (k : Kind) × ((κ u ≡ some k) × (κ₂ u ≡ some k))
+
+both-given : {ids : List ℕ} {κ κ₂ : Kinds} → BothKnow ids κ κ₂ → (ψ : Xducer) (ss : List ℕ) → Within ss ids → (k : Kind) × ((givenKind κ ψ ss ≡ some k) × (givenKind κ₂ ψ ss ≡ some k))
+both-given w ψ [] i = (gives base.Int ψ, (refl, refl))
+both-given w ψ (s ∷ []) i = (gives base.Int ψ, (refl, refl))
+both-given w ψ (s ∷ t ∷ ss) i = let (k, (p, q)) = w .both t (i t (List·Memᴰ·tail (List·Memᴰ·head refl))) in (gives (baseFor k) ψ, (ap (givesFor ψ) p, ap (givesFor ψ) q))
+
+both-after : {ids outs all : List ℕ} {κ κ₂ κ′ κ₂′ : Kinds}
+    → BothKnow ids κ κ₂
+    → BothKnow outs κ′ κ₂′
+    → ((u : ℕ) → u ∉ outs → (κ′ u ≡ none) × (κ₂′ u ≡ none))
+    → ((u : ℕ) → u ∈ all → (u ∈ outs) ⊎ (u ∈ ids))
+    → BothKnow all (λ v. firstOf (κ′ v) (κ v)) (λ v. firstOf (κ₂′ v) (κ₂ v))
+both-after {ids} {outs} {all} {κ} {κ₂} {κ′} {κ₂′} w v other parts = record { both = λ u h. go u h (known u outs) }
   where
-    go : (m : Bool) → member u outs ≡ m
-        → (u ∈ dv s b → (k : Kind) × (kindIn (written s b) u ≡ some k))
-        → (u ∈ dv (s + count b) p → (k : Kind) × (kindIn (written (s + count b) p) u ≡ some k))
-        → (u ∈ outs) ⊎ (u ∈ dv (s + count b) p)
-        → (k : Kind) × (firstOf (when (kindIn (written s b) u) m) (kindIn (written (s + count b) p) u) ≡ some k)
-    go true e body rest m = let (k, q) = body (o u (member-true outs e)) in (k, ap (λ o. firstOf o (kindIn (written (s + count b) p) u)) q)
-    go false e body rest (inl m) = absurd (member-false outs e m)
-    go false e body rest (inr m) = rest m
+    go : (u : ℕ) → u ∈ all → (u ∈ outs) ⊎ (u ∉ outs) → (k : Kind) × ((firstOf (κ′ u) (κ u) ≡ some k) × (firstOf (κ₂′ u) (κ₂ u) ≡ some k))
+    go u h (inl m) = let (k, (p, q)) = v .both u m in (k, (ap (λ o. firstOf o (κ u)) p, ap (λ o. firstOf o (κ₂ u)) q))
+    go u h (inr n) =
+        let (p, q) = other u n in
+        let (k, (r, s)) = ⊎-elim (λ m. absurd (n m)) (w .both u) (parts u h) in
+        (k, (ap (λ o. firstOf o (κ u)) p ∙ r, ap (λ o. firstOf o (κ₂ u)) q ∙ s))
+
+-- of the ids that it makes known
+both-known : {s : ℕ} {p : Program} {ids : List ℕ} {κ κ₂ : Kinds} → WellFormed s p → Scoped ids s p → BothKnow ids κ κ₂ → BothKnow (dv s p) (kindIn κ (written s p)) (kindIn κ₂ (written s p))
+unfolding dv kindIn written
+both-known well-done k w = record { both = λ u h. absurd (List·Memᴰ·not-nil h) }
+both-known {ids = ids} {κ = κ} {κ₂ = κ₂} (well-define {s = s} {t = t} {p = p} a f b) (scoped-define i r) w =
+    let one : BothKnow (s ∷ []) (λ v. when (givenKind κ (xducer t) (operands t)) (eqb v s)) (λ v. when (givenKind κ₂ (xducer t) (operands t)) (eqb v s)) =
+    record {
+      both = λ u h. let (k, (x, y)) = both-given w (xducer t) (operands t) i in let e = eq-eqb u s (List·Memᴰ·eq-of-singleton h) in
+          (k, (ap (when (givenKind κ (xducer t) (operands t))) e ∙ x, ap (when (givenKind κ₂ (xducer t) (operands t))) e ∙ y));
+    } in
+    let other : (u : ℕ) → u ∉ (s ∷ []) → (when (givenKind κ (xducer t) (operands t)) (eqb u s) ≡ none) × (when (givenKind κ₂ (xducer t) (operands t)) (eqb u s) ≡ none) =
+    λ u n. let e = ne-eqb u s (λ q. n (List·Memᴰ·head q)) in (ap (when (givenKind κ (xducer t) (operands t))) e, ap (when (givenKind κ₂ (xducer t) (operands t))) e) in
+    let inside = both-after {all = s ∷ ids} w one other (λ u h. ⊎-elim (λ e. inl (List·Memᴰ·head e)) inr (List·Memᴰ·cases-cons h)) in
+    both-after one (both-known f r inside) (λ u n. (no-kind p (suc s) u _ n, no-kind p (suc s) u _ n)) (λ u h. ⊎-elim (λ e. inr (List·Memᴰ·head e)) inl (List·Memᴰ·cases-cons h))
+both-known {ids = ids} {κ = κ} {κ₂ = κ₂} (well-withCtrl {s = s} {c = c} {outs = outs} {ins = ins} {b = b} {p = p} f i o a v d) (scoped-withCtrl uses inner rest) w =
+    let body = both-known f inner (record { both = λ u h. w .both u (uses u (List·Memᴰ·tail h)) }) in
+    let out : BothKnow outs (λ v. when (kindIn κ (written s b) v) (member v outs)) (λ v. when (kindIn κ₂ (written s b) v) (member v outs)) =
+    record {
+      both = λ u h. let (k, (x, y)) = body .both u (o u h) in let e = is-member outs h in
+          (k, (ap (when (kindIn κ (written s b) u)) e ∙ x, ap (when (kindIn κ₂ (written s b) u)) e ∙ y));
+    } in
+    let other : (u : ℕ) → u ∉ outs → (when (kindIn κ (written s b) u) (member u outs) ≡ none) × (when (kindIn κ₂ (written s b) u) (member u outs) ≡ none) =
+    λ u n. let e = no-member outs n in (ap (when (kindIn κ (written s b) u)) e, ap (when (kindIn κ₂ (written s b) u)) e) in
+    let inside = both-after {all = outs ++ ids} w out other (λ u h. List·Memᴰ·append-cases outs h) in
+    both-after out (both-known v rest inside) (λ u n. (no-kind p (s + count b) u _ n, no-kind p (s + count b) u _ n)) (λ u h. ⊎-elim inr inl (List·Memᴰ·append-cases outs h))
 
 -- ---- stores, changed at one id or at some
 
@@ -137,6 +196,7 @@ agree-mix {ids} {outs} {σ} {τ} {old} {new} g same puts = record { agree = λ u
 units-of : (o : Option Stream) {k : ℕ} → unitsOf o ≡ some k → o ≡ some (units k)
 units-of none q = never (cc)
 units-of (some (ints zs)) q = never (cc)
+units-of (some (bools cs)) q = never (cc)
 units-of (some (flags bs)) q = never (cc)
 units-of (some (units n)) {k} q = let e : n ≡ k = cc in ap (λ n. some (units n)) e
 
@@ -219,11 +279,25 @@ control : {ins ids : List ℕ} {c k : ℕ} {σ : Stores} {τ : Store} → Within
 control {c = c} w g e = g .agree c (w c (List·Memᴰ·head refl)) ∙ e
 
 -- the mapping of what a skipped body leaves
-abbrev blank : Svcode → Stores
-blank p u = emptyOf (kindIn p u)
+abbrev blank : Kinds → Svcode → Stores
+blank κ p u = emptyOf (kindIn κ p u)
 
-blank-left : {s : ℕ} {b : Program} (τ : Store) → length τ ≡ s → WellFormed s b → (u : ℕ) → u ∈ dv s b → blank (written s b) u ≡ (τ ++ skipped b) ! u
-blank-left {s} {b} τ l w u h = let (k, q) = known-kind w h in ap emptyOf q ∙ sym (skipped-kind b τ s u k l q)
+-- a list has its own kinds
+own-kinds : (τ : Store) → HasKinds (kindsIn (λ v. τ ! v)) τ
+own-kinds τ = covers-kinds (record { covers = λ u a q. q })
+
+both-have : {ids ins : List ℕ} (σ : Stores) (τ : Store) → Agree ids σ τ → Within ins ids → ((u : ℕ) → u ∈ ins → Empty τ u) → BothKnow ins (kindsIn σ) (kindsIn (λ v. τ ! v))
+both-have σ τ g w e = record { both = λ u h. let x = e u h in (kindOf (x .stream), (ap kindAt (g .agree u (w u h) ∙ x .there-is), ap kindAt (x .there-is))) }
+
+blank-left : {s : ℕ} {b : Program} {ins : List ℕ} (σ : Stores) (τ : Store)
+    → length τ ≡ s
+    → WellFormed s b
+    → Scoped ins s b
+    → BothKnow ins (kindsIn σ) (kindsIn (λ v. τ ! v))
+    → (u : ℕ) → u ∈ dv s b → blank (kindsIn σ) (written s b) u ≡ (τ ++ skipped τ b) ! u
+blank-left {s} {b} σ τ l w i g u h =
+    let (k, (p, q)) = both-known w i g .both u h in
+    ap emptyOf p ∙ sym (skipped-kind b (kindsIn (λ v. τ ! v)) τ s u k (own-kinds τ) l q)
 
 below-next : {s : ℕ} {ids : List ℕ} → Below s ids → Below (suc s) (s ∷ ids)
 below-next b u h = ⊎-elim (λ e. omega arith) (λ k. let z = b u k in omega arith) (List·Memᴰ·cases-cons h)
@@ -248,15 +322,16 @@ derive s ids σ (ran-skip {outs = outs} {ins = ins} {b = body} {p = p} {c = c} {
     let (uses, inner, rest) = scoped-three k in
     let pp = proper-parts r in
     let zero-units = units-of (m .store ! c) e in
-    let τ = blank (written s body) in
-    let long : length (m .store ++ skipped body) ≡ s + count body = omega (arith, length-append (m .store) (skipped body), skipped-adds body, l) in
+    let τ = blank (kindsIn σ) (written s body) in
+    let inside = both-have σ (m .store) g (λ u h. uses u (List·Memᴰ·tail h)) (pp .empties zero-units) in
+    let long : length (m .store ++ skipped (m .store) body) ≡ s + count body = omega (arith, length-append (m .store) (skipped (m .store) body), skipped-adds (m .store) body, l) in
     derived-withCtrl τ
     (p-wc-emp (control uses g zero-units) (λ u h. empty-too g (uses u (List·Memᴰ·tail h)) (pp .empties zero-units u h)) (mix-new outs τ σ) (mix-old outs τ σ))
     (λ u h. known-between (wp .body) (wp .puts u h) .0)
     (derive (s + count body) (outs ++ ids) (mix outs τ σ) v (wp .rest) rest
     (pp .rest (skip body m) (run-skipped boundless outs ins c body done n m zero-units ∙ run-done boundless n (skip body m)))
     long (below-more (omega arith) b (λ u h. known-between (wp .body) (wp .puts u h) .1))
-    (agree-mix g (λ u h. kept (m .store) (skipped body) u (omega (arith, b u h, l))) (λ u h. blank-left (m .store) l (wp .body) u (wp .puts u h))))
+    (agree-mix g (λ u h. kept (m .store) (skipped (m .store) body) u (omega (arith, b u h, l))) (λ u h. blank-left σ (m .store) l (wp .body) inner inside u (wp .puts u h))))
 derive s ids σ (ran-body {outs = outs} {ins = ins} {b = body} {p = p} {c = c} {n = n} {j = j} {m = m} {m′ = m′} e f v v′) w k r l b g =
     let wp = well-parts w in
     let (uses, inner, rest) = scoped-three k in

@@ -11,7 +11,7 @@ use Rattle.laws.proofs.Never.{never}
 use Rattle.snesl.specs.Streams.{Stream, units}
 use Rattle.snesl.proofs.Compiled.Members.{known}
 use Rattle.rules.specs.Xducers.{Loops, Fetches, fetches-none, fetches-more}
-use Rattle.rules.specs.Instructions.{Svcode, Stores, Runs, p-empty, p-xducer, p-wc-emp, p-wc-nonemp, p-seq}
+use Rattle.rules.specs.Instructions.{Svcode, emptyOf, kindAt, kindIn, Stores, Runs, p-empty, p-xducer, p-wc-emp, p-wc-nonemp, p-seq}
 use Rattle.rules.proofs.Xducers.Exactly.{loops-once}
 
 -- both stores have the same at each id
@@ -42,7 +42,8 @@ runs-once (p-xducer {s = s} {c = c} {ψ = ψ} f l n o) (p-xducer {a = b} f′ l�
     let same = fetch-once e f f′ in
     let output = loops-once ψ l (subst (λ xs. Loops ψ c xs b) (sym same) l′) in
     at-or-not s (n ∙ ap some output ∙ sym n′) (λ u h. o u h ∙ e u ∙ sym (o′ u h)) u
-runs-once (p-wc-emp {outs = outs} c i n o) (p-wc-emp c′ i′ n′ o′) e u = ⊎-elim (λ h. n u h ∙ sym (n′ u h)) (λ h. o u h ∙ e u ∙ sym (o′ u h)) (known u outs)
+runs-once (p-wc-emp {outs = outs} {p = p} c i n o) (p-wc-emp c′ i′ n′ o′) e u =
+    ⊎-elim (λ h. n u h ∙ (λ j. emptyOf (kindIn (λ v. kindAt (e v j)) p u)) ∙ sym (n′ u h)) (λ h. o u h ∙ e u ∙ sym (o′ u h)) (known u outs)
 runs-once (p-wc-emp c i n o) (p-wc-nonemp {n = j} c′ r′ n′ o′) e u = let z : zero ≡ suc j = units-once e c c′ in never (cc)
 runs-once (p-wc-nonemp {n = j} c r n o) (p-wc-emp c′ i′ n′ o′) e u = let z : suc j ≡ zero = units-once e c c′ in never (cc)
 runs-once {τ = τ} (p-wc-nonemp {outs = outs} {n = j} {p = p} c r n o) (p-wc-nonemp {n = j′} {σ″ = τ″} c′ r′ n′ o′) e u =

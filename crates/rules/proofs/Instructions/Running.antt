@@ -11,8 +11,9 @@ use lib.Dec.{eqb}
 use lib.ListN.{length, length-append}
 use Rattle.laws.proofs.Options.{none-some}
 use Rattle.laws.proofs.Lists.{getElem?-append-left}
+use Rattle.snesl.specs.declared.code.Kind.{Kind}
 use Rattle.snesl.specs.declared.code.Transducer.{Transducer}
-use Rattle.snesl.specs.Streams.{Stream, units, Store, _!_}
+use Rattle.snesl.specs.Streams.{Stream, units, bare, Store, _!_}
 use Rattle.snesl.specs.Transducers.{made, apply, operands}
 use Rattle.snesl.specs.Programs as programs
 use Rattle.snesl.specs.Programs.{Program, done, define, count}
@@ -22,11 +23,11 @@ use Rattle.snesl.proofs.Compiled.Members.{known}
 use Rattle.snesl.proofs.Correctness.RunParts.{run-made, run-skipped, run-body}
 use Rattle.snesl.proofs.Correctness.Grown.{new-stream, old-stream, next-id}
 use Rattle.snesl.proofs.Bounded.Runs.{run-done, went-length, grows}
-use Rattle.rules.specs.Xducers.{Kind, empty, xducer}
+use Rattle.rules.specs.Xducers.{xducer}
 use Rattle.rules.specs.Agreement.{Covers, Ran}
-use Rattle.rules.specs.Instructions.{Svcode, nop, assign, withCtrl, seq, kindIn, emptyOf, Stores, Runs, p-empty, p-xducer, p-wc-emp, p-wc-nonemp, p-seq, written}
+use Rattle.rules.specs.Instructions.{Svcode, nop, assign, withCtrl, seq, kindIn, kindsIn, emptyOf, Stores, Runs, p-empty, p-xducer, p-wc-emp, p-wc-nonemp, p-seq, written}
 use Rattle.rules.proofs.Xducers.Exactly.{apply-exactly}
-use Rattle.rules.proofs.Instructions.Stores.{fetched, skipped-adds, skipped-kind}
+use Rattle.rules.proofs.Instructions.Stores.{fetched, skipped-adds, skipped-kind, covers-kinds}
 
 -- after a definition
 covers-defined : {σ σ′ : Stores} {τ : Store} {s : ℕ} {a : Stream}
@@ -54,7 +55,7 @@ covers-both : {σ σ′ : Stores} {τ τ′ : Store} (outs : List ℕ)
 covers-both outs c grown new old =
     record { covers = λ u a q. ⊎-elim (λ h. new u a h q) (λ h. grown u a (c .covers u a (sym (old u h) ∙ q))) (known u outs) }
 
-of-empty : (o : Option Kind) {a : Stream} → emptyOf o ≡ some a → (k : Kind) × (o ≡ some k) × (empty k ≡ a)
+of-empty : (o : Option Kind) {a : Stream} → emptyOf o ≡ some a → (k : Kind) × (o ≡ some k) × (bare k ≡ a)
 of-empty none q = none-some q
 of-empty (some k) q = (k, refl, cc)
 
@@ -94,10 +95,10 @@ module _ (outs ins : List ℕ) (i : ℕ) (b : Program) (s n : ℕ) (m : State) {
         next = skip b m;
         steps-on = λ p. run-skipped boundless outs ins i b p n m control;
         covers =
-            covers-both outs c (λ u a q. getElem?-append-left (m .store) (skipped b) u q)
-            (λ u a h q. let (k, kind, same) = of-empty (kindIn (written s b) u) (sym (new u h) ∙ q) in skipped-kind b (m .store) s u k l kind ∙ ap some same)
+            covers-both outs c (λ u a q. getElem?-append-left (m .store) (skipped (m .store) b) u q)
+            (λ u a h q. let (k, kind, same) = of-empty (kindIn (kindsIn σ) (written s b) u) (sym (new u h) ∙ q) in skipped-kind b (kindsIn σ) (m .store) s u k (covers-kinds c) l kind ∙ ap some same)
             old;
-        start = omega (arith, length-append (m .store) (skipped b), skipped-adds b, l);
+        start = omega (arith, length-append (m .store) (skipped (m .store) b), skipped-adds (m .store) b, l);
       }
     where
       control : m .store ! i ≡ some (units 0)

@@ -4,6 +4,7 @@ use native.Mathlib.Omega.{arith}
 use mathlib.Core.Bool.{Bool, true, false, _&&_}
 use mathlib.Core.List.{List, [], _∷_, _++_, append-assoc, append-nil}
 use mathlib.Core.Logic.{_↔_}
+use mathlib.Core.Option.{Option, some, none}
 use mathlib.Core.Path.{_≡_, refl, sym, ap, _∙_, subst}
 use borrow.Author.Tests.{le-leb, leb-true, eqb-true, eq-eqb}
 use lib.Dec.{eqb, leb}
@@ -11,24 +12,26 @@ use lib.ListN.{length, take, drop, length-append, length-drop, take-append-drop}
 use lib.Seq.{drop-append-seam, drop-drop, drop-length, length-take-le}
 use Rattle.laws.proofs.Never.{never}
 use Rattle.laws.proofs.Tests.{both-true}
+use Rattle.snesl.specs.declared.code.Base.{Base}
+use Rattle.snesl.specs.declared.code.Base.the-variants as base
 use Rattle.snesl.specs.declared.refusal.Refusal.the-variants.{NoRecord, OverLimit, TooMany}
 use Rattle.snesl.specs.Ascii.{ascii}
-use Rattle.snesl.specs.Notation.{IN}
+use Rattle.snesl.specs.Notation.{IN, IB}
 use Rattle.snesl.specs.Limits.{mostBytes, mostInputs, mostNesting, mostDepth, lastVariable}
-use Rattle.snesl.specs.Records.{Raw, byteAt, markAt, markIN, markVA, Input, Declared, declared, inputFirst, inputAt, inputOk, inputsAt, Span, Texts, texts, spanFirst, spanAt, textsAt, Front, front, expressionAfter, inputsThen, frontOf, formulaEnd, readFormula, JobRead, job, textsThen, jobEnd, readJob}
+use Rattle.snesl.specs.Records.{Raw, byteAt, markAt, markIN, markIB, markVA, inputBase, Input, Declared, declared, inputFirst, inputAt, inputOk, inputsAt, Span, Texts, texts, spanFirst, spanAt, textsAt, Front, front, expressionAfter, inputsThen, frontOf, formulaEnd, readFormula, JobRead, job, textsThen, jobEnd, readJob}
 use Rattle.snesl.proofs.Formed.{FrontRead, formula-read, job-read}
-use Rattle.rules.specs.Grammar.{Names, Bytes, Spells, spells-var, spells-let, spells-const, spells-iota, spells-plus, spells-sum, spells-each, SpellsInputs, inputs-none, inputs-more, SpellsTexts, texts-none, texts-more, SpellsFront, SpellsJob}
+use Rattle.rules.specs.Grammar.{Names, Bytes, inputRecord, Spells, spells-var, spells-let, spells-const, spells-iota, spells-plus, spells-sum, spells-each, SpellsInputs, inputs-none, inputs-more, SpellsTexts, texts-none, texts-more, SpellsFront, SpellsJob}
 use Rattle.rules.proofs.Reading.Places.{At, at-fits, at-byte, at-none, at-first, at-rest, at-both}
 use Rattle.rules.proofs.Reading.Heads.{mark-there, mark-bytes, with-two}
 use Rattle.rules.proofs.Reading.Expressions.{spells-scans, scans-spell}
 
 -- ---- inputs, from bytes
 
-no-input-there : {t : List ℕ} {k a b : ℕ} {cs : List ℕ} → At t k (a ∷ b ∷ cs) → eqb (a * 256 + b) markIN ≡ false → eqb (markAt t k) markIN ≡ false
-no-input-there h q = ap (λ m. eqb m markIN) (mark-there h) ∙ q
+no-input-there : {t : List ℕ} {k a b : ℕ} {cs : List ℕ} → At t k (a ∷ b ∷ cs) → inputBase (a * 256 + b) ≡ none → inputBase (markAt t k) ≡ none
+no-input-there h q = ap inputBase (mark-there h) ∙ q
 
--- an expression starts with no IN
-expression-there : {t : List ℕ} {l k r : ℕ} {bs : List ℕ} {e : Raw} → Spells l k bs e r → At t k bs → eqb (markAt t k) markIN ≡ false
+-- an expression starts with no input
+expression-there : {t : List ℕ} {l k r : ℕ} {bs : List ℕ} {e : Raw} → Spells l k bs e r → At t k bs → inputBase (markAt t k) ≡ none
 expression-there {t} {k = k} (spells-var q n) a = no-input-there (subst (At t k) q a) refl
 expression-there {t} {k = k} (spells-let q n h₁ h₂ c) a = no-input-there (subst (At t k) q a) refl
 expression-there {t} {k = k} (spells-const q n) a = no-input-there (subst (At t k) q a) refl
@@ -38,50 +41,62 @@ expression-there {t} {k = k} (spells-sum q n) a = no-input-there (subst (At t k)
 expression-there {t} {k = k} (spells-each q n m ns s h c) a = no-input-there (subst (At t k) q a) refl
 
 module _ (t : List ℕ) where
-  no-more-inputs : (left k : ℕ) → eqb (markAt t k) markIN ≡ false → inputsAt left t k ≡ declared [] k
+  no-more-inputs : (left k : ℕ) → inputBase (markAt t k) ≡ none → inputsAt left t k ≡ declared [] k
   unfolding inputsAt
   no-more-inputs zero k q = rw (q, inputsAt)
   no-more-inputs (suc left) k q = rw (q, inputsAt)
 
-  input-there : (i : Input) (k : ℕ) → i .place ≡ k → At t k (IN (i .name .0) (i .depth)) → inputAt t k ≡ i
-  input-there i k p a =
-      let v = at-byte a 2 in
-      let d = at-byte a 3 in
-      λ j. record { place = sym p j; name = record { 0 = v j }; depth = d j }
+  -- what stands where an input record does
+  record InputThere (k : ℕ) (b : Base) (x d : ℕ) : Type 0 where
+    fits : k + 4 ≤ length t
+    declares : inputBase (markAt t k) ≡ some b
+    name-is : byteAt t (k + 2) ≡ x
+    depth-is : byteAt t (k + 3) ≡ d
+
+  input-there : {k : ℕ} (b : Base) (x d : ℕ) → At t k (inputRecord b x d) → InputThere k b x d
+  input-there base.Int x d a = record { fits = at-fits a; declares = ap inputBase (mark-there a); name-is = at-byte a 2; depth-is = at-byte a 3 }
+  input-there base.Bool x d a = record { fits = at-fits a; declares = ap inputBase (mark-there a); name-is = at-byte a 2; depth-is = at-byte a 3 }
+
+  input-same : (i : Input) (k : ℕ) → i .place ≡ k → InputThere k (i .base) (i .name .0) (i .depth) → inputAt t k (i .base) ≡ i
+  input-same i k p w = λ j. record { place = sym p j; name = record { 0 = w .name-is j }; base = i .base; depth = w .depth-is j }
+
+  input-length : (b : Base) (x d : ℕ) → length (inputRecord b x d) ≡ 4
+  input-length base.Int x d = refl
+  input-length base.Bool x d = refl
 
   input-fine : (k : ℕ) (d : Declared) → k + 4 ≤ length t → byteAt t (k + 2) ≤ lastVariable → byteAt t (k + 3) ≤ mostDepth → inputOk t k d ≡ d
   input-fine k d fits n m = rw (le-leb (k + 4) (length t) fits, le-leb (byteAt t (k + 2)) lastVariable n, le-leb (byteAt t (k + 3)) mostDepth m, inputOk)
 
-  input-marked : (left k : ℕ) → eqb (markAt t k) markIN ≡ true → inputsAt (suc left) t k ≡ inputOk t k (inputFirst (inputAt t k) (inputsAt left t (k + 4)))
+  input-marked : (left k : ℕ) (b : Base) → inputBase (markAt t k) ≡ some b → inputsAt (suc left) t k ≡ inputOk t k (inputFirst (inputAt t k b) (inputsAt left t (k + 4)))
   unfolding inputsAt
-  input-marked left k q = rw (q, inputsAt)
+  input-marked left k b q = rw (q, inputsAt)
 
   one-more-input : (left k : ℕ) (i : Input) {is : List Input} {next : ℕ}
       → i .place ≡ k
-      → At t k (IN (i .name .0) (i .depth))
+      → At t k (inputRecord (i .base) (i .name .0) (i .depth))
       → Names (i .name)
       → i .depth ≤ mostDepth
       → inputsAt left t (k + 4) ≡ declared is next
       → inputsAt (suc left) t k ≡ declared (i ∷ is) next
   one-more-input left k i {is} {next} p a n d q =
-      let v : byteAt t (k + 2) ≡ i .name .0 = at-byte a 2 in
-      let w : byteAt t (k + 3) ≡ i .depth = at-byte a 3 in
-      let test : eqb (markAt t k) markIN ≡ true = ap (λ m. eqb m markIN) (mark-there a) in
-      let same = input-there i k p a in
-      input-marked left k test
-      ∙ input-fine k _ (at-fits a) (omega (arith, v, n)) (omega (arith, w, d))
+      let x = input-there (i .base) (i .name .0) (i .depth) a in
+      let same = input-same i k p x in
+      input-marked left k (i .base) (x .declares)
+      ∙ input-fine k _ (x .fits) (omega (arith, x .name-is, n)) (omega (arith, x .depth-is, d))
       ∙ (λ j. inputFirst (same j) (q j))
 
-  spells-declares : {left k : ℕ} {bs : List ℕ} {is : List Input} → SpellsInputs left k bs is → At t k bs → eqb (markAt t (k + length bs)) markIN ≡ false
+  spells-declares : {left k : ℕ} {bs : List ℕ} {is : List Input} → SpellsInputs left k bs is → At t k bs → inputBase (markAt t (k + length bs)) ≡ none
       → inputsAt left t k ≡ declared is (k + length bs)
   spells-declares {left} {k} inputs-none a q =
       let e : k + 0 ≡ k = omega arith in
-      no-more-inputs left k (ap (λ j. eqb (markAt t j) markIN) (sym e) ∙ q) ∙ ap (declared []) (sym e)
+      no-more-inputs left k (ap (λ j. inputBase (markAt t j)) (sym e) ∙ q) ∙ ap (declared []) (sym e)
   spells-declares {k = k} (inputs-more {left = left} {bs = bs} {rest = rest} {i = i} {is = is} p place n d h) a q =
-      let head = IN (i .name .0) (i .depth) in
+      let head = inputRecord (i .base) (i .name .0) (i .depth) in
       let all = subst (At t k) p a in
-      let far : k + 4 + length rest ≡ k + length bs = omega (arith, ap length p, length-append head rest) in
-      let below = spells-declares h (at-rest head rest all) (ap (λ j. eqb (markAt t j) markIN) far ∙ q) in
+      let four = input-length (i .base) (i .name .0) (i .depth) in
+      let far : k + 4 + length rest ≡ k + length bs = omega (arith, ap length p, length-append head rest, four) in
+      let behind : At t (k + 4) rest = subst (λ n. At t (k + n) rest) four (at-rest head rest all) in
+      let below = spells-declares h behind (ap (λ j. inputBase (markAt t j)) far ∙ q) in
       one-more-input left k i place (at-first head rest all) n d (below ∙ ap (declared is) far)
 
   -- ---- inputs, to bytes
@@ -110,35 +125,52 @@ module _ (t : List ℕ) where
       let e : next′ ≡ next = cc in
       (is′, ap (declared is′) e, cc)
 
+  input-bytes : Bytes t → (k : ℕ) → k + 4 ≤ length t → (b : Base) → inputBase (markAt t k) ≡ some b → At t k (inputRecord b (byteAt t (k + 2)) (byteAt t (k + 3)))
+  input-bytes small k fits b q = go (eqb (markAt t k) markIN) refl (eqb (markAt t k) markIB) refl q
+    where
+      int-there : eqb (markAt t k) markIN ≡ true → At t k (IN (byteAt t (k + 2)) (byteAt t (k + 3)))
+      int-there m = with-two t small k fits (mark-bytes t k 73 78 markIN small refl (omega arith) (omega arith) (eqb-true _ _ m))
+
+      bool-there : eqb (markAt t k) markIB ≡ true → At t k (IB (byteAt t (k + 2)) (byteAt t (k + 3)))
+      bool-there m = with-two t small k fits (mark-bytes t k 73 66 markIB small refl (omega arith) (omega arith) (eqb-true _ _ m))
+
+      go : (x : Bool) → eqb (markAt t k) markIN ≡ x → (y : Bool) → eqb (markAt t k) markIB ≡ y
+          → _≡_ {A = Option Base} (elim x [ true ↦ some base.Int | false ↦ elim y [ true ↦ some base.Bool | false ↦ none ] ]) (some b)
+          → At t k (inputRecord b (byteAt t (k + 2)) (byteAt t (k + 3)))
+      go true m y n r = let e : base.Int ≡ b = cc in subst (λ b. At t k (inputRecord b (byteAt t (k + 2)) (byteAt t (k + 3)))) e (int-there m)
+      go false m true n r = let e : base.Bool ≡ b = cc in subst (λ b. At t k (inputRecord b (byteAt t (k + 2)) (byteAt t (k + 3)))) e (bool-there n)
+      go false m false n r = never (cc)
+
   declares-spell : Bytes t → (left k : ℕ) {is : List Input} {next : ℕ} → inputsAt left t k ≡ declared is next → Declares left k is next
   unfolding inputsAt
-  declares-spell small zero k {is} {next} q = go (eqb (markAt t k) markIN) q
+  declares-spell small zero k {is} {next} q = go (inputBase (markAt t k)) q
     where
-      go : (b : Bool) → _≡_ {A = Declared} (elim b [ true ↦ inputOk t k (Declared.refused (TooMany k)) | false ↦ declared [] k ]) (declared is next) → Declares zero k is next
-      go true r = let (p, n, d, e) = not-fine k (Declared.refused (TooMany k)) r in never (cc)
-      go false r =
+      go : (o : Option Base) → _≡_ {A = Declared} (elim o [ some b ↦ inputOk t k (Declared.refused (TooMany k)) | none ↦ declared [] k ]) (declared is next) → Declares zero k is next
+      go (some b) r = let (p, n, d, e) = not-fine k (Declared.refused (TooMany k)) r in never (cc)
+      go none r =
           let e : [] ≡ is = cc in
           let f : k ≡ next = cc in
           record { bytes = []; spells = subst (SpellsInputs zero k []) e inputs-none; stand = at-none; ends = omega arith }
-  declares-spell small (suc left) k {is} {next} q = go (eqb (markAt t k) markIN) refl q (λ is′ r. declares-spell small left (k + 4) r)
+  declares-spell small (suc left) k {is} {next} q = go (inputBase (markAt t k)) refl q (λ is′ r. declares-spell small left (k + 4) r)
     where
-      go : (b : Bool) → eqb (markAt t k) markIN ≡ b
-          → _≡_ {A = Declared} (elim b [ true ↦ inputOk t k (inputFirst (inputAt t k) (inputsAt left t (k + 4))) | false ↦ declared [] k ]) (declared is next)
+      go : (o : Option Base) → inputBase (markAt t k) ≡ o
+          → _≡_ {A = Declared} (elim o [ some b ↦ inputOk t k (inputFirst (inputAt t k b) (inputsAt left t (k + 4))) | none ↦ declared [] k ]) (declared is next)
           → ((is′ : List Input) → inputsAt left t (k + 4) ≡ declared is′ next → Declares left (k + 4) is′ next)
           → Declares (suc left) k is next
-      go true m r below =
-          let (fits, n, d, e) = not-fine k (inputFirst (inputAt t k) (inputsAt left t (k + 4))) r in
-          let (is′, p, s) = first-input (inputAt t k) (inputsAt left t (k + 4)) e in
+      go (some b) m r below =
+          let (fits, n, d, e) = not-fine k (inputFirst (inputAt t k b) (inputsAt left t (k + 4))) r in
+          let (is′, p, s) = first-input (inputAt t k b) (inputsAt left t (k + 4)) e in
           let w = below is′ p in
-          let head = IN (byteAt t (k + 2)) (byteAt t (k + 3)) in
-          let here : At t k head = with-two t small k fits (mark-bytes t k 73 78 markIN small refl (omega arith) (omega arith) (eqb-true _ _ m)) in
+          let head = inputRecord b (byteAt t (k + 2)) (byteAt t (k + 3)) in
+          let four = input-length b (byteAt t (k + 2)) (byteAt t (k + 3)) in
+          let here : At t k head = input-bytes small k fits b m in
           record {
             bytes = head ++ w .bytes;
             spells = subst (SpellsInputs (suc left) k (head ++ w .bytes)) s (inputs-more refl refl n d (w .spells));
-            stand = at-both head (w .bytes) here (w .stand);
-            ends = omega (arith, w .ends, length-append head (w .bytes));
+            stand = at-both head (w .bytes) here (subst (λ n. At t (k + n) (w .bytes)) (sym four) (w .stand));
+            ends = omega (arith, w .ends, length-append head (w .bytes), four);
           }
-      go false m r below =
+      go none m r below =
           let e : [] ≡ is = cc in
           let f : k ≡ next = cc in
           record { bytes = []; spells = subst (SpellsInputs (suc left) k []) e inputs-none; stand = at-none; ends = omega arith }
@@ -243,7 +275,7 @@ module _ (t : List ℕ) {is : List Input} {k : ℕ} {e : Raw} {next : ℕ} where
       let whole = at-start (ds ++ es) rest (f .parts ∙ sym (append-assoc ds es rest)) in
       let here : 0 + length ds ≡ k = omega (arith, f .starts) in
       let there : At t k es = subst (λ j. At t j es) here (at-rest ds es whole) in
-      let quiet : eqb (markAt t (0 + length ds)) markIN ≡ false = ap (λ j. eqb (markAt t j) markIN) here ∙ expression-there (f .spells) there in
+      let quiet : inputBase (markAt t (0 + length ds)) ≡ none = ap (λ j. inputBase (markAt t j)) here ∙ expression-there (f .spells) there in
       let inputs : inputsAt mostInputs t 0 ≡ declared is k = spells-declares t (f .inputs) (at-first ds es whole) quiet ∙ ap (declared is) here in
       let scans = spells-scans t (f .spells) 0 there (omega (arith, f .few)) in
       rw (le-leb (length t) mostBytes (f .short), frontOf) (ap (inputsThen t) inputs ∙ ap (expressionAfter is k) scans ∙ ap (front is k e) (sym (f .ends)))

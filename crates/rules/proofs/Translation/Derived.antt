@@ -8,11 +8,14 @@ use borrow.Author.Tests.{eq-eqb}
 use lib.IntN.{ℤ, pos}
 use lib.ListN.{length}
 use Rattle.laws.proofs.Never.{never}
+use Rattle.snesl.specs.declared.code.Base.{Base}
+use Rattle.snesl.specs.declared.code.Operation.the-variants.{Plus}
 use Rattle.snesl.specs.declared.code.Variable.{Variable}
-use Rattle.snesl.specs.declared.code.Transducer.the-variants.{Const, ToFlags, Usum, MapTwoPlus, ScanPlus, SumPlus}
+use Rattle.snesl.specs.declared.code.Transducer.the-variants.{Const, ToFlags, Usum, MapTwo, ScanPlus, SumPlus}
+use Rattle.snesl.specs.Values.{ValueType, scalar, braces}
 use Rattle.snesl.specs.Terms as terms
-use Rattle.snesl.specs.Terms.{_∋_, Term, listedTypes, All, _▹_, lookup}
-use Rattle.snesl.specs.Trees.{Tree, leaf, node, inner, outer, root, order}
+use Rattle.snesl.specs.Terms.{_∋_, Term, anyType, listedTypes, All, _▹_, lookup}
+use Rattle.snesl.specs.Trees.{Tree, IdTree, leaf, node, inner, outer, root, order}
 use Rattle.snesl.specs.Transducers.{operands}
 use Rattle.snesl.specs.Programs as programs
 use Rattle.snesl.specs.Programs.{Program, done, define, _⨾_, count, among, ascending, insert, member}
@@ -20,7 +23,7 @@ use Rattle.snesl.specs.Translation as functions
 use Rattle.snesl.specs.Translation.{size, numbered, distrs, controlled, tree, code}
 use Rattle.snesl.specs.Records as raw
 use Rattle.snesl.specs.Records.{Raw}
-use Rattle.snesl.specs.Checking.{Name, find, asInt, listedFirst, listedInts, listedNames, pointers}
+use Rattle.snesl.specs.Checking.{Name, find, AnyScalar, noScalar, aScalar, asScalar, NamedScalars, listedFirst, listedScalars, listedNames, pointers}
 use Rattle.snesl.proofs.Compiled.Freshness.{count-code}
 use Rattle.rules.specs.Names.{Env, named, Maps, maps-none, maps-more, envOf}
 use Rattle.rules.specs.Typing.{calls-const, calls-iota, calls-plus, calls-sum}
@@ -30,7 +33,7 @@ use Rattle.rules.specs.Instructions.{Svcode, nop, assign, withCtrl, seq,
 use Rattle.rules.specs.Trees.{STree, one, pair, ids, plainTree, treesOf}
 use Rattle.rules.specs.Agreement.{Translated}
 use Rattle.rules.specs.Translation.{dv, fv, becomes-const, becomes-plus, becomes-iota, becomes-sum, Copies, copies-none, copies-more, Translates, translates-var, translates-let, translates-call, translates-each, regroup}
-use Rattle.rules.proofs.Names.{Looks, looking, looks-found, looks-int, looks-ints, LooksAtSequence, as-sequence, along}
+use Rattle.rules.proofs.Names.{Looks, looking, looks-found, looks-scalar, looks-int, looks-ints, LooksAtSequence, as-sequence, along}
 use Rattle.rules.proofs.Typing.{Resolved, resolved-var, resolved-let, resolved-const, resolved-iota, resolved-plus, resolved-sum, resolved-each}
 use Rattle.rules.proofs.Translation.Regrouped.{dv-grouped, fv-grouped, dv-written, fv-written}
 
@@ -94,10 +97,10 @@ module _ (δ : Env STree) {k : ℕ} (s : ℕ) where
   unfolding regroup writtenThen
   made-const z = record { made = assign s (xducers.const z) []; derives = translates-call calls-const maps-none (becomes-const refl); grouped = λ k. refl }
 
-  made-plus : {x y : Variable} {a b : ℕ} → Maps δ x (one a) → Maps δ y (one b) → Made δ (raw.plus k x y) s (s + 1) (one s) (define (MapTwoPlus (functions.id a) (functions.id b)) done)
+  made-plus : {x y : Variable} {a b : ℕ} → Maps δ x (one a) → Maps δ y (one b) → Made δ (raw.plus k x y) s (s + 1) (one s) (define (MapTwo Plus (functions.id a) (functions.id b)) done)
   unfolding regroup writtenThen
   made-plus {a = a} {b = b} m n =
-      record { made = assign s xducers.mapTwoPlus (a ∷ b ∷ []); derives = translates-call calls-plus (maps-more m (maps-more n maps-none)) (becomes-plus refl); grouped = λ k. refl }
+      record { made = assign s (xducers.mapTwo Plus) (a ∷ b ∷ []); derives = translates-call calls-plus (maps-more m (maps-more n maps-none)) (becomes-plus refl); grouped = λ k. refl }
 
   made-sum : {x : Variable} {a b : ℕ} → Maps δ x (pair (one a) b) → Made δ (raw.sum k x) s (s + 1) (one s) (define (SumPlus (functions.id b) (functions.id a)) done)
   unfolding regroup writtenThen
@@ -129,37 +132,37 @@ module _ (δ : Env STree) {k : ℕ} (s : ℕ) where
       }
 
 -- the copies of listed variables
-record Copied {Γ : List ℕ} (scope : All Name Γ) (δ : All (Tree ℕ) Γ) (sb : ℕ) (us : List Variable) (ls : List (Variable × (Γ ∋ 0))) (s : ℕ) : Type 0 where
+record Copied {Γ : List ValueType} (scope : All Name Γ) (δ : All IdTree Γ) (sb : ℕ) (us : List Variable) (ls : NamedScalars Γ) (s : ℕ) : Type 0 where
   made : Svcode
   derives : Copies (treesOf scope δ) sb us s (s + length (pointers ls)) made (treesOf (listedNames ls) (numbered s (pointers ls)))
   grouped : (q : Program) (k : Svcode) → regroup made (writtenThen (s + length (pointers ls)) q k) ≡ writtenThen s (distrs sb (pointers ls) δ q) k
 
-module _ {Γ : List ℕ} (scope : All Name Γ) (δ : All (Tree ℕ) Γ) (sb : ℕ) where
-  copied : (us : List Variable) {ls : List (Variable × (Γ ∋ 0))} (s : ℕ) → listedInts scope us ≡ some ls → Copied scope δ sb us ls s
-  unfolding listedInts listedNames numbered distrs envOf regroup writtenThen plainTree
+module _ {Γ : List ValueType} (scope : All Name Γ) (δ : All IdTree Γ) (sb : ℕ) where
+  copied : (us : List Variable) {ls : NamedScalars Γ} (s : ℕ) → listedScalars scope us ≡ some ls → Copied scope δ sb us ls s
+  unfolding listedScalars listedNames numbered distrs envOf regroup writtenThen plainTree
   copied [] {ls} s e = let q : [] ≡ ls = cc in subst (λ l. Copied scope δ sb [] l s) q none-copied
     where
       none-copied : Copied scope δ sb [] [] s
       none-copied = let z : s + 0 ≡ s = omega arith in record { made = nop; derives = copies-none z; grouped = λ q k. ap (λ j. writtenThen j q k) z }
-  copied (u ∷ us) {ls} s e = go (asInt (find u scope)) refl (listedInts scope us) refl e (λ l q. copied us (suc s) q)
+  copied (u ∷ us) {ls} s e = go (asScalar (find u scope)) refl (listedScalars scope us) refl e (λ l q. copied us (suc s) q)
     where
-      more : (v : Γ ∋ 0) (l : List (Variable × (Γ ∋ 0))) → asInt (find u scope) ≡ some v → Copied scope δ sb us l (suc s) → Copied scope δ sb (u ∷ us) ((u, v) ∷ l) s
-      more v l qo w =
+      more : (b : Base) (v : Γ ∋ scalar b) (l : NamedScalars Γ) → asScalar (find u scope) ≡ aScalar b v → Copied scope δ sb us l (suc s) → Copied scope δ sb (u ∷ us) ((u, (b, v)) ∷ l) s
+      more b v l qo w =
           let far : suc s + length (pointers l) ≡ s + suc (length (pointers l)) = omega arith in
-          let m : Maps (treesOf scope δ) u (one (root (lookup v δ))) = subst (Maps (treesOf scope δ) u) (plain-root (lookup v δ)) (looks-int (looking (λ d. plainTree) scope δ u) qo) in
+          let m : Maps (treesOf scope δ) u (one (root (lookup v δ))) = subst (Maps (treesOf scope δ) u) (plain-root (lookup v δ)) (looks-scalar (looking (λ τ. plainTree) scope δ u) qo) in
           record {
             made = seq (assign s xducers.distr (sb ∷ root (lookup v δ) ∷ [])) (w .made);
             derives = copies-more m (subst (λ j. Copies (treesOf scope δ) sb us (suc s) j (w .made) (treesOf (listedNames l) (numbered (suc s) (pointers l)))) far (w .derives));
             grouped = λ q k. ap (seq (assign s xducers.distr (sb ∷ root (lookup v δ) ∷ []))) (ap (λ j. regroup (w .made) (writtenThen j q k)) (sym far) ∙ w .grouped q k);
           }
 
-      go : (o : Option (Γ ∋ 0)) → asInt (find u scope) ≡ o → (r : Option (List (Variable × (Γ ∋ 0)))) → listedInts scope us ≡ r
+      go : (o : AnyScalar Γ) → asScalar (find u scope) ≡ o → (r : Option (NamedScalars Γ)) → listedScalars scope us ≡ r
           → listedFirst u o r ≡ some ls
-          → ((l : List (Variable × (Γ ∋ 0))) → listedInts scope us ≡ some l → Copied scope δ sb us l (suc s))
+          → ((l : NamedScalars Γ) → listedScalars scope us ≡ some l → Copied scope δ sb us l (suc s))
           → Copied scope δ sb (u ∷ us) ls s
-      go none qo r qr q below = never (cc)
-      go (some v) qo none qr q below = never (cc)
-      go (some v) qo (some l) qr q below = let z : (u, v) ∷ l ≡ ls = cc in subst (λ l. Copied scope δ sb (u ∷ us) l s) z (more v l qo (below l qr))
+      go noScalar qo r qr q below = never (cc)
+      go (aScalar b v) qo none qr q below = never (cc)
+      go (aScalar b v) qo (some l) qr q below = let z : (u, (b, v)) ∷ l ≡ ls = cc in subst (λ l. Copied scope δ sb (u ∷ us) l s) z (more b v l qo (below l qr))
 
 -- ---- all of it
 
@@ -176,11 +179,11 @@ module _ {d : ℕ} (δ : Env STree) (e : Raw) (s₀ s₁ : ℕ) (st : Tree ℕ d
       let defined : programs.dv s₀ P ≡ dv (w .made) = sym (dv-written s₀ P) ∙ ap dv (sym body-grouped) ∙ dv-grouped (w .made) in
       λ i. ascending (among (sym (ids-plain st) i) (defined i))
 
-module _ {Γ : List ℕ} (scope : All Name Γ) (δ : All (Tree ℕ) Γ) {k : ℕ} (s : ℕ) {c d : ℕ} {x y : Variable} {us : List Variable} {e : Raw} (v : Γ ∋ suc c)
-    (ls : List (Variable × (Γ ∋ 0))) (t : Term (c ∷ listedTypes (pointers ls)) d) where
+module _ {Γ : List ValueType} (scope : All Name Γ) (δ : All IdTree Γ) {k : ℕ} (s : ℕ) {c d : ValueType} {x y : Variable} {us : List Variable} {e : Raw} (v : Γ ∋ braces c)
+    (ls : NamedScalars Γ) (t : Term (c ∷ listedTypes (anyType (pointers ls))) d) where
   made-each : Maps (treesOf scope δ) y (plainTree (lookup v δ))
-      → listedInts scope us ≡ some ls
-      → Made (treesOf (_▹_ {d = c} x (listedNames ls)) (functions.within v (pointers ls) δ s)) e (s + (1 + length (pointers ls))) (s + (1 + length (pointers ls)) + size t)
+      → listedScalars scope us ≡ some ls
+      → Made (treesOf (_▹_ {τ = c} x (listedNames ls)) (functions.within v (pointers ls) δ s)) e (s + (1 + length (pointers ls))) (s + (1 + length (pointers ls)) + size t)
       (plainTree (tree t (functions.within v (pointers ls) δ s) (s + (1 + length (pointers ls)))))
       (code t (functions.within v (pointers ls) δ s) (s + (1 + length (pointers ls))))
       → Made (treesOf scope δ) (raw.each k x y us e) s (s + size (terms.each v (pointers ls) t)) (plainTree (tree (terms.each v (pointers ls) t) δ s)) (code (terms.each v (pointers ls) t) δ s)
@@ -194,7 +197,7 @@ module _ {Γ : List ℕ} (scope : All Name Γ) (δ : All (Tree ℕ) Γ) {k : ℕ
       let copies = copied scope δ sb us (suc s) ql in
       let st = tree t inside n in
       let P = code t inside n in
-      let env = treesOf (_▹_ {d = c} x (listedNames ls)) inside in
+      let env = treesOf (_▹_ {τ = c} x (listedNames ls)) inside in
       let outs = ascending (among (order st) (programs.dv n P)) in
       let ins = ascending (programs.fv n P) in
       let body = body-grouped env e n (n + size t) st P w in
@@ -213,14 +216,14 @@ module _ {Γ : List ℕ} (scope : All Name Γ) (δ : All (Tree ℕ) Γ) {k : ℕ
             ∙ copies .grouped (controlled s n P st) k);
       }
 
-module _ {Γ : List ℕ} (scope : All Name Γ) (δ : All (Tree ℕ) Γ) (s : ℕ) where
-  made-var : {d k : ℕ} {x : Variable} (v : Γ ∋ d) → Maps (treesOf scope δ) x (plainTree (lookup v δ)) → Made (treesOf scope δ) (raw.var k x) s (s + 0) (plainTree (lookup v δ)) done
+module _ {Γ : List ValueType} (scope : All Name Γ) (δ : All IdTree Γ) (s : ℕ) where
+  made-var : {d : ValueType} {k : ℕ} {x : Variable} (v : Γ ∋ d) → Maps (treesOf scope δ) x (plainTree (lookup v δ)) → Made (treesOf scope δ) (raw.var k x) s (s + 0) (plainTree (lookup v δ)) done
   unfolding regroup writtenThen
   made-var v m = let e : s + 0 ≡ s = omega arith in record { made = nop; derives = translates-var m e; grouped = λ k. refl }
 
-  made-let : {c d k : ℕ} {x : Variable} {e₁ e₂ : Raw} (t₁ : Term Γ c) (t₂ : Term (c ∷ Γ) d)
+  made-let : {c d : ValueType} {k : ℕ} {x : Variable} {e₁ e₂ : Raw} (t₁ : Term Γ c) (t₂ : Term (c ∷ Γ) d)
       → Made (treesOf scope δ) e₁ s (s + size t₁) (plainTree (tree t₁ δ s)) (code t₁ δ s)
-      → Made (treesOf (_▹_ {d = c} x scope) (tree t₁ δ s ▹ δ)) e₂ (s + size t₁) (s + size t₁ + size t₂)
+      → Made (treesOf (_▹_ {τ = c} x scope) (tree t₁ δ s ▹ δ)) e₂ (s + size t₁) (s + size t₁ + size t₂)
       (plainTree (tree t₂ (tree t₁ δ s ▹ δ) (s + size t₁))) (code t₂ (tree t₁ δ s ▹ δ) (s + size t₁))
       → Made (treesOf scope δ) (raw.bind k x e₁ e₂) s (s + size (terms.bind t₁ t₂)) (plainTree (tree (terms.bind t₁ t₂) δ s)) (code (terms.bind t₁ t₂) δ s)
   unfolding code tree size regroup envOf
@@ -241,26 +244,26 @@ module _ {Γ : List ℕ} (scope : All Name Γ) (δ : All (Tree ℕ) Γ) (s : ℕ
             ∙ sym (then-seq s P₁ P₂ k);
       }
 
-making : {Γ : List ℕ} {scope : All Name Γ} {e : Raw} {d : ℕ} {t : Term Γ d} → Resolved Γ scope e d t → (δ : All (Tree ℕ) Γ) (s : ℕ)
+making : {Γ : List ValueType} {scope : All Name Γ} {e : Raw} {d : ValueType} {t : Term Γ d} → Resolved Γ scope e d t → (δ : All IdTree Γ) (s : ℕ)
     → Made (treesOf scope δ) e s (s + size t) (plainTree (tree t δ s)) (code t δ s)
 unfolding code tree size plainTree
 making {scope = scope} (resolved-var {x = x} {v = v} q) δ s =
-    made-var scope δ s v (looks-found (subst (Looks (λ d. plainTree) scope δ x) q (looking (λ d. plainTree) scope δ x)))
+    made-var scope δ s v (looks-found (subst (Looks (λ τ. plainTree) scope δ x) q (looking (λ τ. plainTree) scope δ x)))
 making {scope = scope} (resolved-let {c = c} {x = x} {t₁ = t₁} {t₂ = t₂} h k) δ s = made-let scope δ s t₁ t₂ (making h δ s) (making k (tree t₁ δ s ▹ δ) (s + size t₁))
 making resolved-const δ s = made-const _ s _
 making {scope = scope} (resolved-iota {x = x} {v = v} q) δ s =
-    made-iota _ s (subst (Maps (treesOf scope δ) x) (plain-root (lookup v δ)) (looks-int (looking (λ d. plainTree) scope δ x) q))
+    made-iota _ s (subst (Maps (treesOf scope δ) x) (plain-root (lookup v δ)) (looks-int (looking (λ τ. plainTree) scope δ x) q))
 making {scope = scope} (resolved-plus {x = x} {y = y} {v = v} {w = w} q r) δ s =
-    made-plus _ s (subst (Maps (treesOf scope δ) x) (plain-root (lookup v δ)) (looks-int (looking (λ d. plainTree) scope δ x) q))
-    (subst (Maps (treesOf scope δ) y) (plain-root (lookup w δ)) (looks-int (looking (λ d. plainTree) scope δ y) r))
+    made-plus _ s (subst (Maps (treesOf scope δ) x) (plain-root (lookup v δ)) (looks-int (looking (λ τ. plainTree) scope δ x) q))
+    (subst (Maps (treesOf scope δ) y) (plain-root (lookup w δ)) (looks-int (looking (λ τ. plainTree) scope δ y) r))
 making {scope = scope} (resolved-sum {x = x} {v = v} q) δ s =
     made-sum _ s
     (subst (Maps (treesOf scope δ) x) (plain-parts (lookup v δ) ∙ ap (λ t. pair t (outer (lookup v δ))) (plain-root (inner (lookup v δ))))
-    (looks-ints (looking (λ d. plainTree) scope δ x) q))
+    (looks-ints (looking (λ τ. plainTree) scope δ x) q))
 making {scope = scope} (resolved-each {c = c} {x = x} {y = y} {us = us} {v = v} {ls = ls} {t = t} qv ql h) δ s =
-    made-each scope δ s v ls t (along (subst (LooksAtSequence (λ d. plainTree) scope δ y) qv (as-sequence (looking (λ d. plainTree) scope δ y)))) ql
+    made-each scope δ s v ls t (along (subst (LooksAtSequence (λ τ. plainTree) scope δ y) qv (as-sequence (looking (λ τ. plainTree) scope δ y)))) ql
     (making h (functions.within v (pointers ls) δ s) (s + (1 + length (pointers ls))))
 
-pub translated : {Γ : List ℕ} {scope : All Name Γ} {e : Raw} {d : ℕ} {t : Term Γ d} → Resolved Γ scope e d t → (δ : All (Tree ℕ) Γ) (s : ℕ)
+pub translated : {Γ : List ValueType} {scope : All Name Γ} {e : Raw} {d : ValueType} {t : Term Γ d} → Resolved Γ scope e d t → (δ : All IdTree Γ) (s : ℕ)
     → Translated (treesOf scope δ) e s (s + size t) (plainTree (tree t δ s)) (code t δ s)
 translated {t = t} h δ s = let w = making h δ s in record { made = w .made; derives = w .derives; grouped = w .grouped nop ∙ then-nop s (code t δ s) }

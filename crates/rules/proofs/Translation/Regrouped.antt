@@ -3,12 +3,12 @@ use Prim.Native.Nat.{ℕ, suc, _+_}
 use mathlib.Core.List.{List, [], _∷_, _++_, append-assoc, append-nil}
 use mathlib.Core.Option.{Option, some, none}
 use mathlib.Core.Path.{_≡_, refl, sym, ap, _∙_}
+use Rattle.snesl.specs.declared.code.Kind.{Kind}
 use Rattle.snesl.specs.Transducers.{operands}
 use Rattle.snesl.specs.Programs as programs
 use Rattle.snesl.specs.Programs.{Program, done, define, count, without, member}
 use Rattle.snesl.proofs.Compiled.Members.{without-append, without-none, without-twice}
-use Rattle.rules.specs.Xducers.{Kind}
-use Rattle.rules.specs.Instructions.{Svcode, nop, assign, withCtrl, seq, firstOf, when, kindIn, emptyOf, Stores, Runs, p-empty, p-xducer, p-wc-emp, p-wc-nonemp, p-seq, written}
+use Rattle.rules.specs.Instructions.{Svcode, nop, assign, withCtrl, seq, Kinds, firstOf, when, kindIn, kindsIn, emptyOf, Stores, Runs, p-empty, p-xducer, p-wc-emp, p-wc-nonemp, p-seq, written}
 use Rattle.rules.specs.Translation.{dv, fv, regroup}
 use Rattle.rules.proofs.Instructions.Running.{of-nop, of-seq}
 
@@ -61,12 +61,22 @@ first-none : (a : Option Kind) → firstOf a none ≡ a
 first-none none = refl
 first-none (some k) = refl
 
-kind-regroup : (p k : Svcode) (u : ℕ) → kindIn (regroup p k) u ≡ firstOf (kindIn p u) (kindIn k u)
+kind-regroup : (κ : Kinds) (p k : Svcode) (u : ℕ) → kindIn κ (regroup p k) u ≡ firstOf (kindIn (λ v. firstOf (kindIn κ p v) (κ v)) k u) (kindIn κ p u)
 unfolding kindIn regroup
-kind-regroup nop k u = refl
-kind-regroup (assign s ψ ss) k u = refl
-kind-regroup (withCtrl outs c ins p) k u = ap (λ o. firstOf (when o (member u outs)) (kindIn k u)) (kind-regroup p nop u ∙ first-none (kindIn p u))
-kind-regroup (seq p q) k u = kind-regroup p (regroup q k) u ∙ ap (firstOf (kindIn p u)) (kind-regroup q k u) ∙ first-assoc (kindIn p u) (kindIn q u) (kindIn k u)
+kind-regroup κ nop k u = sym (first-none (kindIn κ k u))
+kind-regroup κ (assign s ψ ss) k u = refl
+kind-regroup κ (withCtrl outs c ins p) k u =
+    λ i.
+    firstOf (kindIn (λ v. firstOf (when (kind-regroup κ p nop v i) (member v outs)) (κ v)) k u) (when (kind-regroup κ p nop u i) (member u outs))
+kind-regroup κ (seq p q) k u =
+    kind-regroup κ p (regroup q k) u
+    ∙ ap (λ o. firstOf o (kindIn κ p u)) (kind-regroup (λ v. firstOf (kindIn κ p v) (κ v)) q k u)
+    ∙ sym (first-assoc (kindIn (λ v. firstOf (kindIn (λ w. firstOf (kindIn κ p w) (κ w)) q v) (firstOf (kindIn κ p v) (κ v))) k u) (kindIn (λ v. firstOf (kindIn κ p v) (κ v)) q u) (kindIn κ p u))
+    ∙ (λ i. firstOf (kindIn (λ v. first-assoc (kindIn (λ w. firstOf (kindIn κ p w) (κ w)) q v) (kindIn κ p v) (κ v) i) k u) (firstOf (kindIn (λ v. firstOf (kindIn κ p v) (κ v)) q u) (kindIn κ p u)))
+
+kind-alone : (κ : Kinds) (p : Svcode) (u : ℕ) → kindIn κ (regroup p nop) u ≡ kindIn κ p u
+unfolding kindIn
+kind-alone κ p u = kind-regroup κ p nop u
 
 -- a store with the same streams will do as well
 same-end : {p : Svcode} {σ σ′ σ″ : Stores} {c : ℕ} → Runs p σ c σ″ → ((u : ℕ) → σ′ u ≡ σ″ u) → Runs p σ c σ′
@@ -77,7 +87,7 @@ same-end (p-wc-nonemp c r n o) e = p-wc-nonemp c r (λ u h. e u ∙ n u h) (λ u
 same-end (p-seq h k) e = p-seq h (same-end k e)
 
 ungroup-withCtrl : {outs ins : List ℕ} {s : ℕ} {p q : Svcode} {σ σ′ : Stores} {c : ℕ}
-    → ((u : ℕ) → kindIn q u ≡ kindIn p u)
+    → ((u : ℕ) → kindIn (kindsIn σ) q u ≡ kindIn (kindsIn σ) p u)
     → ((σ″ : Stores) (n : ℕ) → Runs q σ n σ″ → Runs p σ n σ″)
     → Runs (withCtrl outs s ins q) σ c σ′
     → Runs (withCtrl outs s ins p) σ c σ′
@@ -91,7 +101,7 @@ ungroup (assign s ψ ss) k h = of-seq h
 ungroup (withCtrl outs c ins p) k {σ} h =
     let (σ″, h₁, h₂) = of-seq h in (
       σ″,
-      ungroup-withCtrl (λ u. kind-regroup p nop u ∙ first-none (kindIn p u)) (λ τ n r. let (τ₁, r₁, r₂) = ungroup p nop r in same-end r₁ (of-nop r₂)) h₁,
+      ungroup-withCtrl (kind-alone (kindsIn σ) p) (λ τ n r. let (τ₁, r₁, r₂) = ungroup p nop r in same-end r₁ (of-nop r₂)) h₁,
       h₂,
     )
 ungroup (seq p q) k h =
