@@ -1,5 +1,5 @@
 -- Refusals 1 to 7 step by step, and what the job's outcome is where one of them is met or none.
-use Prim.Native.Nat.{ℕ, _+_, _*_, _≤_}
+use Prim.Native.Nat.{ℕ, _≤_}
 use mathlib.Core.Bool.{Bool, true, false}
 use mathlib.Core.List.{List}
 use mathlib.Core.Path.{_≡_, refl, sym, ap, subst, _∙_}
@@ -34,7 +34,6 @@ use Rattle.environment.specs.Needs.{words}
 use Rattle.leaves.specs.Places.{shallow-none, mostWords}
 use Rattle.runner.proofs.Measures.{words-most}
 use Rattle.inputs.specs.Supply.{Read, textsOf, tallied}
-use Rattle.inputs.specs.Loading.{bindingWords}
 use Rattle.inputs.proofs.Supplying.{inputs-supplied, inputs-few}
 use Rattle.inputs.specs.declared.texts.Texts.the-variants as texts
 use Rattle.sheet.specs.declared.admission.Task.{Task}

@@ -4,7 +4,7 @@ use mathlib.Core.List.{List, [], _∷_}
 use mathlib.Core.Path.{_≡_, _∙_}
 use native.Mathlib.Omega.{arith}
 use lib.ListN.{length, length-append}
-use Rattle.snesl.specs.Values.{ValueType, depthOf}
+use Rattle.snesl.specs.Values.{ValueType}
 use Rattle.snesl.specs.Terms.{All, ∅, _▹_}
 use Rattle.snesl.specs.Records.{byteAt, Input, Span}
 use Rattle.snesl.specs.Checking.{Name, turnedOnto, inputType, inputTypes}

@@ -12,14 +12,13 @@ use lib.Seq.{take-length}
 use Rattle.laws.specs.Parts.{cleared}
 use Rattle.laws.proofs.Never.{never}
 use Rattle.environment.proofs.Stack.{drop-above}
-use Rattle.snesl.specs.declared.code.Base.{Base}
 use Rattle.snesl.specs.declared.limits.Formula.{Formula}
 use Rattle.snesl.specs.declared.refusal.Refusal.{Refusal}
 use Rattle.snesl.specs.declared.refusal.Refusal.the-variants.{NoRoom}
 use Rattle.snesl.specs.Limits.{mostInputs, mostNesting, mostDepth}
-use Rattle.snesl.specs.Values.{ValueType, baseOf, depthOf, typeOf, Val}
+use Rattle.snesl.specs.Values.{ValueType, depthOf, typeOf, Val}
 use Rattle.snesl.specs.Terms.{All, ∅}
-use Rattle.snesl.specs.Trees.{IdTree, mapTree}
+use Rattle.snesl.specs.Trees.{IdTree}
 use Rattle.snesl.specs.Streams.{Store, contents, room}
 use Rattle.snesl.specs.Machine.{State, Result, went, stopped, run, holding}
 use Rattle.snesl.specs.Translation.{code, tree}
@@ -35,11 +34,11 @@ use Rattle.snesl.proofs.Formed.{job-formed}
 use Rattle.snesl.proofs.Jobs.InputStreams.{length-inputs, inputs-agree}
 use Rattle.snesl.proofs.Statements.Compiled.{it-ends-if-all-fits}
 use Rattle.snesl.proofs.Statements.Correctness.{a-run-has-a-value}
-use Rattle.steps.specs.Holding.{place, keeps}
+use Rattle.steps.specs.Holding.{keeps}
 use Rattle.steps.specs.Walking.{walked}
 use Rattle.steps.proofs.Stores.{room-append}
 use Rattle.leaves.specs.Places.{places}
-use Rattle.environment.specs.Words.{treeWords, treeSize}
+use Rattle.environment.specs.Words.{treeSize}
 use Rattle.environment.specs.Needs.{words}
 use Rattle.sink.specs.Sinks.{Sink, running, feed}
 use Rattle.sink.specs.Sunk.{Sunk}

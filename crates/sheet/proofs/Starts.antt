@@ -13,7 +13,7 @@ use Rattle.laws.specs.Parts.{part}
 use Rattle.environment.specs.Words.{Place, placeWords, treeWords}
 use Rattle.environment.proofs.Finding.{length-tree}
 use Rattle.snesl.specs.declared.code.Base.{Base}
-use Rattle.snesl.specs.Values.{depthOf, typeOf, Val}
+use Rattle.snesl.specs.Values.{typeOf, Val}
 use Rattle.snesl.specs.Trees.{Tree, IdTree, leaf, node, mapTree}
 use Rattle.snesl.specs.Streams.{dataOf, flags, bit}
 use Rattle.snesl.specs.Machine.{State}
