@@ -6,11 +6,12 @@ use mathlib.Core.List.{List, [], _∷_, _++_, append-nil, List·Memᴰ·not-nil,
 use mathlib.Core.Logic.{⊎-elim}
 use mathlib.Core.Path.{_≡_, refl, sym, ap, _∙_, subst}
 use borrow.Author.Tests.{le-leb, lt-leb}
+use lib.Dec.{eqb}
 use lib.ListN.{length, getD, drop, length-append}
 use lib.Seq.{sets, sets-eq}
 use Rattle.snesl.specs.declared.limits.Formula.{Formula}
 use Rattle.snesl.specs.declared.refusal.Refusal.{Refusal}
-use Rattle.snesl.specs.declared.refusal.Refusal.the-variants.{NoAnswerRoom}
+use Rattle.snesl.specs.declared.refusal.Refusal.the-variants.{NoRecord, NoAnswerRoom}
 use Rattle.snesl.specs.Limits.{mostInputs, mostDepth}
 use Rattle.snesl.specs.declared.code.Base.{Base}
 use Rattle.snesl.specs.Values.{ValueType, depthOf}
@@ -20,7 +21,7 @@ use Rattle.snesl.specs.Programs.{count}
 use Rattle.snesl.specs.Translation.{size, tree, code}
 use Rattle.snesl.specs.Ids.{idsOf, Below}
 use Rattle.snesl.specs.Records as records
-use Rattle.snesl.specs.Records.{byteAt, Input, Raw, declared, inputAt, inputsAt, Front, front, readFormula}
+use Rattle.snesl.specs.Records.{byteAt, Input, Raw, declared, inputAt, inputsAt, Front, front, frontOf, formulaEnd, readFormula}
 use Rattle.snesl.specs.Checking as checking
 use Rattle.snesl.specs.Checking.{Typed, typed, context, turnedOnto, turned, inputType, inputTypes, inputNames, checkFormula}
 use Rattle.snesl.specs.Inputs.{inputTree, inputTrees, inputStart}
@@ -34,13 +35,14 @@ use Rattle.decimals.specs.Writing.{Writes}
 use Rattle.decimals.proofs.Stores.{sets-none}
 use Rattle.formula.specs.declared.read.FormulaRead.the-variants as read
 use Rattle.formula.specs.Reading.{formulaOf}
-use Rattle.checking.specs.declared.check.Checked.the-variants as checked
+use Rattle.checking.specs.declared.check.Judged.the-variants as judged
 use Rattle.checking.specs.declared.types.ValueType as types
-use Rattle.checking.specs.Checks.{checkedOf, checkFront}
+use Rattle.checking.specs.Checks.{judgedOf, judgeFront}
 use Rattle.checking.proofs.Entering.{few}
 use Rattle.environment.specs.Words.{spelled}
+use Rattle.environment.specs.Needs.{words}
 use Rattle.sink.specs.Sinks.{far}
-use Rattle.leaves.specs.Places.{Shallow, shallow-none, shallow-more, Shaped, shaped-none}
+use Rattle.leaves.specs.Places.{Shallow, shallow-none, shallow-more, Shaped, shaped-none, mostWords}
 use Rattle.runner.proofs.Measures.{spans, shallow-type, words-most}
 use Rattle.lister.specs.declared.inputs.Inputs.{Inputs}
 use Rattle.lister.specs.declared.list.Listed.{Listed}
@@ -114,7 +116,7 @@ stored w old h =
 
 -- ---- a formula that was found
 
-module _ {t : List ℕ} {inputs k : ℕ} (g : Found t inputs k) where
+module _ {t : List ℕ} {inputs k enough : ℕ} (g : Found t inputs k enough) where
   formed : FormulaFormed t (g .all) k (g .term) (g .next)
   formed = formula-formed t (g .read) (g .checked)
 
@@ -161,22 +163,22 @@ module _ {t : List ℕ} {inputs k : ℕ} (g : Found t inputs k) where
     counted =
         omega (arith, lines-most, result-most, length-append (linesOf start (code (g .term) trees start)) (resultLine (tree (g .term) trees start)))
 
-  pub declares : (env : List ℕ) → length env ≡ 4949 → Declares t inputs env
-  declares env l =
+  pub declares : (env : List ℕ) → length env ≡ enough → length env ≤ 65536 → Declares t inputs env
+  declares env l s =
       record {
         all = g .all;
         end = k;
         read = front-of .inputs;
         number = g .number;
-        room = omega (arith, number-few);
-        small = omega arith;
+        room = omega (arith, g .room);
+        small = s;
       }
 
   -- entered
-  module _ (env : List ℕ) (l : length env ≡ 4949) {env₁ : List ℕ} {r : Inputs} (E : (h : Declares t inputs env) → Enters h env₁ r)
+  module _ (env : List ℕ) (l : length env ≡ enough) (few-words : length env ≤ 65536) {env₁ : List ℕ} {r : Inputs} (E : (h : Declares t inputs env) → Enters h env₁ r)
       (long : length env₁ ≡ length env) (bytes : (i : ℕ) → getD t i 0 < 256) where
-    entered : Enters (declares env l) env₁ r
-    entered = E (declares env l)
+    entered : Enters (declares env l few-words) env₁ r
+    entered = E (declares env l few-words)
 
     id-is : r .id ≡ start
     unfolding declares
@@ -203,7 +205,7 @@ module _ {t : List ℕ} {inputs k : ℕ} (g : Found t inputs k) where
           shaped = inputs-shaped [] ∅ shaped-none 0 refl (inputTypes (g .all));
           shallow = shallow;
           within = omega (arith, entered .within, long, long₂);
-          space = omega (arith, words-most (formed .formed) shallow, entered .room, number-few);
+          space = omega (arith, g .room, entered .room);
           small = omega (arith, long, long₂);
           short = formed .short;
           few =
@@ -261,44 +263,82 @@ module _ {t : List ℕ} {inputs k : ℕ} (g : Found t inputs k) where
                 ∙ (stored (wholeText (g .term) trees start) old (omega (arith, needs, ap length (back old))) ∙ ap (textAfter old) (sym some)))),
           )
 
--- ---- what `check` and `read_formula` answered
+-- ---- what `read_formula` and `check_front` answered
 
--- a refusal of theirs is the listing's
-pub refused-listing : (t : List ℕ) (lent : ℕ) {r : Refusal} → checked.Refused r ≡ checkFront (readFormula t) → listing.listing lent t ≡ listing.unlisted r
-refused-listing t lent {r} = go (readFormula t)
-  where
-    typings : (is : List Input) (y : Typed (context is)) → checked.Refused r ≡ checkedOf y → listedTyped lent is y ≡ listing.unlisted r
-    typings is (Typed.refused q) e = let same : q ≡ r = cc in ap listing.unlisted same
-    typings is (typed d e′) e = let z : _≡_ {A = ℕ} 0 1 = cc in absurd (omega arith)
+module _ (t : List ℕ) where
+  -- a formula that is read as a whole is judged as the front of its bytes
+  judged-read : {f : Formula} → read.Found f ≡ formulaOf (readFormula t) → judgeFront (frontOf t) ≡ judgeFront (readFormula t)
+  judged-read {f} = go (frontOf t)
+    where
+      last : (is : List Input) (k : ℕ) (e : Raw) (next : ℕ) (b : Bool)
+          → read.Found f ≡ formulaOf (elim b [ true ↦ front is k e next | false ↦ Front.refused (NoRecord next) ])
+          → judgeFront (front is k e next) ≡ judgeFront (elim b [ true ↦ front is k e next | false ↦ Front.refused (NoRecord next) ])
+      last is k e next true q = refl
+      last is k e next false q = let z : _≡_ {A = ℕ} 0 1 = cc in absurd (omega arith)
 
-    go : (f : Front) → checked.Refused r ≡ checkFront f → listedFront lent f ≡ listing.unlisted r
-    go (Front.refused q) e = let same : q ≡ r = cc in ap listing.unlisted same
-    go (front is k e′ next) e = typings is (checkFormula is e′) e
+      go : (x : Front) → read.Found f ≡ formulaOf (formulaEnd t x) → judgeFront x ≡ judgeFront (formulaEnd t x)
+      go (Front.refused r) q = refl
+      go (front is k e next) q = last is k e next (eqb next (length t)) q
 
-pub unread-listing : (t : List ℕ) (lent : ℕ) {r : Refusal} → read.Refused r ≡ formulaOf (readFormula t) → listing.listing lent t ≡ listing.unlisted r
-unread-listing t lent {r} = go (readFormula t)
-  where
-    go : (f : Front) → read.Refused r ≡ formulaOf f → listedFront lent f ≡ listing.unlisted r
-    go (Front.refused q) e = let same : q ≡ r = cc in ap listing.unlisted same
-    go (front is k e′ next) e = let z : _≡_ {A = ℕ} 0 1 = cc in absurd (omega arith)
+  -- a refusal of theirs is the listing's
+  pub refused-listing : (lent : ℕ) {f : Formula} {r : Refusal} → read.Found f ≡ formulaOf (readFormula t) → judged.Refused r ≡ judgeFront (frontOf t)
+      → listing.listing lent t ≡ listing.unlisted r
+  refused-listing lent {r = r} b a = go (readFormula t) (a ∙ judged-read b)
+    where
+      typings : (is : List Input) (y : Typed (context is)) → judged.Refused r ≡ judgedOf y → listedTyped lent is y ≡ listing.unlisted r
+      typings is (Typed.refused q) e = let same : q ≡ r = cc in ap listing.unlisted same
+      typings is (typed d e′) e = let z : _≡_ {A = ℕ} 0 1 = cc in absurd (omega arith)
 
-pub refused-text : (t old : List ℕ) {r : Refusal} → listing.listing (length old) t ≡ listing.unlisted r
-    → (Refused r ≡ listedAnswer (listing.listing (length old) t)) × (old ≡ textAfter old (listing.listing (length old) t))
-refused-text t old e = (ap listedAnswer (sym e), ap (textAfter old) (sym e))
+      go : (f : Front) → judged.Refused r ≡ judgeFront f → listedFront lent f ≡ listing.unlisted r
+      go (Front.refused q) e = let same : q ≡ r = cc in ap listing.unlisted same
+      go (front is k e′ next) e = typings is (checkFormula is e′) e
 
--- what was found
-pub found : (t : List ℕ) {y : types.ValueType} {f : Formula} → checked.Typed y ≡ checkFront (readFormula t) → read.Found f ≡ formulaOf (readFormula t) → Found t (f .inputs) (f .expression)
-found t {y} {f} = go (readFormula t) refl
-  where
-    typings : (is : List Input) {k : ℕ} {e : Raw} {next : ℕ} (c : Typed (context is)) → readFormula t ≡ front is k e next → checkFormula is e ≡ c → checked.Typed y ≡ checkedOf c
-        → read.Found f ≡ read.Found (record { inputs = length is; expression = k; end = next })
-        → Found t (f .inputs) (f .expression)
-    typings is (Typed.refused q) r c a b = let z : _≡_ {A = ℕ} 0 1 = cc in absurd (omega arith)
-    typings is {k} {e} {next} (typed τ e′) r q a b =
-        let same : f ≡ record { inputs = length is; expression = k; end = next } = cc in
-        subst (λ (u : Formula). Found t (u .inputs) (u .expression)) (sym same)
-        (record { all = is; raw = e; next = next; type = τ; term = e′; read = r; checked = q; number = refl })
+  pub unread-listing : (lent : ℕ) {r : Refusal} → read.Refused r ≡ formulaOf (readFormula t) → listing.listing lent t ≡ listing.unlisted r
+  unread-listing lent {r} = go (readFormula t)
+    where
+      go : (f : Front) → read.Refused r ≡ formulaOf f → listedFront lent f ≡ listing.unlisted r
+      go (Front.refused q) e = let same : q ≡ r = cc in ap listing.unlisted same
+      go (front is k e′ next) e = let z : _≡_ {A = ℕ} 0 1 = cc in absurd (omega arith)
 
-    go : (u : Front) → readFormula t ≡ u → checked.Typed y ≡ checkFront u → read.Found f ≡ formulaOf u → Found t (f .inputs) (f .expression)
-    go (Front.refused q) r a b = let z : _≡_ {A = ℕ} 0 1 = cc in absurd (omega arith)
-    go (front is k e next) r a b = typings is (checkFormula is e) r refl a b
+  pub refused-text : (old : List ℕ) {r : Refusal} → listing.listing (length old) t ≡ listing.unlisted r
+      → (Refused r ≡ listedAnswer (listing.listing (length old) t)) × (old ≡ textAfter old (listing.listing (length old) t))
+  refused-text old e = (ap listedAnswer (sym e), ap (textAfter old) (sym e))
+
+  -- what was found: the words that its walk takes are told, and with its inputs' they are no more than the most
+  pub found : {y : types.ValueType} {n : ℕ} {f : Formula} → read.Found f ≡ formulaOf (readFormula t) → judged.Typed y n ≡ judgeFront (frontOf t)
+      → Found t (f .inputs) (f .expression) (n + 29 * f .inputs) × (n + 29 * f .inputs ≤ mostWords)
+  found {y} {n} {f} b a = go (readFormula t) refl b (a ∙ judged-read b)
+    where
+      typings : (is : List Input) {k : ℕ} {e : Raw} {next : ℕ} (c : Typed (context is)) → readFormula t ≡ front is k e next → checkFormula is e ≡ c
+          → read.Found f ≡ read.Found (record { inputs = length is; expression = k; end = next })
+          → judged.Typed y n ≡ judgedOf c
+          → Found t (f .inputs) (f .expression) (n + 29 * f .inputs) × (n + 29 * f .inputs ≤ mostWords)
+      typings is (Typed.refused q) r c b a = let z : _≡_ {A = ℕ} 0 1 = cc in absurd (omega arith)
+      typings is {k} {e} {next} (typed τ e′) r q b a =
+          let same : f ≡ record { inputs = length is; expression = k; end = next } = cc in
+          let told : words e′ ≡ n = cc in
+          let g : Found t (length is) k (n + 29 * length is) =
+          record { all = is; raw = e; next = next; type = τ; term = e′; read = r; checked = q; number = refl; room = omega (arith, told) } in
+          let most = words-most (formed g .formed) (shallow g) in
+          subst (λ (u : Formula). Found t (u .inputs) (u .expression) (n + 29 * u .inputs) × (n + 29 * u .inputs ≤ mostWords)) (sym same)
+          (g, omega (arith, told, most, number-few g))
+
+      go : (u : Front) → readFormula t ≡ u → read.Found f ≡ formulaOf u → judged.Typed y n ≡ judgeFront u
+          → Found t (f .inputs) (f .expression) (n + 29 * f .inputs) × (n + 29 * f .inputs ≤ mostWords)
+      go (Front.refused q) r b a = let z : _≡_ {A = ℕ} 0 1 = cc in absurd (omega arith)
+      go (front is k e next) r b a = typings is (checkFormula is e) r refl b a
+
+-- a longer stack
+abbrev pub widened : {t : List ℕ} {inputs k m n : ℕ} → m ≤ n → Found t inputs k m → Found t inputs k n
+widened le g =
+    record {
+      all = g .all;
+      raw = g .raw;
+      next = g .next;
+      type = g .type;
+      term = g .term;
+      read = g .read;
+      checked = g .checked;
+      number = g .number;
+      room = omega (arith, le, g .room);
+    }

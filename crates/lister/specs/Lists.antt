@@ -64,8 +64,15 @@ pub record Lined {t : List ℕ} {k : ℕ} {env : List ℕ} {sp s : ℕ} (g : Who
   pub placing : Placing
   pub words : drop (sp - treeSize (depthOf (g .type))) env′ ≡ treeWords (mapTree (placing .place) (tree (g .term) (g .trees) s)) ++ drop sp env
 
--- a formula that was read and checked
-pub record Found (t : List ℕ) (inputs expression : ℕ) : Type 0 where
+-- the words of the arrays that a listing lends itself one of; a third has the most (leaves' mostWords)
+abbrev pub smallWords : ℕ
+smallWords = 512
+
+abbrev pub middleWords : ℕ
+middleWords = 4096
+
+-- a formula that was read and checked, where so many words are enough for its inputs' bindings, 29 each, and the walk of its expression
+pub record Found (t : List ℕ) (inputs expression enough : ℕ) : Type 0 where
   pub all : List Input
   pub raw : Raw
   pub next : ℕ
@@ -74,6 +81,7 @@ pub record Found (t : List ℕ) (inputs expression : ℕ) : Type 0 where
   pub read : readFormula t ≡ front all expression raw next
   pub checked : checkFormula all raw ≡ typed type term
   pub number : length all ≡ inputs
+  pub room : words term + 29 * inputs ≤ enough
 
 abbrev pub listedAnswer : listing.Listed → Listed
 listedAnswer (listing.unlisted r) = Refused r
