@@ -1,4 +1,5 @@
 // Checking and listing a formula, and finding an input's text in a job.
+use crate::bases::base_byte;
 use crate::figures::one;
 use crate::figures::refuse;
 use crate::figures::two;
@@ -7,23 +8,30 @@ use checking::check::check;
 use finder::find::locate;
 use lister::list::Listed;
 use lister::list::list;
+use refusals::line::number;
+use refusals::line::place;
 ghost use mathlib.Core.Path.{_≡_};
 ghost use lib.ListN.{length};
 ghost use Rattle.snesl.specs.Listing.{listing};
 ghost use Rattle.lister.specs.Lists.{textAfter};
 ghost use Rattle.hailspindle.specs.Replies.{noted, checkReply, listReply, findReply};
 
-// One figure: the depth of the formula's type, or the refusal's place.
+// Two figures: the depth of the formula's type and its base, or the refusal's place and 0.
 #[no_mangle]
 pub extern "C" fn hailspindle_check(formula: &[u8], figures: &mut [u64]) -> u64
     ensures { λ r. ⌜ r ≡ checkReply (now (formula .entry)) .number ⌝ }
     ensures { λ _. ⌜ now (figures .exit) ≡ noted (checkReply (now (formula .entry)) .figures) (now (figures .entry)) ⌝ }
 {
     match check(formula) {
-        Checked::Refused(refusal) => refuse(figures, refusal),
-        Checked::Depth(depth) => {
-            let levels = depth as usize;
-            one(figures, levels);
+        Checked::Refused(refusal) => {
+            two(figures, place(refusal), 0);
+            number(refusal)
+        }
+        Checked::Typed(named) => {
+            let levels = named.depth as usize;
+            let base = named.base;
+            let byte = base_byte(base);
+            two(figures, levels, byte);
             0
         }
     }

@@ -1,56 +1,69 @@
--- The answer of `streams_to_text` is the reply's.
-use mathlib.Core.Path.{sym, ap, _∙_}
-use Rattle.rendering.specs.declared.showing.Written.{Written}
-use Rattle.hailspindle.specs.Replies.{noted, textReply}
+-- A base that is none is refused; with one, it is what `show` leaves.
+use mathlib.Core.Path.{_≡_, sym, ap, _∙_}
+use Rattle.rendering.specs.Rendering.{Rendering}
+use Rattle.hailspindle.specs.declared.bases.Read.{Read}
+use Rattle.hailspindle.specs.Replies.{noted, toTextBy, textReply}
 use borrow.Author.Needs.{needs}
 use Rattle.hailspindle.proofs.conversions.hailspindle_streams_to_text.Statement.{statement}
 use Rattle.hailspindle.proofs.conversions.hailspindle_streams_to_text.Tie as tie
 
-streams-to-text-requires : tie.Need-streams-to-text-requires
-streams-to-text-requires c κs = tt
+base-from-requires : tie.Need-base-from-requires
+base-from-requires c κs = tt
 
-enum-known-refusal : tie.Need-enum-known-refusal
-enum-known-refusal c = search needs
+enum-told : tie.Need-enum-told
+enum-told c = search needs
 
 refuse-requires : tie.Need-refuse-requires
 refuse-requires c κs = tt
 
-enum-known-bytes : tie.Need-enum-known-bytes
-enum-known-bytes c = search needs
+enum-known-known : tie.Need-enum-known-known
+enum-known-known c = search needs
 
-one-requires : tie.Need-one-requires
-one-requires c κs = tt
+show-requires : tie.Need-show-requires
+show-requires c κs = tt
 
 same-length : tie.Need-same-length
 same-length c = search needs
 
+returns : tie.Need-returns
+returns c = let given = c .before .before .before .before .before .before .before .before .before .before .args in
+    let q = sym (c .before .before .before .before .enum-told .given .1) ∙ c .before .before .before .before .before .before .base-from .ensures in
+    let shown : Read → Rendering = λ k. toTextBy k (given .elements .now) (given .lengths .now) (given .depth) (given .answer .now) in (
+      c .before .before .refuse .ensures .0 ∙ ap (λ (k : Read). textReply (shown k .answer) .number) q,
+      (
+        c .before .before .refuse .ensures .1 ∙ ap (λ (k : Read). noted (textReply (shown k .answer) .figures) (given .figures .now)) q,
+        ap (λ (k : Read). shown k .bytes) q,
+      ),
+    )
+
 same-length-2 : tie.Need-same-length-2
 same-length-2 c = search needs
-
-returns : tie.Need-returns
-returns c = (c .before .before .refuse .ensures .0 ∙ ap (λ (w : Written). textReply w .number) (sym (c .before .before .before .before .before .refusal .given .1) ∙ c .before .before .before .before .before .before .before .before .before .streams-to-text .ensures .0), (c .before .before .refuse .ensures .1 ∙ ap (λ (w : Written). noted (textReply w .figures) (c .before .before .before .before .before .before .before .before .before .before .before .before .before .before .args .figures .now)) (sym (c .before .before .before .before .before .refusal .given .1) ∙ c .before .before .before .before .before .before .before .before .before .streams-to-text .ensures .0), c .before .before .before .before .before .before .before .before .before .streams-to-text .ensures .1))
 
 same-length-3 : tie.Need-same-length-3
 same-length-3 c = search needs
 
-same-length-4 : tie.Need-same-length-4
-same-length-4 c = search needs
-
 returns-2 : tie.Need-returns-2
-returns-2 c = (ap (λ (w : Written). textReply w .number) (sym (c .before .before .before .before .before .bytes .given .1) ∙ c .before .before .before .before .before .before .before .before .before .streams-to-text .ensures .0), (c .before .before .one .ensures ∙ ap (λ (w : Written). noted (textReply w .figures) (c .before .before .before .before .before .before .before .before .before .before .before .before .before .before .args .figures .now)) (sym (c .before .before .before .before .before .bytes .given .1) ∙ c .before .before .before .before .before .before .before .before .before .streams-to-text .ensures .0), c .before .before .before .before .before .before .before .before .before .streams-to-text .ensures .1))
+returns-2 c = let given = c .before .before .before .before .before .before .before .before .before .before .before .before .before .before .args in
+    let q = sym (c .before .before .before .before .before .before .before .before .known .given .1) ∙ c .before .before .before .before .before .before .before .before .before .before .base-from .ensures in
+    let shown : Read → Rendering = λ k. toTextBy k (given .elements .now) (given .lengths .now) (given .depth) (given .answer .now) in (
+      c .before .before .before .before .show .ensures .0 ∙ ap (λ (k : Read). textReply (shown k .answer) .number) q,
+      (
+        c .before .before .before .before .show .ensures .1 .0 ∙ ap (λ (k : Read). noted (textReply (shown k .answer) .figures) (given .figures .now)) q,
+        c .before .before .before .before .show .ensures .1 .1 ∙ ap (λ (k : Read). shown k .bytes) q,
+      ),
+    )
 
 pub hailspindle-streams-to-text-spec : {M : Type 1} → statement M
 hailspindle-streams-to-text-spec =
     tie.close
     (tie.spec
-    streams-to-text-requires
-    enum-known-refusal
+    base-from-requires
+    enum-told
     refuse-requires
-    enum-known-bytes
-    one-requires
+    enum-known-known
+    show-requires
     same-length
-    same-length-2
     returns
+    same-length-2
     same-length-3
-    same-length-4
     returns-2)
