@@ -1,4 +1,4 @@
-// `check FORMULA | depth D` or `refused N at P`
+// `check FORMULA | depth D`, `bool depth D` or `refused N at P`
 use crate::fields::BYTES;
 use crate::fields::decode;
 use crate::fields::field;
@@ -9,11 +9,23 @@ use crate::writing::put_word;
 use checking::check::Checked;
 use checking::check::check;
 use refusals::line::refusal_line;
+use snesl::code::Base;
 use snesl::refusal::Refusal;
+ghost use Rattle.vectors.specs.Page.{Page, Within};
 
-fn is_depth(line: &[u8], depth: u8) -> bool {
+fn put_base(text: &mut [u8], base: Base) -> usize
+    requires { ⌜ Page 0 (now text) ⌝ }
+    ensures { λ r. ⌜ Within r (now (text .exit)) ⌝ }
+{
+    match base {
+        Base::Int => put_word(text, 0, b"depth"),
+        Base::Bool => put_word(text, 0, b"bool depth"),
+    }
+}
+
+fn is_type(line: &[u8], base: Base, depth: u8) -> bool {
     let mut text = [0u8; TEXT];
-    let a = put_word(&mut text, 0, b"depth");
+    let a = put_base(&mut text, base);
     let b = put_length(&mut text, a, depth as usize);
     is_named(line, &text[..b])
 }
@@ -28,11 +40,14 @@ fn is_refused(line: &[u8], refusal: Refusal) -> bool {
     is_named(line, &text[..n - 1])
 }
 
-pub fn check_case(line: &[u8]) -> bool {
+pub(crate) fn check_case(line: &[u8]) -> bool {
     let mut formula = [0u8; BYTES];
     let n = decode(field(line, 1), &mut formula);
     match check(&formula[..n]) {
-        Checked::Depth(depth) => is_depth(line, depth),
+        Checked::Typed(named) => {
+            let base = named.base;
+            is_type(line, base, named.depth)
+        }
         Checked::Refused(refusal) => is_refused(line, refusal),
     }
 }

@@ -1,6 +1,8 @@
 // A line of the vectors: its fields, apart by one blank each, what they stand for, and what the line names behind its bar.
 use decimals::numbers::ReadInt;
+use decimals::numbers::byte_at;
 use decimals::numbers::read_int;
+use snesl::code::Base;
 ghost use Prim.Native.Nat.{_≤_};
 ghost use lib.ListN.{length};
 ghost use Rattle.io.specs.Counts.{Counts};
@@ -12,7 +14,7 @@ pub const BYTES: usize = 4096;
 pub const LENGTHS: usize = 16;
 
 // The field of this number, from 0 on; nothing where there is none.
-pub fn field(line: &[u8], number: usize) -> &[u8] {
+pub(crate) fn field(line: &[u8], number: usize) -> &[u8] {
     let mut left = number;
     let mut start = 0;
     let mut at = 0;
@@ -49,7 +51,7 @@ fn bar(line: &[u8]) -> usize
 }
 
 // What the line names.
-pub fn named(line: &[u8]) -> &[u8] {
+pub(crate) fn named(line: &[u8]) -> &[u8] {
     let at = bar(line);
     if line.len() - at < 2 {
         return &line[..0];
@@ -62,7 +64,7 @@ fn wide(byte: u8) -> u64 {
 }
 
 // The number that a field's digits make.
-pub fn number(field: &[u8]) -> usize {
+pub(crate) fn number(field: &[u8]) -> usize {
     let mut value: u64 = 0;
     let mut i = 0;
     while i < field.len() {
@@ -75,10 +77,18 @@ pub fn number(field: &[u8]) -> usize {
 }
 
 // The int of a field; 0 where it has none.
-pub fn int(field: &[u8]) -> i32 {
+pub(crate) fn int(field: &[u8]) -> i32 {
     match read_int(field) {
         ReadInt::Int(z, _) => z,
         ReadInt::No => 0,
+    }
+}
+
+// The base of a conversion's line: its mark ends in b for bools.
+pub(crate) fn base_of(line: &[u8]) -> Base {
+    match byte_at(line, 3) {
+        b'b' => Base::Bool,
+        _ => Base::Int,
     }
 }
 

@@ -25,7 +25,7 @@ fn is_found(job: &[u8], i: usize, start: usize, end: usize) -> bool {
     is_part(job, find(job, i), start, end)
 }
 
-pub fn find_case(line: &[u8]) -> bool {
+pub(crate) fn find_case(line: &[u8]) -> bool {
     let mut job = [0u8; BYTES];
     let i = number(field(line, 1));
     let n = decode(field(line, 2), &mut job);

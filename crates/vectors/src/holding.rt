@@ -33,7 +33,7 @@ fn holds(line: &[u8], elements: &mut [i32], answer: &mut [u8]) -> bool {
     }
 }
 
-pub fn streams_case(line: &[u8]) -> bool {
+pub(crate) fn streams_case(line: &[u8]) -> bool {
     let mut elements = [0i32; Buffer::ELEMENTS];
     let mut answer = [0u8; ANSWER];
     holds(line, &mut elements, &mut answer)

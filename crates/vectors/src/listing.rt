@@ -26,7 +26,7 @@ fn lists(line: &[u8], text: &mut [u8]) -> bool {
     }
 }
 
-pub fn list_case(line: &[u8]) -> bool {
+pub(crate) fn list_case(line: &[u8]) -> bool {
     let mut text = [0u8; LISTING];
     lists(line, &mut text)
 }

@@ -46,13 +46,13 @@ fn unfold(output: &[u8], out: &mut [u8]) -> usize
     n
 }
 
-pub fn is_named(line: &[u8], text: &[u8]) -> bool {
+pub(crate) fn is_named(line: &[u8], text: &[u8]) -> bool {
     let mut output = [0u8; BYTES];
     let n = unfold(named(line), &mut output);
     same(&output[..n], text)
 }
 
-pub fn is_refusal(line: &[u8], refusal: Refusal) -> bool {
+pub(crate) fn is_refusal(line: &[u8], refusal: Refusal) -> bool {
     let mut text = [0u8; REFUSAL];
     let n = refusal_line(refusal, &mut text);
     is_named(line, &text[..n])

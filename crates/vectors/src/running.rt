@@ -21,7 +21,7 @@ fn runs(line: &[u8], elements: &mut [i32], answer: &mut [u8], text: &mut [u8]) -
     is_named(line, &text[..end])
 }
 
-pub fn run_case(line: &[u8]) -> bool {
+pub(crate) fn run_case(line: &[u8]) -> bool {
     let mut elements = [0i32; Buffer::ELEMENTS];
     let mut answer = [0u8; ANSWER];
     let mut text = [0u8; ANSWER + BESIDE];

@@ -1,5 +1,6 @@
-// `s2t DEPTH ANSWER ; LENGTHS ; ELEMENTS | ..`
+// `s2t DEPTH ANSWER ; LENGTHS ; ELEMENTS | ..`, and `s2tb` for bools
 use crate::fields::LENGTHS;
+use crate::fields::base_of;
 use crate::fields::field;
 use crate::fields::int;
 use crate::fields::number;
@@ -11,6 +12,7 @@ use crate::writing::put_word;
 use decimals::numbers::byte_at;
 use rendering::showing::Written;
 use rendering::showing::streams_to_text;
+use snesl::code::Base;
 use snesl::limits::Buffer;
 ghost use Prim.Native.Nat.{_≤_};
 ghost use lib.ListN.{length};
@@ -91,10 +93,10 @@ fn is_shown(line: &[u8], answer: &[u8]) -> bool {
 }
 
 // In a part of this answer as long as the line says.
-fn shows(line: &[u8], lengths: &[usize], elements: &[i32], answer: &mut [u8]) -> bool {
+fn shows(line: &[u8], base: Base, lengths: &[usize], elements: &[i32], answer: &mut [u8]) -> bool {
     let depth = up_to(number(field(line, 1)), 255) as u8;
     let lent = up_to(number(field(line, 2)), answer.len());
-    match streams_to_text(elements, lengths, depth, &mut answer[..lent]) {
+    match streams_to_text(elements, lengths, base, depth, &mut answer[..lent]) {
         Written::Bytes(bytes) => {
             let end = up_to(bytes, answer.len());
             is_shown(line, &answer[..end])
@@ -103,7 +105,8 @@ fn shows(line: &[u8], lengths: &[usize], elements: &[i32], answer: &mut [u8]) ->
     }
 }
 
-pub fn show_case(line: &[u8]) -> bool {
+pub(crate) fn show_case(line: &[u8]) -> bool {
+    let base = base_of(line);
     let mut lengths = [0usize; LENGTHS];
     let mut elements = [0i32; Buffer::ELEMENTS];
     let mut answer = [0u8; ANSWER];
@@ -111,5 +114,11 @@ pub fn show_case(line: &[u8]) -> bool {
     let end = list_end(line, between + 1);
     let levels = read_lengths(line, 4, between, &mut lengths);
     let count = read_elements(line, between + 1, end, &mut elements);
-    shows(line, &lengths[..levels], &elements[..count], &mut answer)
+    shows(
+        line,
+        base,
+        &lengths[..levels],
+        &elements[..count],
+        &mut answer,
+    )
 }

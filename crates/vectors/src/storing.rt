@@ -1,6 +1,7 @@
-// `t2s DEPTH ELEMENTS LENGTHS TEXT | ..`
+// `t2s DEPTH ELEMENTS LENGTHS TEXT | ..`, and `t2sb` for bools
 use crate::fields::BYTES;
 use crate::fields::LENGTHS;
+use crate::fields::base_of;
 use crate::fields::decode;
 use crate::fields::field;
 use crate::fields::number;
@@ -11,6 +12,7 @@ use crate::writing::TEXT;
 use crate::writing::put_elements;
 use crate::writing::put_lengths;
 use crate::writing::put_word;
+use snesl::code::Base;
 use snesl::limits::Buffer;
 use valuetext::storing::Stored;
 use valuetext::storing::text_to_streams;
@@ -34,7 +36,7 @@ fn are_stored(line: &[u8], lengths: &[usize], elements: &[i32]) -> bool {
 }
 
 // In parts of these buffers as long as the line says.
-fn stores(line: &[u8], elements: &mut [i32], lengths: &mut [usize]) -> bool {
+fn stores(line: &[u8], base: Base, elements: &mut [i32], lengths: &mut [usize]) -> bool {
     let mut text = [0u8; BYTES];
     let depth = up_to(number(field(line, 1)), 255) as u8;
     let lent = up_to(number(field(line, 2)), elements.len());
@@ -42,6 +44,7 @@ fn stores(line: &[u8], elements: &mut [i32], lengths: &mut [usize]) -> bool {
     let n = decode(field(line, 4), &mut text);
     match text_to_streams(
         &text[..n],
+        base,
         depth,
         &mut elements[..lent],
         &mut lengths[..places],
@@ -55,8 +58,9 @@ fn stores(line: &[u8], elements: &mut [i32], lengths: &mut [usize]) -> bool {
     }
 }
 
-pub fn store_case(line: &[u8]) -> bool {
+pub(crate) fn store_case(line: &[u8]) -> bool {
+    let base = base_of(line);
     let mut elements = [0i32; Buffer::ELEMENTS];
     let mut lengths = [0usize; LENGTHS];
-    stores(line, &mut elements, &mut lengths)
+    stores(line, base, &mut elements, &mut lengths)
 }

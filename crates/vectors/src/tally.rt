@@ -14,7 +14,7 @@ pub enum Kind {
     Unknown,
 }
 
-pub fn kind_of(line: &[u8]) -> Kind {
+pub(crate) fn kind_of(line: &[u8]) -> Kind {
     match byte_at(line, 0) {
         b'r' => Kind::Run,
         b'l' => Kind::List,
@@ -42,7 +42,7 @@ fn place_of(kind: Kind) -> usize {
     }
 }
 
-pub fn count(counts: &mut [u64], kind: Kind) {
+pub(crate) fn count(counts: &mut [u64], kind: Kind) {
     let place = place_of(kind);
     if place < counts.len() {
         counts[place] = std::num::wrapping_add_u64(counts[place], 1);
@@ -57,7 +57,7 @@ fn print_count(name: &[u8], counts: &[u64], place: usize) {
     }
 }
 
-pub fn print_counts(counts: &[u64]) {
+pub(crate) fn print_counts(counts: &[u64]) {
     print_count(b"run ", counts, 0);
     print_count(b"streams ", counts, 1);
     print_count(b"list ", counts, 2);

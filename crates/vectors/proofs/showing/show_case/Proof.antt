@@ -5,6 +5,9 @@ use borrow.Author.Needs.{needs}
 use Rattle.vectors.proofs.showing.show_case.Statement.{statement}
 use Rattle.vectors.proofs.showing.show_case.Tie as tie
 
+base-of-requires : tie.Need-base-of-requires
+base-of-requires c κs = tt
+
 list-end-requires : tie.Need-list-end-requires
 list-end-requires c κs = tt
 
@@ -54,6 +57,7 @@ pub show-case-spec : {M : Type 1} → statement M
 show-case-spec =
     tie.close
     (tie.spec
+    base-of-requires
     list-end-requires
     add-list-end
     list-end-requires-2

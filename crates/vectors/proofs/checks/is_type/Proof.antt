@@ -2,17 +2,14 @@
 use borrow.Author.Needs.{needs}
 use mathlib.Core.Path.{sym}
 use lib.Seq.{length-take-le}
-use Rattle.vectors.proofs.checks.is_depth.Statement.{statement}
-use Rattle.vectors.proofs.checks.is_depth.Tie as tie
+use Rattle.vectors.proofs.checks.is_type.Statement.{statement}
+use Rattle.vectors.proofs.checks.is_type.Tie as tie
 
-slice-aggregate-put-word : tie.Need-slice-aggregate-put-word
-slice-aggregate-put-word c = search needs
+slice-aggregate-put-base : tie.Need-slice-aggregate-put-base
+slice-aggregate-put-base c = search needs
 
-slice-aggregate-put-word-2 : tie.Need-slice-aggregate-put-word-2
-slice-aggregate-put-word-2 c = search needs
-
-put-word-requires : tie.Need-put-word-requires
-put-word-requires c κs = search needs
+put-base-requires : tie.Need-put-base-requires
+put-base-requires c κs = search needs
 
 slice-aggregate-put-length : tie.Need-slice-aggregate-put-length
 slice-aggregate-put-length c = search needs
@@ -32,13 +29,12 @@ is-named-requires c κs = tt
 returns : tie.Need-returns
 returns c = search needs
 
-pub is-depth-spec : {M : Type 1} → statement M
-is-depth-spec =
+pub is-type-spec : {M : Type 1} → statement M
+is-type-spec =
     tie.close
     (tie.spec
-    slice-aggregate-put-word
-    slice-aggregate-put-word-2
-    put-word-requires
+    slice-aggregate-put-base
+    put-base-requires
     slice-aggregate-put-length
     put-length-requires
     array-share-prefix-text
