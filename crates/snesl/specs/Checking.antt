@@ -11,9 +11,9 @@ use Rattle.snesl.specs.declared.refusal.Refusal.{Refusal}
 use Rattle.snesl.specs.declared.refusal.Refusal.the-variants.{Unbound, WrongType}
 use Rattle.snesl.specs.Limits.{mostDepth}
 use Rattle.snesl.specs.Terms as terms
-use Rattle.snesl.specs.Values.{ValueType, scalar, braces, int, depthOf, typeOf}
-use Rattle.snesl.specs.Terms.{_∋_, here, there, Term, Scalars, anyType, listedTypes, All, ∅, _▹_}
-use Rattle.snesl.specs.Records.{Raw, var, bind, const, iota, plus, sum, each, Input}
+use Rattle.snesl.specs.Values.{ValueType, scalar, braces, int, bool, depthOf, typeOf, resultOf}
+use Rattle.snesl.specs.Terms.{_∋_, here, there, Term, Listing, Scalars, anyType, listedTypes, All, ∅, _▹_}
+use Rattle.snesl.specs.Records.{Raw, var, bind, const, truth, iota, operation, negation, sum, each, guard, Input}
 
 -- the name of a variable of whatever type
 abbrev pub Name : ValueType → Type 0
@@ -39,7 +39,7 @@ abbrev pub isBound : {Γ : List ValueType} → Found Γ → Bool
 isBound missing = false
 isBound (found τ x) = true
 
--- a variable of the type that is wanted: a scalar, an int, a sequence, a sequence of ints
+-- a variable of the type that is wanted: a scalar, a bool, an int, a sequence, a sequence of ints
 pub data AnyScalar (Γ : List ValueType) : Type 0 where
   noScalar : AnyScalar Γ
   aScalar : (b : Base) → Γ ∋ scalar b → AnyScalar Γ
@@ -48,6 +48,11 @@ abbrev pub asScalar : {Γ : List ValueType} → Found Γ → AnyScalar Γ
 asScalar missing = noScalar
 asScalar (found (scalar b) x) = aScalar b x
 asScalar (found (braces τ) x) = noScalar
+
+abbrev pub asBool : {Γ : List ValueType} → AnyScalar Γ → Option (Γ ∋ bool)
+asBool noScalar = none
+asBool (aScalar base.Int x) = none
+asBool (aScalar base.Bool x) = some x
 
 abbrev pub asInt : {Γ : List ValueType} → AnyScalar Γ → Option (Γ ∋ int)
 asInt noScalar = none
@@ -74,10 +79,10 @@ unfoldable pub names : Variable → List Variable → Bool
 names x [] = false
 names x (y ∷ ys) = same x y || names x ys
 
--- each name of a using list is bound, once, and is not x
-unfoldable pub usable : {Γ : List ValueType} → All Name Γ → Variable → List Variable → Bool
-usable scope x [] = true
-usable scope x (u ∷ us) = isBound (find u scope) && (not (same x u) && (not (names u us) && usable scope x us))
+-- each name of a using list is bound, and listed once
+unfoldable pub usable : {Γ : List ValueType} → All Name Γ → List Variable → Bool
+usable scope [] = true
+usable scope (u ∷ us) = isBound (find u scope) && (not (names u us) && usable scope us)
 
 -- a listed variable with its name, and all of them, if each is a scalar
 abbrev pub NamedScalars : List ValueType → Type 0
@@ -101,6 +106,27 @@ unfoldable pub listedNames : {Γ : List ValueType} → (l : NamedScalars Γ) →
 listedNames [] = ∅
 listedNames (p ∷ l) = p .0 ▹ listedNames l
 
+-- the same of variables of any type, for a guard
+abbrev pub NamedListing : List ValueType → Type 0
+NamedListing Γ = List (Variable × ((τ : ValueType) × (Γ ∋ τ)))
+
+abbrev pub anyFirst : {Γ : List ValueType} → Variable → Found Γ → Option (NamedListing Γ) → Option (NamedListing Γ)
+anyFirst u missing l = none
+anyFirst u (found τ x) none = none
+anyFirst u (found τ x) (some l) = some ((u, (τ, x)) ∷ l)
+
+unfoldable pub listedAny : {Γ : List ValueType} → All Name Γ → List Variable → Option (NamedListing Γ)
+listedAny scope [] = some []
+listedAny scope (u ∷ us) = anyFirst u (find u scope) (listedAny scope us)
+
+abbrev pub anyPointers : {Γ : List ValueType} → NamedListing Γ → Listing Γ
+anyPointers [] = []
+anyPointers (p ∷ l) = p .1 ∷ anyPointers l
+
+unfoldable pub anyNames : {Γ : List ValueType} → (l : NamedListing Γ) → All Name (listedTypes (anyPointers l))
+anyNames [] = ∅
+anyNames (p ∷ l) = p .0 ▹ anyNames l
+
 -- a typed expression, or why there is none
 pub data Typed (Γ : List ValueType) : Type 0 where
   refused : Refusal → Typed Γ
@@ -123,28 +149,39 @@ abbrev pub typedThen : {Γ Δ : List ValueType} → Typed Γ → ((τ : ValueTyp
 typedThen (refused r) f = refused r
 typedThen (typed τ e) f = f τ e
 
--- Γ ⊢ e : τ, in one walk; an EA's depth is told when its body is done
+-- Γ ⊢ e : τ, in one walk; the depth of an EA or a GU is told when its body is done
 unfoldable pub check : {Γ : List ValueType} → All Name Γ → Raw → Typed Γ
 check scope (var p x) = elim (find x scope) [ missing ↦ refused (Unbound p) | found τ v ↦ typed τ (terms.var v) ]
 check scope (bind p x e₁ e₂) =
     typedThen (check scope e₁) (λ υ t₁. typedThen (check (x ▹ scope) e₂) (λ τ t₂. typed τ (terms.bind t₁ t₂)))
-check scope (const p z) = typed int (terms.const z)
+check scope (const p z) = typed int (terms.const base.Int z)
+check scope (truth p c) = typed bool (terms.const base.Bool c)
 check scope (iota p x) =
     demand (isBound (find x scope)) (Unbound p) (typedIf p (asInt (asScalar (find x scope))) (λ v. typed (braces int) (terms.iota v)))
-check scope (plus p x y) =
+check scope (operation p o x y) =
     demand (isBound (find x scope) && isBound (find y scope)) (Unbound p)
-    (typedIf p (asInt (asScalar (find x scope))) (λ v. typedIf p (asInt (asScalar (find y scope))) (λ w. typed int (terms.plus v w))))
+    (typedIf p (asInt (asScalar (find x scope))) (λ v. typedIf p (asInt (asScalar (find y scope))) (λ w. typed (scalar (resultOf o)) (terms.operation o v w))))
+check scope (negation p x) =
+    demand (isBound (find x scope)) (Unbound p) (typedIf p (asBool (asScalar (find x scope))) (λ v. typed bool (terms.negation v)))
 check scope (sum p x) =
     demand (isBound (find x scope)) (Unbound p)
     (typedIf p (asInts (asSequence (find x scope))) (λ v. typed int (terms.sum v)))
 check scope (each p x y us e) =
-    demand (isBound (find y scope) && usable scope x us) (Unbound p)
+    demand (isBound (find y scope) && (usable scope us && not (names x us))) (Unbound p)
     (typedSequence p (asSequence (find y scope))
     (λ υ v.
     typedIf p (listedScalars scope us)
     (λ l.
     typedThen (check (x ▹ listedNames l) e)
     (λ τ t. demand (ltb (depthOf τ) mostDepth) (WrongType p) (typed (braces τ) (terms.each v (pointers l) t))))))
+check scope (guard p g us e) =
+    demand (isBound (find g scope) && usable scope us) (Unbound p)
+    (typedIf p (asBool (asScalar (find g scope)))
+    (λ v.
+    typedIf p (listedAny scope us)
+    (λ l.
+    typedThen (check (anyNames l) e)
+    (λ τ t. demand (ltb (depthOf τ) mostDepth) (WrongType p) (typed (braces τ) (terms.guard v (anyPointers l) t))))))
 
 -- inputs, first one first, turned into a context, newest first
 abbrev pub turnedOnto : List ValueType → List ValueType → List ValueType

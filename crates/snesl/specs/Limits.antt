@@ -16,7 +16,7 @@ mostInputs = 16
 abbrev pub mostRecords : ℕ
 mostRecords = 256
 
--- LT and EA records round another
+-- LT, EA and GU records round another
 abbrev pub mostNesting : ℕ
 mostNesting = 64
 

@@ -9,6 +9,8 @@ use lib.IntN.{ℤ, pos, negsuc}
 use lib.ListN.{length, getD}
 use Rattle.snesl.specs.declared.code.Base.{Base}
 use Rattle.snesl.specs.declared.code.Base.the-variants as base
+use Rattle.snesl.specs.declared.code.Operation.{Operation}
+use Rattle.snesl.specs.declared.code.Operation.the-variants.{Plus, LessEqual, Equal}
 use Rattle.snesl.specs.declared.code.Variable.{Variable}
 use Rattle.snesl.specs.declared.refusal.Refusal.{Refusal}
 use Rattle.snesl.specs.declared.refusal.Refusal.the-variants.{TooLong, NoRecord, OverLimit, TooMany}
@@ -21,7 +23,7 @@ byteAt t k = getD t k 0
 abbrev pub markAt : List ℕ → ℕ → ℕ
 markAt t k = elim (leb (k + 2) (length t)) [ true ↦ byteAt t k * 256 + byteAt t (k + 1) | false ↦ 0 ]
 
--- IN, IB, VA, VR, LT, KN, IO, PL, SM, EA
+-- IN, IB, VA, VR, LT, KN, KB, IO, PL, LE, EQ, NO, SM, EA, GU
 abbrev pub markIN : ℕ
 markIN = 18766
 
@@ -40,17 +42,32 @@ markLT = 19540
 abbrev pub markKN : ℕ
 markKN = 19278
 
+abbrev pub markKB : ℕ
+markKB = 19266
+
 abbrev pub markIO : ℕ
 markIO = 18767
 
 abbrev pub markPL : ℕ
 markPL = 20556
 
+abbrev pub markLE : ℕ
+markLE = 19525
+
+abbrev pub markEQ : ℕ
+markEQ = 17745
+
+abbrev pub markNO : ℕ
+markNO = 20047
+
 abbrev pub markSM : ℕ
 markSM = 21325
 
 abbrev pub markEA : ℕ
 markEA = 17729
+
+abbrev pub markGU : ℕ
+markGU = 18261
 
 abbrev pub variableAt : List ℕ → ℕ → Variable
 variableAt t k = record { 0 = byteAt t k }
@@ -77,18 +94,22 @@ pub data Raw : Type 0 where
   var : (place : ℕ) → Variable → Raw
   bind : (place : ℕ) → Variable → Raw → Raw → Raw
   const : (place : ℕ) → ℤ → Raw
+  truth : (place : ℕ) → Bool → Raw
   iota : (place : ℕ) → Variable → Raw
-  plus : (place : ℕ) → Variable → Variable → Raw
+  operation : (place : ℕ) → Operation → Variable → Variable → Raw
+  negation : (place : ℕ) → Variable → Raw
   sum : (place : ℕ) → Variable → Raw
   each : (place : ℕ) (x y : Variable) (us : List Variable) → Raw → Raw
+  guard : (place : ℕ) (g : Variable) (us : List Variable) → Raw → Raw
 
--- An expression record by itself: none that is whole (2), one over a limit (3), one with no expression behind it, LT, or EA. Each with its bytes.
+-- An expression record by itself: none that is whole (2), one over a limit (3), one with no expression behind it, LT, EA, or GU. Each with its bytes.
 pub data Head : Type 0 where
   absent : Head
   over : Head
   single : Raw → (bytes : ℕ) → Head
   letting : Variable → Head
   eaching : (x y : Variable) (us : List Variable) (bytes : ℕ) → Head
+  guarding : (g : Variable) (us : List Variable) (bytes : ℕ) → Head
 
 -- a record of so many bytes at k is whole, and then keeps to its limits
 abbrev pub whole : List ℕ → (k bytes : ℕ) → Bool → Head → Head
@@ -107,6 +128,41 @@ eachHead t k =
       | false ↦ absent
     ]
 
+-- GU g j and j variables
+abbrev pub guardHead : List ℕ → ℕ → Head
+guardHead t k =
+    let j = byteAt t (k + 3) in
+    elim (leb (k + 4) (length t)) [
+      | true ↦
+          whole t k (4 + j)
+          (variablesOk t (k + 2) 1 && leb j mostListed && variablesOk t (k + 4) j)
+          (guarding (variableAt t (k + 2)) (variablesAt t (k + 4) j) (4 + j))
+      | false ↦ absent
+    ]
+
+-- KB and 0 for F or 1 for T: with any other byte it is no record
+abbrev pub truthHead : List ℕ → ℕ → Head
+truthHead t k =
+    elim (eqb (byteAt t (k + 2)) 0) [
+      | true ↦ whole t k 3 true (single (truth k false) 3)
+      | false ↦ elim (eqb (byteAt t (k + 2)) 1) [ true ↦ whole t k 3 true (single (truth k true) 3) | false ↦ absent ]
+    ]
+
+-- the scalar operation on two ints that a mark stands for
+abbrev pub operationOf : (mark : ℕ) → Option Operation
+operationOf m =
+    elim (eqb m markPL) [
+      | true ↦ some Plus
+      | false ↦
+          elim (eqb m markLE)
+          [ true ↦ some LessEqual | false ↦ elim (eqb m markEQ) [ true ↦ some Equal | false ↦ none ] ]
+    ]
+
+abbrev pub operationHead : List ℕ → ℕ → Option Operation → Head
+operationHead t k none = absent
+operationHead t k (some o) =
+    whole t k 4 (variablesOk t (k + 2) 2) (single (operation k o (variableAt t (k + 2)) (variableAt t (k + 3))) 4)
+
 unfoldable pub headAt : List ℕ → ℕ → Head
 headAt t k =
     let m = markAt t k in
@@ -120,15 +176,23 @@ headAt t k =
                 elim (eqb m markKN) [
                   | true ↦ whole t k 6 true (single (const k (intAt t (k + 2))) 6)
                   | false ↦
-                      elim (eqb m markIO) [
-                        | true ↦ whole t k 3 (variablesOk t (k + 2) 1) (single (iota k x) 3)
+                      elim (eqb m markKB) [
+                        | true ↦ truthHead t k
                         | false ↦
-                            elim (eqb m markPL) [
-                              | true ↦ whole t k 4 (variablesOk t (k + 2) 2) (single (plus k x (variableAt t (k + 3))) 4)
+                            elim (eqb m markIO) [
+                              | true ↦ whole t k 3 (variablesOk t (k + 2) 1) (single (iota k x) 3)
                               | false ↦
-                                  elim (eqb m markSM) [
-                                    | true ↦ whole t k 3 (variablesOk t (k + 2) 1) (single (sum k x) 3)
-                                    | false ↦ elim (eqb m markEA) [ true ↦ eachHead t k | false ↦ absent ]
+                                  elim (eqb m markNO) [
+                                    | true ↦ whole t k 3 (variablesOk t (k + 2) 1) (single (negation k x) 3)
+                                    | false ↦
+                                        elim (eqb m markSM) [
+                                          | true ↦ whole t k 3 (variablesOk t (k + 2) 1) (single (sum k x) 3)
+                                          | false ↦
+                                              elim (eqb m markEA) [
+                                                | true ↦ eachHead t k
+                                                | false ↦ elim (eqb m markGU) [ true ↦ guardHead t k | false ↦ operationHead t k (operationOf m) ]
+                                              ]
+                                        ]
                                   ]
                             ]
                       ]
@@ -145,13 +209,14 @@ abbrev pub thenScan : Scanned → (Raw → ℕ → ℕ → Scanned) → Scanned
 thenScan (refused r) f = refused r
 thenScan (scanned e k n) f = f e k n
 
--- no record may stand where as many LT and EA records as are allowed and one more stand round it
+-- no record may stand where as many LT, EA and GU records as are allowed and one more stand round it
 abbrev pub tooDeep : ℕ → Head → Scanned
 tooDeep k absent = refused (NoRecord k)
 tooDeep k over = refused (OverLimit k)
 tooDeep k (single e b) = refused (TooMany k)
 tooDeep k (letting x) = refused (TooMany k)
 tooDeep k (eaching x y us b) = refused (TooMany k)
+tooDeep k (guarding g us b) = refused (TooMany k)
 
 -- one more record, unless there are as many as are allowed
 abbrev pub counted : (k n : ℕ) → Scanned → Scanned
@@ -171,6 +236,8 @@ scan (suc levels) t k n =
           (λ e₁ k₁ n₁. thenScan (scan levels t k₁ n₁) (λ e₂ k₂ n₂. scanned (bind k x e₁ e₂) k₂ n₂)))
       | eaching x y us b ↦
           counted k n (thenScan (scan levels t (k + b) (n + 1)) (λ e k₁ n₁. scanned (each k x y us e) k₁ n₁))
+      | guarding g us b ↦
+          counted k n (thenScan (scan levels t (k + b) (n + 1)) (λ e k₁ n₁. scanned (guard k g us e) k₁ n₁))
     ]
 
 -- IN x depth: braces round int; IB x depth: braces round bool

@@ -1,10 +1,10 @@
--- Typed expressions: 002's expressions (Figure 1.1) with 01's sum, one constructor for each typing rule (1.1.2).
+-- Typed expressions: 002's expressions (Figure 1.1) with 01's sum and 001's bools and restricted comprehension, one constructor for each typing rule (1.1.2).
 -- A context Γ is the list of the types of the variables in scope, newest first; a variable is where it stands in it, so names
 -- are gone: Checking.antt finds the place of a name.
 use mathlib.Core.List.{List, [], _∷_}
-use lib.IntN.{ℤ}
 use Rattle.snesl.specs.declared.code.Base.{Base}
-use Rattle.snesl.specs.Values.{ValueType, scalar, braces, int}
+use Rattle.snesl.specs.declared.code.Operation.{Operation}
+use Rattle.snesl.specs.Values.{ValueType, scalar, braces, int, bool, Element, resultOf}
 
 -- Γ(x) = τ
 infix 40 _∋_
@@ -12,7 +12,7 @@ pub data _∋_ : List ValueType → ValueType → Type 0 where
   here : {τ : ValueType} {Γ : List ValueType} → (τ ∷ Γ) ∋ τ
   there : {τ υ : ValueType} {Γ : List ValueType} → Γ ∋ τ → (υ ∷ Γ) ∋ τ
 
--- a using list: variables, each with its type; an EA's holds ints and bools only
+-- a using list: variables, each with its type; an EA's holds ints and bools only, a GU's any
 abbrev pub Listing : List ValueType → Type 0
 Listing Γ = List ((τ : ValueType) × (Γ ∋ τ))
 
@@ -28,15 +28,17 @@ abbrev pub listedTypes : {Γ : List ValueType} → Listing Γ → List ValueType
 listedTypes [] = []
 listedTypes (u ∷ us) = u .0 ∷ listedTypes us
 
--- Γ ⊢ e : τ. Inside a comprehension's body only its x and the listed variables are in scope.
+-- Γ ⊢ e : τ. Inside a comprehension's body only its x and the listed variables are in scope, inside a guard's only the listed ones.
 pub data Term : List ValueType → ValueType → Type 0 where
   var : {Γ : List ValueType} {τ : ValueType} → Γ ∋ τ → Term Γ τ
   bind : {Γ : List ValueType} {υ τ : ValueType} → Term Γ υ → Term (υ ∷ Γ) τ → Term Γ τ
-  const : {Γ : List ValueType} → ℤ → Term Γ int
+  const : {Γ : List ValueType} → (b : Base) → Element b → Term Γ (scalar b)
   iota : {Γ : List ValueType} → Γ ∋ int → Term Γ (braces int)
-  plus : {Γ : List ValueType} → Γ ∋ int → Γ ∋ int → Term Γ int
+  operation : {Γ : List ValueType} → (o : Operation) → Γ ∋ int → Γ ∋ int → Term Γ (scalar (resultOf o))
+  negation : {Γ : List ValueType} → Γ ∋ bool → Term Γ bool
   sum : {Γ : List ValueType} → Γ ∋ braces int → Term Γ int
   each : {Γ : List ValueType} {υ τ : ValueType} → Γ ∋ braces υ → (us : Scalars Γ) → Term (υ ∷ listedTypes (anyType us)) τ → Term Γ (braces τ)
+  guard : {Γ : List ValueType} {τ : ValueType} → Γ ∋ bool → (us : Listing Γ) → Term (listedTypes us) τ → Term Γ (braces τ)
 
 -- something of type P τ for each variable of a context: the environments of evaluation (ρ) and of translation (δ)
 infixr 45 _▹_

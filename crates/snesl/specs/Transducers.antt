@@ -18,7 +18,7 @@ use Rattle.snesl.specs.declared.code.Operation.the-variants.{Plus, LessE
 use Rattle.snesl.specs.declared.code.StreamId.{StreamId}
 use Rattle.snesl.specs.declared.code.Transducer.{Transducer}
 use Rattle.snesl.specs.declared.code.Transducer.the-variants.{Const, ConstBool, ToFlags, B2u, Usum, MapTwo, MapOneNot, ScanPlus, Distr, SumPlus, Pack, UPack}
-use Rattle.snesl.specs.Values.{Element, inRange}
+use Rattle.snesl.specs.Values.{Element, inRange, resultOf, equalZ}
 use Rattle.snesl.specs.Ascii.{ascii}
 use Rattle.snesl.specs.Streams.{Stream, ints, bools, flags, units, bare, dataOf, dataKind, baseIn, Store, _!_}
 
@@ -149,16 +149,6 @@ unfoldable pub pairwise : {B C D : Type 0} → (B → C → D) → List B → Li
 pairwise f [] ys = []
 pairwise f (x ∷ xs) [] = []
 pairwise f (x ∷ xs) (y ∷ ys) = f x y ∷ pairwise f xs ys
-
--- the base of a scalar operation's result
-abbrev pub resultOf : Operation → Base
-resultOf Plus = base.Int
-resultOf LessEqual = base.Bool
-resultOf Equal = base.Bool
-
--- x <= y and x == y
-abbrev pub equalZ : ℤ → ℤ → Bool
-equalZ x y = leZ x y && leZ y x
 
 -- P-X-MAPTWO for plus, with its elements
 unfoldable pub pluses : (k : ℕ) → List ℤ → List ℤ → List (ℕ × ℤ)

@@ -1,14 +1,16 @@
 -- Values and their types (002, 1.1.1 (1) and (2); 001 adds bool), and 01's range of whole numbers.
 use Prim.Native.Nat.{ℕ, zero, suc}
 use mathlib.Core.Bool
-use mathlib.Core.Bool.{true}
+use mathlib.Core.Bool.{true, _&&_}
 use mathlib.Core.List.{List, [], _∷_}
 use mathlib.Core.Path.{_≡_}
 use lib.Dec.{ltb}
 use lib.IntN.{ℤ, pos, _+ℤ_}
-use lib.Signed.{mag}
+use lib.Signed.{mag, leZ}
 use Rattle.snesl.specs.declared.code.Base.{Base}
 use Rattle.snesl.specs.declared.code.Base.the-variants.{Int, Bool}
+use Rattle.snesl.specs.declared.code.Operation.{Operation}
+use Rattle.snesl.specs.declared.code.Operation.the-variants.{Plus, LessEqual, Equal}
 
 -- τ ::= int | bool | {τ}
 pub data ValueType : Type 0 where
@@ -43,6 +45,16 @@ Element Bool = mathlib.Core.Bool.Bool
 abbrev pub Val : ValueType → Type 0
 Val (scalar b) = Element b
 Val (braces τ) = List (Val τ)
+
+-- the base of a scalar operation's result (001)
+abbrev pub resultOf : Operation → Base
+resultOf Plus = Int
+resultOf LessEqual = Bool
+resultOf Equal = Bool
+
+-- x == y; x <= y is the kit's `leZ`
+abbrev pub equalZ : ℤ → ℤ → mathlib.Core.Bool.Bool
+equalZ x y = leZ x y && leZ y x
 
 -- 01, "Language and papers": -2,147,483,648 to 2,147,483,647. `mag` is n both for n and for -(n + 1).
 abbrev pub inRange : ℤ → mathlib.Core.Bool.Bool
