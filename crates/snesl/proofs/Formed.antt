@@ -1,7 +1,7 @@
 -- Where a formula is read and its expression is checked, its bytes are Formed (specs/Formed.antt): what the walks over a checked formula's bytes rest on.
 use Prim.Native.Nat.{ℕ, zero, suc, _+_, _≤_, _<_}
 use native.Mathlib.Omega.{arith}
-use mathlib.Core.Bool.{Bool, true, false, _&&_}
+use mathlib.Core.Bool.{Bool, true, false, _&&_, not}
 use mathlib.Core.List.{List, [], _∷_}
 use mathlib.Core.Option.{Option, some, none}
 use mathlib.Core.Path.{_≡_, refl, sym, ap, transport, subst, _∙_}
@@ -9,30 +9,34 @@ use borrow.Author.Tests.{leb-true, eqb-true}
 use lib.Dec.{eqb, ltb, leb}
 use lib.IntN.{ℤ}
 use lib.ListN.{length}
+use Rattle.snesl.specs.declared.code.Operation.{Operation}
 use Rattle.snesl.specs.declared.code.Variable.{Variable}
 use Rattle.snesl.specs.declared.refusal.Refusal.{Refusal}
 use Rattle.snesl.specs.declared.refusal.Refusal.the-variants.{TooLong, NoRecord, OverLimit, TooMany, Unbound, WrongType}
 use Rattle.snesl.specs.Limits.{mostBytes, mostInputs, mostRecords, mostNesting, mostListed, mostDepth}
-use Rattle.snesl.specs.Values.{ValueType, braces, int, depthOf}
+use Rattle.snesl.specs.Values.{ValueType, scalar, braces, int, bool, depthOf, resultOf}
 use Rattle.snesl.specs.Terms as terms
 use Rattle.snesl.specs.Terms.{_∋_, Term, anyType, listedTypes, All, ∅, _▹_}
 use Rattle.snesl.specs.Records
-use Rattle.snesl.specs.Records.{Raw, var, bind, const, iota, plus, sum, each, Head, absent, over, single, letting, eaching, whole, eachHead, headAt, byteAt, markAt, variableAt, variablesAt, variablesOk, intAt, markVR, markLT, markKN, markIO, markPL, markSM, markEA, Scanned, scanned, thenScan, tooDeep, counted, scan, Input, Declared, declared, inputsAt, Front, front, expressionAfter, inputsThen, frontOf, formulaEnd, readFormula, Texts, texts, textsAt, textsThen, JobRead, job, jobEnd, readJob, Span}
+use Rattle.snesl.specs.Records.{Raw, var, bind, const, truth, iota, operation, negation, sum, each, guard, Head, absent, over, single, letting, eaching, guarding, whole, operationOf, operationHead, headAt, byteAt, markAt, variableAt, variablesAt, variablesOk, intAt, markVR, markLT, markKN, markKB, markIO, markNO, markSM, markEA, markGU, Scanned, scanned, thenScan, tooDeep, counted, scan, Input, Declared, declared, inputsAt, Front, front, expressionAfter, inputsThen, frontOf, formulaEnd, readFormula, Texts, texts, textsAt, textsThen, JobRead, job, jobEnd, readJob, Span}
 use Rattle.snesl.specs.Checking
-use Rattle.snesl.specs.Checking.{Name, Found, missing, found, find, isBound, asScalar, asInt, asInts, Sequence, noSequence, sequence, asSequence, usable, NamedScalars, listedScalars, listedNames, pointers, Typed, typed, demand, typedIf, typedSequence, typedThen, check, turned, context, inputNames, repeated, checkInputs, checkFormula}
-use Rattle.snesl.specs.Formed.{Formed, formed-var, formed-bind, formed-const, formed-iota, formed-plus, formed-sum, formed-each}
+use Rattle.snesl.specs.Checking.{Name, Found, missing, found, find, isBound, asScalar, asInt, asBool, asInts, Sequence, noSequence, sequence, asSequence, names, usable, NamedScalars, listedScalars, listedNames, pointers, NamedListing, listedAny, anyNames, anyPointers, Typed, typed, demand, typedIf, typedSequence, typedThen, check, turned, context, inputNames, repeated, checkInputs, checkFormula}
+use Rattle.snesl.specs.Formed.{Formed, formed-var, formed-bind, formed-const, formed-truth, formed-iota, formed-operation, formed-negation, formed-sum, formed-each, formed-guard}
 
--- What headAt can answer at k: a record with no expression behind it has its offset as its place, and its bytes, like those of LT and EA, are there.
+-- What headAt can answer at k: a record with no expression behind it has its offset as its place, and its bytes, like those of LT, EA and GU, are there.
 data Proper (t : List ℕ) (k : ℕ) : Head → Type 0 where
   proper-absent : Proper t k absent
   proper-over : Proper t k over
   proper-var : {x : Variable} → k + 3 ≤ length t → Proper t k (single (var k x) 3)
   proper-const : {z : ℤ} → k + 6 ≤ length t → Proper t k (single (const k z) 6)
+  proper-truth : {c : Bool} → k + 3 ≤ length t → Proper t k (single (truth k c) 3)
   proper-iota : {x : Variable} → k + 3 ≤ length t → Proper t k (single (iota k x) 3)
-  proper-plus : {x y : Variable} → k + 4 ≤ length t → Proper t k (single (plus k x y) 4)
+  proper-operation : {o : Operation} {x y : Variable} → k + 4 ≤ length t → Proper t k (single (operation k o x y) 4)
+  proper-negation : {x : Variable} → k + 3 ≤ length t → Proper t k (single (negation k x) 3)
   proper-sum : {x : Variable} → k + 3 ≤ length t → Proper t k (single (sum k x) 3)
   proper-letting : {x : Variable} → k + 3 ≤ length t → Proper t k (letting x)
   proper-eaching : {x y : Variable} {us : List Variable} {b : ℕ} → k + b ≤ length t → Proper t k (eaching x y us b)
+  proper-guarding : {g : Variable} {us : List Variable} {b : ℕ} → k + b ≤ length t → Proper t k (guarding g us b)
 
 module _ (t : List ℕ) (k : ℕ) where
   either : (b : Bool) (h g : Head) → Proper t k h → Proper t k g → Proper t k (elim b [ true ↦ h | false ↦ g ])
@@ -46,6 +50,10 @@ module _ (t : List ℕ) (k : ℕ) where
       go true e = either ok h over (p (leb-true _ _ e)) proper-over
       go false e = proper-absent
 
+  operated : (o : Option Operation) → Proper t k (operationHead t k o)
+  operated none = proper-absent
+  operated (some o) = entire 4 (variablesOk t (k + 2) 2) (single (operation k o (variableAt t (k + 2)) (variableAt t (k + 3))) 4) proper-operation
+
   proper : Proper t k (headAt t k)
   unfolding headAt
   proper =
@@ -53,13 +61,18 @@ module _ (t : List ℕ) (k : ℕ) where
       let x = variableAt t (k + 2) in
       let y = variableAt t (k + 3) in
       let j = byteAt t (k + 4) in
+      let i = byteAt t (k + 3) in
       let one = variablesOk t (k + 2) 1 in
       let two = variablesOk t (k + 2) 2 in
       either (eqb m markVR) _ _ (entire 3 one (single (var k x) 3) proper-var)
       (either (eqb m markLT) _ _ (entire 3 one (letting x) proper-letting)
       (either (eqb m markKN) _ _ (entire 6 true (single (const k (intAt t (k + 2))) 6) proper-const)
+      (either (eqb m markKB) _ _
+      (either (eqb (byteAt t (k + 2)) 0) _ _
+      (entire 3 true (single (truth k false) 3) proper-truth)
+      (either (eqb (byteAt t (k + 2)) 1) _ _ (entire 3 true (single (truth k true) 3) proper-truth) proper-absent))
       (either (eqb m markIO) _ _ (entire 3 one (single (iota k x) 3) proper-iota)
-      (either (eqb m markPL) _ _ (entire 4 two (single (plus k x y) 4) proper-plus)
+      (either (eqb m markNO) _ _ (entire 3 one (single (negation k x) 3) proper-negation)
       (either (eqb m markSM) _ _ (entire 3 one (single (sum k x) 3) proper-sum)
       (either (eqb m markEA) _ _
       (either (leb (k + 5) (length t)) _ _
@@ -67,7 +80,13 @@ module _ (t : List ℕ) (k : ℕ) where
       (eaching x y (variablesAt t (k + 5) j) (5 + j))
       proper-eaching)
       proper-absent)
-      proper-absent))))))
+      (either (eqb m markGU) _ _
+      (either (leb (k + 4) (length t)) _ _
+      (entire (4 + i) (one && leb i mostListed && variablesOk t (k + 4) i)
+      (guarding x (variablesAt t (k + 4) i) (4 + i))
+      proper-guarding)
+      proper-absent)
+      (operated (operationOf m))))))))))
 
 -- Bytes that spell e and end at `next`, if checking e finds a typed expression.
 abbrev Told : (t : List ℕ) (levels k : ℕ) {Γ : List ValueType} → All Name Γ → (next : ℕ) → Typed Γ → Type 0
@@ -122,6 +141,10 @@ module _ (t : List ℕ) {l k : ℕ} {Γ : List ValueType} (scope : All Name Γ) 
   unfolding check
   spelt-const h = record { told = formed-const h }
 
+  spelt-truth : {c : Bool} → headAt t k ≡ single (truth k c) 3 → Spelt t (suc l) k scope (k + 3) (check scope (truth k c))
+  unfolding check
+  spelt-truth h = record { told = formed-truth h }
+
   spelt-iota : {x : Variable} → headAt t k ≡ single (iota k x) 3 → Spelt t (suc l) k scope (k + 3) (check scope (iota k x))
   unfolding check
   spelt-iota {x} h =
@@ -129,15 +152,23 @@ module _ (t : List ℕ) {l k : ℕ} {Γ : List ValueType} (scope : All Name Γ) 
       demanded (isBound (find x scope)) (Unbound k) (typedIf k (asInt (asScalar (find x scope))) made)
       (λ b. optional k (asInt (asScalar (find x scope))) made (λ v q. record { told = formed-iota h q }))
 
-  spelt-plus : {x y : Variable} → headAt t k ≡ single (plus k x y) 4 → Spelt t (suc l) k scope (k + 4) (check scope (plus k x y))
+  spelt-operation : {o : Operation} {x y : Variable} → headAt t k ≡ single (operation k o x y) 4 → Spelt t (suc l) k scope (k + 4) (check scope (operation k o x y))
   unfolding check
-  spelt-plus {x} {y} h =
-      let made : (Γ ∋ int) → (Γ ∋ int) → Typed Γ = λ v w. typed int (terms.plus v w) in
+  spelt-operation {o} {x} {y} h =
+      let made : (Γ ∋ int) → (Γ ∋ int) → Typed Γ = λ v w. typed (scalar (resultOf o)) (terms.operation o v w) in
       let second : (Γ ∋ int) → Typed Γ = λ v. typedIf k (asInt (asScalar (find y scope))) (made v) in
       demanded (isBound (find x scope) && isBound (find y scope)) (Unbound k) (typedIf k (asInt (asScalar (find x scope))) second)
       (λ b.
       optional k (asInt (asScalar (find x scope))) second
-      (λ v q. optional k (asInt (asScalar (find y scope))) (made v) (λ w r. record { told = formed-plus h q r })))
+      (λ v q. optional k (asInt (asScalar (find y scope))) (made v) (λ w r. record { told = formed-operation h q r })))
+
+  spelt-negation : {x : Variable} → headAt t k ≡ single (negation k x) 3 → Spelt t (suc l) k scope (k + 3) (check scope (negation k x))
+  unfolding check
+  spelt-negation {x} h =
+      let made : (Γ ∋ bool) → Typed Γ = λ v. typed bool (terms.negation v) in
+      let truth = asBool (asScalar (find x scope)) in
+      demanded (isBound (find x scope)) (Unbound k) (typedIf k truth made)
+      (λ b. optional k truth made (λ v q. record { told = formed-negation h q }))
 
   spelt-sum : {x : Variable} → headAt t k ≡ single (sum k x) 3 → Spelt t (suc l) k scope (k + 3) (check scope (sum k x))
   unfolding check
@@ -171,7 +202,7 @@ module _ (t : List ℕ) {l k : ℕ} {Γ : List ValueType} (scope : All Name Γ) 
       λ υ v ls τ f. demand (ltb (depthOf τ) mostDepth) (WrongType k) (shut υ v ls τ f) in
       let body : (υ : ValueType) → (Γ ∋ braces υ) → NamedScalars Γ → Typed Γ = λ υ v ls. typedThen (check (x ▹ listedNames ls) e) (whole υ v ls) in
       let over : (υ : ValueType) → (Γ ∋ braces υ) → Typed Γ = λ υ v. typedIf k (listedScalars scope us) (body υ v) in
-      demanded (isBound (find y scope) && usable scope x us) (Unbound k) (typedSequence k (asSequence (find y scope)) over)
+      demanded (isBound (find y scope) && (usable scope us && not (names x us))) (Unbound k) (typedSequence k (asSequence (find y scope)) over)
       (λ b.
       sequential k (asSequence (find y scope)) over
       (λ υ v qv.
@@ -181,6 +212,28 @@ module _ (t : List ℕ) {l k : ℕ} {Γ : List ValueType} (scope : All Name Γ) 
       (λ τ f qf.
       demanded (ltb (depthOf τ) mostDepth) (WrongType k) (shut υ v ls τ f)
       (λ lt. record { told = formed-each h qv ql (given (s υ ls) qf) lt })))))
+
+  spelt-guard : {b next : ℕ} {g : Variable} {us : List Variable} (e : Raw) → headAt t k ≡ guarding g us b
+      → ((ls : NamedListing Γ) → Spelt t l (k + b) {Γ = listedTypes (anyPointers ls)} (anyNames ls) next (check (anyNames ls) e))
+      → Spelt t (suc l) k scope next (check scope (guard k g us e))
+  unfolding check
+  spelt-guard {g = g} {us = us} e h s =
+      let shut : (Γ ∋ bool) → (ls : NamedListing Γ) → (τ : ValueType) → Term (listedTypes (anyPointers ls)) τ → Typed Γ =
+      λ v ls τ f. typed (braces τ) (terms.guard v (anyPointers ls) f) in
+      let whole : (Γ ∋ bool) → (ls : NamedListing Γ) → (τ : ValueType) → Term (listedTypes (anyPointers ls)) τ → Typed Γ =
+      λ v ls τ f. demand (ltb (depthOf τ) mostDepth) (WrongType k) (shut v ls τ f) in
+      let body : (Γ ∋ bool) → NamedListing Γ → Typed Γ = λ v ls. typedThen (check (anyNames ls) e) (whole v ls) in
+      let over : (Γ ∋ bool) → Typed Γ = λ v. typedIf k (listedAny scope us) (body v) in
+      demanded (isBound (find g scope) && usable scope us) (Unbound k) (typedIf k (asBool (asScalar (find g scope))) over)
+      (λ b.
+      optional k (asBool (asScalar (find g scope))) over
+      (λ v qv.
+      optional k (listedAny scope us) (body v)
+      (λ ls ql.
+      after (check (anyNames ls) e) (whole v ls)
+      (λ τ f qf.
+      demanded (ltb (depthOf τ) mostDepth) (WrongType k) (shut v ls τ f)
+      (λ lt. record { told = formed-guard h qv ql (given (s ls) qf) lt })))))
 
 -- one more record was allowed
 uncounted : (k n : ℕ) (s : Scanned) {e : Raw} {next m : ℕ} → counted k n s ≡ scanned e next m → s ≡ scanned e next m
@@ -206,6 +259,7 @@ tooDeep-never k over q = let z : _≡_ {A = ℕ} 0 1 = cc in omega arith
 tooDeep-never k (single e b) q = let z : _≡_ {A = ℕ} 0 1 = cc in omega arith
 tooDeep-never k (letting x) q = let z : _≡_ {A = ℕ} 0 1 = cc in omega arith
 tooDeep-never k (eaching x y us b) q = let z : _≡_ {A = ℕ} 0 1 = cc in omega arith
+tooDeep-never k (guarding g us b) q = let z : _≡_ {A = ℕ} 0 1 = cc in omega arith
 
 -- what `scan` does with the record at k
 abbrev scanHead : (levels : ℕ) → List ℕ → (k n : ℕ) → Head → Scanned
@@ -220,6 +274,8 @@ scanHead levels t k n h =
           (λ e₁ k₁ n₁. thenScan (scan levels t k₁ n₁) (λ e₂ k₂ n₂. scanned (bind k x e₁ e₂) k₂ n₂)))
       | eaching x y us b ↦
           counted k n (thenScan (scan levels t (k + b) (n + 1)) (λ e k₁ n₁. scanned (each k x y us e) k₁ n₁))
+      | guarding g us b ↦
+          counted k n (thenScan (scan levels t (k + b) (n + 1)) (λ e k₁ n₁. scanned (guard k g us e) k₁ n₁))
     ]
 
 scan-zero : (t : List ℕ) (k n : ℕ) → scan zero t k n ≡ tooDeep k (headAt t k)
@@ -271,16 +327,28 @@ module _ (t : List ℕ) (l : ℕ) (ih : Reads t l) (k n : ℕ) {Γ : List ValueT
       go (onward e₁ k₁ n₁ q₁ z) =
           moved (cc) (cc) (spelt-each t scope e₁ h (λ υ ls. ih .reads (k + b) (n + 1) (x ▹ listedNames ls) q₁))
 
+  guards : (g : Variable) (us : List Variable) (b : ℕ) → headAt t k ≡ guarding g us b
+      → scanHead l t k n (guarding g us b) ≡ scanned e next m
+      → Spelt t (suc l) k scope next (check scope e)
+  guards g us b h q = go (scannedThen _ _ (uncounted k n _ q))
+    where
+      go : Onward (scan l t (k + b) (n + 1)) (λ e₁ k₁ n₁. scanned (guard k g us e₁) k₁ n₁) (scanned e next m)
+          → Spelt t (suc l) k scope next (check scope e)
+      go (onward e₁ k₁ n₁ q₁ z) = moved (cc) (cc) (spelt-guard t scope e₁ h (λ ls. ih .reads (k + b) (n + 1) (anyNames ls) q₁))
+
   headed : (h : Head) → headAt t k ≡ h → Proper t k h → scanHead l t k n h ≡ scanned e next m → Spelt t (suc l) k scope next (check scope e)
   headed _ h proper-absent q = let z : _≡_ {A = ℕ} 0 1 = cc in absurd (omega arith)
   headed _ h proper-over q = let z : _≡_ {A = ℕ} 0 1 = cc in absurd (omega arith)
   headed _ h (proper-var w) q = alone _ _ q (spelt-var t scope h)
   headed _ h (proper-const w) q = alone _ _ q (spelt-const t scope h)
   headed _ h (proper-iota w) q = alone _ _ q (spelt-iota t scope h)
-  headed _ h (proper-plus w) q = alone _ _ q (spelt-plus t scope h)
+  headed _ h (proper-truth w) q = alone _ _ q (spelt-truth t scope h)
+  headed _ h (proper-operation w) q = alone _ _ q (spelt-operation t scope h)
+  headed _ h (proper-negation w) q = alone _ _ q (spelt-negation t scope h)
   headed _ h (proper-sum w) q = alone _ _ q (spelt-sum t scope h)
   headed _ h (proper-letting w) q = lets _ h q
   headed _ h (proper-eaching w) q = eaches _ _ _ _ h q
+  headed _ h (proper-guarding w) q = guards _ _ _ h q
 
 -- what is read and checked is formed, at whatever nesting
 reading : (t : List ℕ) (levels : ℕ) → Reads t levels
@@ -307,6 +375,7 @@ reach k over = 0
 reach k (single e b) = k + b
 reach k (letting x) = k + 3
 reach k (eaching x y us b) = k + b
+reach k (guarding g us b) = k + b
 
 reach-within : {t : List ℕ} {k : ℕ} {h : Head} → Proper t k h → reach k h ≤ length t
 reach-within proper-absent = omega arith
@@ -314,10 +383,13 @@ reach-within proper-over = omega arith
 reach-within (proper-var w) = w
 reach-within (proper-const w) = w
 reach-within (proper-iota w) = w
-reach-within (proper-plus w) = w
+reach-within (proper-truth w) = w
+reach-within (proper-operation w) = w
+reach-within (proper-negation w) = w
 reach-within (proper-sum w) = w
 reach-within (proper-letting w) = w
 reach-within (proper-eaching w) = w
+reach-within (proper-guarding w) = w
 
 headed-within : (t : List ℕ) (k : ℕ) {h : Head} → headAt t k ≡ h → reach k h ≤ length t
 headed-within t k q = transport (λ i. reach k (q i) ≤ length t) (reach-within (proper t k))
@@ -328,13 +400,18 @@ pub spans : {t : List ℕ} {levels k : ℕ} {Γ : List ValueType} {scope : All N
 spans {t} {k = k} (formed-var h f) = record { within = headed-within t k h; some = omega arith }
 spans {t} {k = k} (formed-const h) = record { within = headed-within t k h; some = omega arith }
 spans {t} {k = k} (formed-iota h f) = record { within = headed-within t k h; some = omega arith }
-spans {t} {k = k} (formed-plus h f g) = record { within = headed-within t k h; some = omega arith }
+spans {t} {k = k} (formed-truth h) = record { within = headed-within t k h; some = omega arith }
+spans {t} {k = k} (formed-operation h f g) = record { within = headed-within t k h; some = omega arith }
+spans {t} {k = k} (formed-negation h f) = record { within = headed-within t k h; some = omega arith }
 spans {t} {k = k} (formed-sum h f) = record { within = headed-within t k h; some = omega arith }
 spans {t} {k = k} (formed-bind h f g) =
     let s = spans f in
     let r = spans g in
     record { within = r .within; some = omega arith }
 spans {t} {k = k} (formed-each h v ls f lt) =
+    let s = spans f in
+    record { within = s .within; some = omega arith }
+spans {t} {k = k} (formed-guard h v ls f lt) =
     let s = spans f in
     record { within = s .within; some = omega arith }
 
