@@ -1,24 +1,24 @@
--- 01, "Proved table": the twelve rows as one statement about the definitions, over the job's bytes. The run program lends 16,384 stream elements
--- and 65,536 answer bytes.
+-- 01, "Proved table": the twelve rows as one statement about the definitions, over the job's bytes, and beside it the like of request 1. The run program
+-- lends 16,384 stream elements and 65,536 answer bytes.
 use Prim.Native.Nat.{ℕ}
 use Prim.Native.String.{String}
 use mathlib.Core.List.{List, [], _∷_}
 use mathlib.Core.Path.{_≡_, refl}
 use Rattle.snesl.specs.Ascii.{ascii, pieces}
-use Rattle.snesl.specs.Notation.{IN, VR, LT, KN, IO, PL, SM, EA, VA}
+use Rattle.snesl.specs.Notation.{IN, IB, VR, LT, KN, IO, PL, LE, NO, SM, EA, GU, VA}
 use Rattle.snesl.specs.Outcome.{outcome}
 use Rattle.snesl.specs.Report.{runLines}
 use Rattle.snesl.specs.Terms.{lookup, listed}
 use Rattle.snesl.specs.Streams.{contents}
-use Rattle.snesl.specs.Transducers.{misfit, countF, spread, scans, sums, pluses, firstOutside, firstNegative, unary, apply}
+use Rattle.snesl.specs.Transducers.{misfit, countF, spread, scans, sums, pluses, pairwise, firstOutside, firstNegative, unary, unitary, kept, keptSegments, apply}
 use Rattle.snesl.specs.Programs.{_⨾_, count, member, without, among, dv, fv, insert, ascending}
 use Rattle.snesl.specs.Machine.{sumOf, step, skipped, run}
 use Rattle.snesl.specs.Trees.{inner, outer, root, order, mapTree}
-use Rattle.snesl.specs.Translation.{size, numbered, tree, distrs, code}
+use Rattle.snesl.specs.Translation.{packSize, packsSize, size, numbered, packTree, packTrees, tree, distrs, packCode, packCodes, code}
 use Rattle.snesl.specs.Representation.{concat, segments, represent, regroup, values}
 use Rattle.snesl.specs.Text.{digitsThen, joined, show, digits, numberFrom, readItems, readValue}
 use Rattle.snesl.specs.Records.{variablesAt, variablesOk, headAt, scan, inputsAt, textsAt, frontOf}
-use Rattle.snesl.specs.Checking.{find, names, usable, listedScalars, listedNames, check, turned, inputNames, repeated}
+use Rattle.snesl.specs.Checking.{find, names, usable, listedScalars, listedNames, listedAny, anyNames, check, turned, inputNames, repeated}
 use Rattle.snesl.specs.Inputs.{inputTree, inputTrees, inputStart, inputValues, inputStreams, inputOver}
 
 -- a job in 01's notation, with so many stream elements lent, prints this
@@ -40,3 +40,18 @@ pub table :
     × Prints (VR 3 ∷ []) 16384 "refused 5 at 0\n"
 unfolding lookup listed contents misfit countF spread scans sums pluses firstOutside firstNegative unary apply _⨾_ count member without among dv fv insert ascending sumOf step skipped run inner outer root order mapTree size numbered tree distrs code concat segments represent regroup values digitsThen joined show digits numberFrom readItems readValue variablesAt variablesOk headAt scan inputsAt textsAt frontOf find names usable listedScalars listedNames check turned inputNames repeated inputTree inputTrees inputStart inputValues inputStreams inputOver
 table = (refl, refl, refl, refl, refl, refl, refl, refl, refl, refl, refl, refl)
+
+-- Request 1: a guarded value is packed whole; a guard that is false keeps a body from failing that fails where it is true; only the readings above a limit, and
+-- that one element short of its room; an EA that lists bools; a guard that is not a bool.
+pub conditions :
+    Prints (IB 0 0 ∷ IN 1 3 ∷ GU 0 (1 ∷ []) ∷ VR 1 ∷ VA "T" ∷ VA "{{{1,2},{}},{}}" ∷ []) 16384 "value {{{{1,2},{}},{}}}\nwork 78\nsteps 12\nroom 35\n"
+    × Prints (IB 0 0 ∷ IN 1 3 ∷ GU 0 (1 ∷ []) ∷ LT 2 ∷ KN 4294967295 ∷ IO 2 ∷ VA "T" ∷ VA "{{{1,2},{}},{}}" ∷ []) 16384 "refused 8 at 18\n"
+    × Prints (IB 0 0 ∷ IN 1 3 ∷ GU 0 (1 ∷ []) ∷ LT 2 ∷ KN 4294967295 ∷ IO 2 ∷ VA "F" ∷ VA "{{{1,2},{}},{}}" ∷ []) 16384 "value {}\nwork 62\nsteps 12\nroom 21\n"
+    × Prints (IN 5 1 ∷ IN 6 0 ∷ EA 7 5 (6 ∷ []) ∷ LT 8 ∷ LE 7 6 ∷ LT 8 ∷ NO 8 ∷ GU 8 (7 ∷ []) ∷ VR 7 ∷ VA "{3,1}" ∷ VA "2" ∷ []) 16384 "value {{3},{}}\nwork 35\nsteps 7\nroom 16\n"
+    × Prints (IN 5 1 ∷ IN 6 0 ∷ EA 7 5 (6 ∷ []) ∷ LT 8 ∷ LE 7 6 ∷ LT 8 ∷ NO 8 ∷ GU 8 (7 ∷ []) ∷ VR 7 ∷ VA "{3,1}" ∷ VA "2" ∷ []) 15 "refused 9 at 9\n"
+    × Prints (IN 7 1 ∷ IB 25 0 ∷ IB 22 0 ∷ EA 2 7 (22 ∷ 25 ∷ []) ∷ NO 25 ∷ VA "{2}" ∷ VA "F" ∷ VA "T" ∷ []) 16384 "value {T}\nwork 13\nsteps 4\nroom 8\n"
+    × Prints (IN 0 0 ∷ GU 0 [] ∷ KN 1 ∷ VA "1" ∷ []) 16384 "refused 6 at 4\n"
+unfolding lookup listed contents misfit countF spread scans sums pluses pairwise firstOutside firstNegative unary unitary kept keptSegments apply _⨾_ count member without among dv fv insert ascending sumOf step skipped run inner outer root order mapTree
+    packSize packsSize size numbered packTree packTrees tree distrs packCode packCodes code concat segments represent regroup values digitsThen joined show digits numberFrom readItems readValue
+    variablesAt variablesOk headAt scan inputsAt textsAt frontOf find names usable listedScalars listedNames listedAny anyNames check turned inputNames repeated inputTree inputTrees inputStart inputValues inputStreams inputOver
+conditions = (refl, refl, refl, refl, refl, refl, refl)
