@@ -1,7 +1,7 @@
 -- Reading refuses by 1 to 4 only, and checking by 5 and 6: so what is refused before anything runs is never taken for an answer of the run.
 use Prim.Native.Nat.{ℕ, zero, suc, _+_}
 use native.Mathlib.Omega.{arith}
-use mathlib.Core.Bool.{Bool, true, false, _&&_}
+use mathlib.Core.Bool.{Bool, true, false, _&&_, not}
 use mathlib.Core.List.{List, []}
 use mathlib.Core.Option.{Option, some, none}
 use mathlib.Core.Path.{_≡_, refl, subst}
@@ -12,14 +12,14 @@ use Rattle.snesl.specs.declared.refusal.Refusal.{Refusal}
 use Rattle.snesl.specs.declared.refusal.Refusal.the-variants.{TooLong, NoRecord, OverLimit, TooMany, Unbound, WrongType, NoValueText}
 use Rattle.snesl.specs.Limits.{mostBytes, mostInputs, mostRecords, mostNesting, lastVariable, mostDepth}
 use Rattle.snesl.specs.declared.code.Base.{Base}
-use Rattle.snesl.specs.Values.{ValueType, braces, int, depthOf}
+use Rattle.snesl.specs.Values.{ValueType, scalar, braces, int, bool, depthOf, resultOf}
 use Rattle.snesl.specs.Terms as terms
 use Rattle.snesl.specs.Terms.{_∋_, Term, All, ∅, _▹_}
 use Rattle.snesl.specs.Records
-use Rattle.snesl.specs.Records.{Raw, Head, absent, over, single, letting, eaching, headAt, byteAt, markAt, markVA, Scanned, scanned, thenScan, tooDeep, counted, scan, Input, inputBase, Declared, declared, inputFirst, inputAt, inputOk, inputsAt, Span, Texts, texts, spanFirst, spanAt, textsAt, expressionAfter, inputsThen, frontOf, JobRead, job, textsThen, jobEnd, readJob}
+use Rattle.snesl.specs.Records.{Raw, Head, absent, over, single, letting, eaching, guarding, headAt, byteAt, markAt, markVA, Scanned, scanned, thenScan, tooDeep, counted, scan, Input, inputBase, Declared, declared, inputFirst, inputAt, inputOk, inputsAt, Span, Texts, texts, spanFirst, spanAt, textsAt, expressionAfter, inputsThen, frontOf, JobRead, job, textsThen, jobEnd, readJob}
 use Rattle.snesl.specs.Outcome.{streamsRefused}
 use Rattle.snesl.specs.Checking
-use Rattle.snesl.specs.Checking.{Name, Found, missing, found, find, isBound, asScalar, asInt, asInts, Sequence, noSequence, sequence, asSequence, usable, listedScalars, listedNames, pointers, Typed, typed, demand, typedIf, typedSequence, typedThen, check, turned, context, inputNames, repeated, checkInputs, checkFormula}
+use Rattle.snesl.specs.Checking.{Name, Found, missing, found, find, isBound, asScalar, asInt, asBool, asInts, Sequence, noSequence, sequence, asSequence, names, usable, listedScalars, listedNames, pointers, listedAny, anyNames, anyPointers, Typed, typed, demand, typedIf, typedSequence, typedThen, check, turned, context, inputNames, repeated, checkInputs, checkFormula}
 
 -- 1 to 7
 pub data Early : Refusal → Type 0 where
@@ -64,6 +64,7 @@ scans-deep k over = scans-refused early-limit
 scans-deep k (single e b) = scans-refused early-many
 scans-deep k (letting x) = scans-refused early-many
 scans-deep k (eaching x y us b) = scans-refused early-many
+scans-deep k (guarding g us b) = scans-refused early-many
 
 scans : (levels : ℕ) (t : List ℕ) (k n : ℕ) → Scans (scan levels t k n)
 unfolding scan
@@ -79,6 +80,8 @@ scans (suc levels) t k n = go (scans levels t) (headAt t k) refl
         (scans-counted k n _
         (scans-then (below (k + 3) (n + 1)) (λ e₁ k₁ n₁. scans-then (below k₁ n₁) (λ e₂ k₂ n₂. scans-on))))
     go below (eaching x y us b) e =
+        rw (e, scan) (scans-counted k n _ (scans-then (below (k + b) (n + 1)) (λ f k₁ n₁. scans-on)))
+    go below (guarding g us b) e =
         rw (e, scan) (scans-counted k n _ (scans-then (below (k + b) (n + 1)) (λ f k₁ n₁. scans-on)))
 
 -- the inputs
@@ -187,25 +190,37 @@ types scope (Records.Raw.var p x) = go (find x scope) refl
     go (found τ v) e = rw (e, check) types-on
 types scope (Records.Raw.bind p x e₁ e₂) = types-then (types scope e₁) (λ υ t₁. types-then (types (x ▹ scope) e₂) (λ τ t₂. types-on))
 types scope (Records.Raw.const p z) = types-on
+types scope (Records.Raw.truth p c) = types-on
 types scope (Records.Raw.iota p x) =
     types-demand (isBound (find x scope)) (early-unbound {p = p})
     (types-if p (asInt (asScalar (find x scope))) {f = λ v. typed (braces int) (terms.iota v)} (λ v. types-on))
-types scope (Records.Raw.plus p x y) =
+types scope (Records.Raw.operation p o x y) =
     types-demand (isBound (find x scope) && isBound (find y scope)) (early-unbound {p = p})
     (types-if p (asInt (asScalar (find x scope)))
-    {f = λ v. typedIf p (asInt (asScalar (find y scope))) (λ w. typed int (terms.plus v w))}
+    {f = λ v. typedIf p (asInt (asScalar (find y scope))) (λ w. typed (scalar (resultOf o)) (terms.operation o v w))}
     (λ v. types-if p (asInt (asScalar (find y scope))) (λ w. types-on)))
+types scope (Records.Raw.negation p x) =
+    types-demand (isBound (find x scope)) (early-unbound {p = p})
+    (types-if p (asBool (asScalar (find x scope))) {f = λ v. typed bool (terms.negation v)} (λ v. types-on))
 types scope (Records.Raw.sum p x) =
     types-demand (isBound (find x scope)) (early-unbound {p = p})
     (types-if p (asInts (asSequence (find x scope))) {f = λ v. typed int (terms.sum v)} (λ v. types-on))
 types {Γ} scope (Records.Raw.each p x y us e) =
-    types-demand (isBound (find y scope) && usable scope x us) (early-unbound {p = p})
+    types-demand (isBound (find y scope) && (usable scope us && not (names x us))) (early-unbound {p = p})
     (types-sequence p (asSequence (find y scope))
     (λ υ v.
     types-if p (listedScalars scope us)
     (λ l.
     types-then (types (_▹_ {τ = υ} x (listedNames l)) e)
     (λ τ t. types-demand (ltb (depthOf τ) mostDepth) (early-type {p = p}) (types-on {τ = braces τ} {e = terms.each v (pointers l) t})))))
+types scope (Records.Raw.guard p g us e) =
+    types-demand (isBound (find g scope) && usable scope us) (early-unbound {p = p})
+    (types-if p (asBool (asScalar (find g scope)))
+    (λ v.
+    types-if p (listedAny scope us)
+    (λ l.
+    types-then (types (anyNames l) e)
+    (λ τ t. types-demand (ltb (depthOf τ) mostDepth) (early-type {p = p}) (types-on {τ = braces τ} {e = terms.guard v (anyPointers l) t})))))
 
 types-inputs : {Γ : List ValueType} (o : Option ℕ) {y : Typed Γ} → Types y → Types (checkInputs o y)
 types-inputs none h = h
