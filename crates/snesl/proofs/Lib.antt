@@ -10,4 +10,5 @@ pub mod Formed
 pub mod Views
 pub mod Jobs
 pub mod Table
+pub mod Conditions
 pub mod Statements

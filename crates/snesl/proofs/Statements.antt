@@ -3,3 +3,4 @@ pub mod Correctness
 pub mod Compiled
 pub mod Representation
 pub mod Jobs
+pub mod Conditions
