@@ -9,17 +9,18 @@ use mathlib.Core.Path.{_≡_, refl, sym, _∙_, ap, subst}
 use lib.IntN.{pos}
 use lib.ListN.{length}
 use Rattle.snesl.specs.declared.code.Transducer.{Transducer}
-use Rattle.snesl.specs.declared.code.Transducer.the-variants.{Const}
+use Rattle.snesl.specs.declared.code.Transducer.the-variants.{Const, B2u}
 use Rattle.snesl.specs.Transducers.{operands}
-use Rattle.snesl.specs.Values.{ValueType, braces}
-use Rattle.snesl.specs.Terms.{_∋_, Term, var, bind, const, iota, plus, sum, each, Scalars, All, _▹_, lookup}
-use Rattle.snesl.specs.Trees.{Tree, IdTree, leaf, inner}
+use Rattle.snesl.specs.Values.{ValueType, braces, bool, depthOf}
+use Rattle.snesl.specs.Terms.{_∋_, Term, var, bind, const, iota, operation, negation, sum, each, guard, Listing, Scalars, listedTypes, All, _▹_, lookup}
+use Rattle.snesl.specs.Trees.{Tree, IdTree, leaf, node, inner, root, order}
 use Rattle.snesl.specs.Programs.{Program, done, define, _⨾_, count, dv, fv, Within, Scoped, scoped-done, scoped-define, scoped-withCtrl}
-use Rattle.snesl.specs.Translation.{size, numbered, within, tree, distrs, controlled, code}
+use Rattle.snesl.specs.Translation.{id, packSize, packsSize, size, numbered, within, packTree, packTrees, tree, distrs, controlled, packCode, packCodes, code}
 use Rattle.snesl.specs.Ids.{idsOf}
 use Rattle.snesl.proofs.Compiled.Members.{_∈_, known, to-without}
+use Rattle.snesl.proofs.Compiled.Packing.{count-pack, free-pack}
 use Rattle.snesl.proofs.Compiled.Sequences.{of-fv-define, of-fv-withCtrl}
-use Rattle.snesl.proofs.Compiled.Freshness.{takes-free, free-taken, fv-alone, ids-root, ids-outer, ids-lookup, order-inner, order-root, of-ids, dv-front, copies, front, count-front, code-each, code-iota, lead, ones, totals, count-lead, count-ones, lead-flags, lead-control, ones-puts-out, count-code, result-ids, free-ids}
+use Rattle.snesl.proofs.Compiled.Freshness.{takes-free, free-taken, fv-alone, ids-root, ids-outer, ids-lookup, order-inner, order-root, of-ids, dv-front, copies, front, count-front, code-each, code-iota, lead, ones, totals, count-lead, count-ones, lead-flags, lead-control, ones-puts-out, count-code, result-ids, free-ids, flagging, count-flagging, made-flags, made-control, gate, count-gate, gate-control, gate-packed, code-guard, no-operands}
 
 -- what is free in a scoped program is known to it
 pub scoped-free : {ks : List ℕ} {s : ℕ} {p : Program} → Scoped ks s p → Within (fv s p) ks
@@ -126,6 +127,51 @@ scoped-front y us δ all =
     let h = all _ (ids-outer y δ) in
     scoped-define (within-one h) (scoped-copies us δ (List·Memᴰ·tail h) (λ u m. List·Memᴰ·tail (all u m)))
 
+scoped-flagging : {ks : List ℕ} (s : ℕ) {t : Transducer} → Within (operands t) ks → Scoped ks s (flagging t s)
+scoped-flagging s uses = scoped-define uses (scoped-alone (within-one (List·Memᴰ·head refl)))
+
+scoped-pack : {d b : ℕ} {ks : List ℕ} (t : Tree ℕ d) (s : ℕ) → b ∈ ks → Within (order t) ks → Scoped ks s (packCode b t s)
+unfolding packCode order
+scoped-pack (leaf x) s h all = scoped-alone (within-two h (all x (List·Memᴰ·head refl)))
+scoped-pack {b = b} {ks = ks} (node t f) s h all =
+    scoped-define (within-two h flag)
+    (scoped-define (within-two (List·Memᴰ·tail flag) (List·Memᴰ·tail h)) (scoped-define (within-one (List·Memᴰ·tail (List·Memᴰ·tail flag)))
+    (items (scoped-pack {ks = (s + 1) ∷ order t} t (s + 3) (List·Memᴰ·head refl) (λ u m. List·Memᴰ·tail m)))))
+  where
+    flag : f ∈ ks
+    flag = all f (Memᴰ·append-right (order t) (List·Memᴰ·head refl))
+
+    ls : List ℕ
+    ls = suc (suc s) ∷ suc s ∷ s ∷ ks
+
+    inner-ids : Within ((s + 1) ∷ order t) ls
+    inner-ids u m =
+        ⊎-elim (λ e. List·Memᴰ·tail (List·Memᴰ·head (omega arith)))
+        (λ k. List·Memᴰ·tail (List·Memᴰ·tail (List·Memᴰ·tail (all u (Memᴰ·append-left (f ∷ []) k))))) (List·Memᴰ·cases-cons m)
+
+    items : Scoped ((s + 1) ∷ order t) (s + 3) (packCode (s + 1) t (s + 3)) → Scoped ls (suc (suc (suc s))) (controlled (s + 2) (s + 3) (packCode (s + 1) t (s + 3)) (packTree t (s + 3)))
+    items w =
+        subst (λ k. Scoped ls k (controlled (s + 2) (s + 3) (packCode (s + 1) t (s + 3)) (packTree t (s + 3)))) (omega arith)
+        (scoped-controlled (packTree t (s + 3)) w (List·Memᴰ·head (omega arith))
+        (λ u m. inner-ids u (free-pack (s + 1) t (s + 3) u m)))
+
+scoped-packs : {Γ : List ValueType} {b : ℕ} {ks : List ℕ} (us : Listing Γ) (δ : All IdTree Γ) (s : ℕ) → b ∈ ks → Within (idsOf δ) ks → Scoped ks s (packCodes b us δ s)
+unfolding packCodes
+scoped-packs [] δ s h all = scoped-done
+scoped-packs {b = b} {ks = ks} (v ∷ us) δ s h all =
+    let t = lookup (v .1) δ in
+    let made = dv s (packCode b t s) in
+    scoped-seq (scoped-pack t s h (λ u m. all u (ids-lookup (v .1) δ u m))) (ap (λ k. s + k) (count-pack b t s))
+    (scoped-packs us δ (s + packSize (depthOf (v .0))) (Memᴰ·append-right made h) (λ u m. Memᴰ·append-right made (all u m)))
+
+scoped-gate : {Γ : List ValueType} {ks : List ℕ} (g : Γ ∋ bool) (us : Listing Γ) (δ : All IdTree Γ) (s : ℕ) → Within (idsOf δ) ks → Scoped ks s (gate g us δ s)
+scoped-gate g us δ s all =
+    let r = root (lookup g δ) in
+    let h = all r (ids-root g δ) in
+    let made = dv s (flagging (B2u (id r)) s) in
+    scoped-seq (scoped-flagging s (within-one h)) (ap (λ k. s + k) (count-flagging (B2u (id r)) s))
+    (scoped-packs us δ (s + 2) (Memᴰ·append-right made h) (λ u m. Memᴰ·append-right made (all u m)))
+
 -- for δ ⊢ e ⇒ (p, st): p uses only what is known, where all of δ's ids are known
 pub scoped-code : {Γ : List ValueType} {ks : List ℕ} {τ : ValueType} (e : Term Γ τ) (δ : All IdTree Γ) (s : ℕ) → Within (idsOf δ) ks → Scoped ks s (code e δ s)
 unfolding code
@@ -139,9 +185,10 @@ scoped-code {ks = ks} (bind e₁ e₂) δ s all =
   where
     made : List ℕ
     made = dv s (code e₁ δ s)
-scoped-code (const n) δ s all = scoped-alone (λ u m. absurd (List·Memᴰ·not-nil m))
+scoped-code (const b e) δ s all = scoped-alone (λ u m. absurd (no-operands b e m))
 scoped-code (iota x) δ s all = rw (code-iota x δ s) (scoped-iota s (all _ (ids-root x δ)))
-scoped-code (plus x y) δ s all = scoped-alone (within-two (all _ (ids-root x δ)) (all _ (ids-root y δ)))
+scoped-code (operation o x y) δ s all = scoped-alone (within-two (all _ (ids-root x δ)) (all _ (ids-root y δ)))
+scoped-code (negation x) δ s all = scoped-alone (within-one (all _ (ids-root x δ)))
 scoped-code (sum x) δ s all =
     scoped-alone
     (within-two (all _ (ids-outer x δ)) (all _ (ids-lookup x δ _ (order-inner (lookup x δ) _ (order-root (inner (lookup x δ)))))))
@@ -163,3 +210,19 @@ scoped-code {ks = ks} (each {τ = τ} y us e) δ s all =
         ⊎-elim (λ k. Memᴰ·append-right (dv s (front y us δ)) (all u (ids-lookup y δ u (order-inner (lookup y δ) u k))))
         (λ k. Memᴰ·append-left {s = dv s (front y us δ)} ks (rw dv-front (List·Memᴰ·tail k)))
         (of-ids _ (inner (lookup y δ)) (numbered (suc s) us) m)
+scoped-code {ks = ks} (guard {τ = τ} g us e) δ s all =
+    rw (code-guard g us δ s e)
+    (scoped-seq (scoped-gate g us δ s all) (ap (λ k. s + k) (count-gate g us δ s))
+    (scoped-controlled st (scoped-code e δ′ a inside) (Memᴰ·append-left ks (gate-control g us δ s)) (λ u m. inside u (free-ids e δ′ a u m))))
+  where
+    a : ℕ
+    a = s + (2 + packsSize us)
+
+    δ′ : All IdTree (listedTypes us)
+    δ′ = packTrees us δ (s + 2)
+
+    st : IdTree τ
+    st = tree e δ′ a
+
+    inside : Within (idsOf δ′) (dv s (gate g us δ s) ++ ks)
+    inside u m = Memᴰ·append-left ks (gate-packed g us δ s m)

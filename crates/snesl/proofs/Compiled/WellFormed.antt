@@ -9,15 +9,17 @@ use mathlib.Core.Path.{_≡_, refl, sym, _∙_, ap, subst}
 use lib.ListN.{length}
 use Rattle.snesl.specs.declared.code.Transducer.{Transducer}
 use Rattle.snesl.specs.Transducers.{operands}
-use Rattle.snesl.specs.Values.{ValueType, braces}
-use Rattle.snesl.specs.Terms.{_∋_, Term, var, bind, const, iota, plus, sum, each, Scalars, All, _▹_, lookup}
-use Rattle.snesl.specs.Trees.{Tree, IdTree, leaf, inner, order}
+use Rattle.snesl.specs.Values.{ValueType, braces, bool, depthOf}
+use Rattle.snesl.specs.Terms.{_∋_, Term, var, bind, const, iota, operation, negation, sum, each, guard, Listing, Scalars, listedTypes, All, _▹_, lookup}
+use Rattle.snesl.specs.Trees.{Tree, IdTree, leaf, node, inner, root, order}
 use Rattle.snesl.specs.Programs.{Program, done, define, withCtrl, _⨾_, count, without, dv, fv, Within, Apart, WellFormed, well-done, well-define, well-withCtrl}
-use Rattle.snesl.specs.Translation.{size, numbered, within, tree, distrs, controlled, code}
+use Rattle.snesl.specs.declared.code.Transducer.the-variants.{B2u, UPack, Distr, Usum}
+use Rattle.snesl.specs.Translation.{id, packSize, packsSize, size, numbered, within, packTree, packTrees, tree, distrs, controlled, packCode, packCodes, code}
 use Rattle.snesl.specs.Ids.{idsOf, Below}
 use Rattle.snesl.proofs.Compiled.Members.{_∈_, _∉_, known, of-without, to-without, of-among, of-ascending}
+use Rattle.snesl.proofs.Compiled.Packing.{count-pack, defined-pack, free-pack}
 use Rattle.snesl.proofs.Compiled.Sequences.{dv-seq-left, dv-from-right, of-dv-from, of-dv-seq, of-fv-define, of-fv-withCtrl}
-use Rattle.snesl.proofs.Compiled.Freshness.{takes-free, free-taken, free-below, count-lead, count-ones, dv-lead, fv-lead, fv-ones, dv-ones, dv-alone, ids-root, ids-outer, ids-lookup, order-inner, order-root, of-ids, ids-numbered, dv-copies, copies, front, count-front, of-dv-front, fv-front, code-each, code-iota, lead, ones, totals, of-dv-controlled, count-code, result-ids, defined-next}
+use Rattle.snesl.proofs.Compiled.Freshness.{takes-free, free-taken, free-below, count-lead, count-ones, dv-lead, fv-lead, fv-ones, dv-ones, dv-alone, ids-root, ids-outer, ids-lookup, order-inner, order-root, of-ids, ids-numbered, dv-copies, copies, front, count-front, of-dv-front, fv-front, code-each, code-iota, lead, ones, totals, of-dv-controlled, count-code, result-ids, defined-next, flagging, count-flagging, fv-flagging, dv-flagging, defined-packs, free-packs, gate, count-gate, of-dv-gate, fv-gate, gate-packed, code-guard, no-operands}
 
 -- Lemma 1.2: if p is well-formed, then fv(p) ∩ dv(p) = ∅
 pub freshness : {s : ℕ} {p : Program} → WellFormed s p → Apart (fv s p) (dv s p)
@@ -180,11 +182,14 @@ well-controlled {c = c} {s = s} {p = p} st w new =
 below-two : {s q r : ℕ} → q < s → r < s → Below s (q ∷ r ∷ [])
 below-two low high u m = ⊎-elim (λ e. omega arith) (below-one high u) (List·Memᴰ·cases-cons m)
 
-well-lead : {r s : ℕ} → r < s → WellFormed s (lead r s)
+well-flagging : {s : ℕ} {t : Transducer} → Below s (operands t) → WellFormed s (flagging t s)
 unfolding dv
-well-lead {s = s} low =
-    well-first (below-one low) (well-alone (below-one (omega arith)))
+well-flagging {s = s} low =
+    well-first low (well-alone (below-one (omega arith)))
     (λ u m. let e = List·Memᴰ·eq-of-singleton m in omega arith)
+
+well-lead : {r s : ℕ} → r < s → WellFormed s (lead r s)
+well-lead low = well-flagging (below-one low)
 
 well-ones : (s : ℕ) → WellFormed (s + 2) (ones s)
 unfolding dv
@@ -232,6 +237,58 @@ well-front {s = s} y us δ below =
     well-first (below-one low) (well-copies us δ (omega arith) (λ u m. let l = below u m in omega arith))
     (λ u m. ids-numbered (suc s) us (rw dv-copies at m) .0)
 
+-- the packing of one value and of each listed variable, where all that they use was given out before
+well-pack : {d b s : ℕ} (t : Tree ℕ d) → b < s → Below s (order t) → WellFormed s (packCode b t s)
+unfolding packCode order dv
+well-pack (leaf x) low below = well-alone (below-two low (below x (List·Memᴰ·head refl)))
+well-pack {b = b} {s = s} (node {d = d} t f) low below =
+    well-first (below-two low flag)
+    (well-first (below-two (omega (arith, flag)) (omega arith)) (well-first (below-one (omega (arith, flag))) (items (well-pack t (omega arith) later)) after-usum) after-distr) after-upack
+  where
+    flag : f < s
+    flag = below f (Memᴰ·append-right (order t) (List·Memᴰ·head refl))
+
+    p : Program
+    p = packCode (s + 1) t (s + 3)
+
+    later : Below (s + 3) (order t)
+    later u m = let l = below u (Memᴰ·append-left (f ∷ []) m) in omega arith
+
+    items : WellFormed (s + 3) p → WellFormed (suc (suc (suc s))) (controlled (s + 2) (s + 3) p (packTree t (s + 3)))
+    items w =
+        subst (λ k. WellFormed k (controlled (s + 2) (s + 3) p (packTree t (s + 3)))) (omega arith)
+        (well-controlled (packTree t (s + 3)) w (λ m. let l = defined-pack (s + 1) t (s + 3) m in omega arith))
+
+    after-usum : (u : ℕ) → u ∈ dv (suc (suc (suc s))) (controlled (s + 2) (s + 3) p (packTree t (s + 3))) → suc (suc (suc s)) ≤ u
+    after-usum u m = let l = defined-pack (s + 1) t (s + 3) (of-dv-controlled (s + 2) (s + 3) p (packTree t (s + 3)) (suc (suc (suc s))) m .1) in omega arith
+
+    after-distr : (u : ℕ) → u ∈ (suc (suc s) ∷ dv (suc (suc (suc s))) (controlled (s + 2) (s + 3) p (packTree t (s + 3)))) → suc (suc s) ≤ u
+    after-distr u m = ⊎-elim (λ e. omega arith) (λ k. let l = after-usum u k in omega arith) (List·Memᴰ·cases-cons m)
+
+    after-upack : (u : ℕ) → u ∈ (suc s ∷ suc (suc s) ∷ dv (suc (suc (suc s))) (controlled (s + 2) (s + 3) p (packTree t (s + 3)))) → suc s ≤ u
+    after-upack u m = ⊎-elim (λ e. omega arith) (λ k. let l = after-distr u k in omega arith) (List·Memᴰ·cases-cons m)
+
+well-packs : {Γ : List ValueType} {b s : ℕ} (us : Listing Γ) (δ : All IdTree Γ) → b < s → Below s (idsOf δ) → WellFormed s (packCodes b us δ s)
+unfolding packCodes
+well-packs [] δ low below = well-done
+well-packs {b = b} {s = s} (v ∷ us) δ low below =
+    let n = packSize (depthOf (v .0)) in
+    let t = lookup (v .1) δ in
+    well-seq (well-pack t low (λ u m. below u (ids-lookup (v .1) δ u m))) (ap (λ k. s + k) (count-pack b t s))
+    (well-packs us δ (omega arith) (λ u m. let l = below u m in omega arith))
+    (apart-at (s + n) (below-append (λ u m. ⊎-elim (λ e. omega arith) (λ k. let l = below u (ids-lookup (v .1) δ u k) in omega arith) (List·Memᴰ·cases-cons (free-pack b t s u m))) (λ u m. defined-pack b t s m .1))
+    (λ u m. defined-packs b us δ (s + n) m .0))
+
+well-gate : {Γ : List ValueType} {s : ℕ} (g : Γ ∋ bool) (us : Listing Γ) (δ : All IdTree Γ) → Below s (idsOf δ) → WellFormed s (gate g us δ s)
+well-gate {s = s} g us δ below =
+    let r = root (lookup g δ) in
+    let low : r < s = below _ (ids-root g δ) in
+    well-seq (well-flagging (below-one low)) (ap (λ k. s + k) (count-flagging (B2u (id r)) s))
+    (well-packs us δ (omega arith) (λ u m. let l = below u m in omega arith))
+    (apart-at (s + 2)
+    (below-append (λ u m. let e = List·Memᴰ·eq-of-singleton (fv-flagging (B2u (id r)) s u m) in omega arith) (λ u m. dv-flagging (B2u (id r)) s m .1))
+    (λ u m. defined-packs r us δ (s + 2) m .0))
+
 -- the environments that code is translated in name ids given out before
 pub below-result : {Γ : List ValueType} {υ : ValueType} {s : ℕ} (e : Term Γ υ) (δ : All IdTree Γ) → Below s (idsOf δ) → Below (s + size e) (idsOf (_▹_ {τ = υ} (tree e δ s) δ))
 below-result {s = s} e δ below u m =
@@ -248,6 +305,9 @@ below-within {s = s} y us δ below u m =
     (λ k. let l = ids-numbered (suc s) us k in omega arith)
     (of-ids _ (inner (lookup y δ)) (numbered (suc s) us) m)
 
+pub below-packed : {Γ : List ValueType} (g : Γ ∋ bool) (us : Listing Γ) (δ : All IdTree Γ) (s : ℕ) → Below (s + (2 + packsSize us)) (idsOf (packTrees us δ (s + 2)))
+below-packed g us δ s u m = of-dv-gate g us δ s (gate-packed g us δ s m) .1
+
 -- ⊩ p for δ ⊢ e ⇒ (p, st), with p's ids from s on, and δ's below s
 pub well-code : {Γ : List ValueType} {τ : ValueType} {s : ℕ} (e : Term Γ τ) (δ : All IdTree Γ) → Below s (idsOf δ) → WellFormed s (code e δ s)
 unfolding code
@@ -257,9 +317,10 @@ well-code {s = s} (bind e₁ e₂) δ below =
     (apart-at (s + size e₁)
     (below-append (λ u m. let l = free-below e₁ δ below u m in omega arith) (λ u m. defined-next e₁ δ s m .1))
     (λ u m. defined-next e₂ (tree e₁ δ s ▹ δ) (s + size e₁) m .0))
-well-code (const n) δ below = well-alone (λ u m. absurd (List·Memᴰ·not-nil m))
+well-code (const b e) δ below = well-alone (λ u m. absurd (no-operands b e m))
 well-code {s = s} (iota x) δ below = rw (code-iota x δ s) (well-iota (below _ (ids-root x δ)))
-well-code (plus x y) δ below = well-alone (below-two (below _ (ids-root x δ)) (below _ (ids-root y δ)))
+well-code (operation o x y) δ below = well-alone (below-two (below _ (ids-root x δ)) (below _ (ids-root y δ)))
+well-code (negation x) δ below = well-alone (below-one (below _ (ids-root x δ)))
 well-code (sum x) δ below =
     well-alone
     (below-two (below _ (ids-outer x δ)) (below _ (ids-lookup x δ _ (order-inner (lookup x δ) _ (order-root (inner (lookup x δ)))))))
@@ -276,3 +337,19 @@ well-code {s = s} (each {τ = τ} y us e) δ below =
 
     st : IdTree τ
     st = tree e (within y us δ s) a
+well-code {s = s} (guard {τ = τ} g us e) δ below =
+    rw (code-guard g us δ s e)
+    (well-seq (well-gate g us δ below) (ap (λ k. s + k) (count-gate g us δ s))
+    (well-controlled st (well-code e δ′ (below-packed g us δ s)) (λ m. let l = defined-next e δ′ a m in omega arith))
+    (apart-at a
+    (below-append (λ u m. let l = below u (fv-gate g us δ s u m) in omega arith) (λ u m. of-dv-gate g us δ s m .1))
+    (λ u m. defined-next e δ′ a (of-dv-controlled (s + 1) a _ st a m .1) .0)))
+  where
+    a : ℕ
+    a = s + (2 + packsSize us)
+
+    δ′ : All IdTree (listedTypes us)
+    δ′ = packTrees us δ (s + 2)
+
+    st : IdTree τ
+    st = tree e δ′ a
