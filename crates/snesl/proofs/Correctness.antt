@@ -12,7 +12,9 @@ pub mod Leaves
 pub mod Iota
 pub mod Inside
 pub mod Skipping
+pub mod Packing
 pub mod Comprehension
+pub mod Guard
 pub mod Correct
 pub mod OneEnvironment
 pub mod Costs

@@ -14,7 +14,7 @@ use Rattle.snesl.specs.Terms.{_∋_, Term, each, Scalars, anyType, liste
 use Rattle.snesl.specs.Streams.{flags, units, dataOf, _!_}
 use Rattle.snesl.specs.Trees.{IdTree, outer, root}
 use Rattle.snesl.specs.Programs.{Program, done, withCtrl}
-use Rattle.snesl.specs.Machine.{State, Result, went, stopped, onward, run, boundless, push, skipped, sumOf}
+use Rattle.snesl.specs.Machine.{State, Result, run, boundless, push, skipped, sumOf}
 use Rattle.snesl.specs.Evaluation.{eval, allOf}
 use Rattle.snesl.specs.Translation.{size, tree, code, id, distrs, controlled, within}
 use Rattle.snesl.specs.Representation.{holds-node, segments}
@@ -24,7 +24,7 @@ use Rattle.snesl.proofs.Correctness.Segments.{length-segments}
 use Rattle.snesl.proofs.Correctness.Environments.{inside, insideAll, items, segments-inside, length-inside}
 use Rattle.snesl.proofs.Correctness.Charged.{charges-each}
 use Rattle.snesl.proofs.Correctness.Reached.{steps-none, steps-each}
-use Rattle.snesl.proofs.Correctness.RunParts.{run-made, run-skipped, run-body}
+use Rattle.snesl.proofs.Correctness.RunParts.{onward-went, run-made, run-skipped, run-body}
 use Rattle.snesl.proofs.Correctness.Grown.{held-data, held-flags, holds-grown, agrees-grown}
 use Rattle.snesl.proofs.Correctness.Applied.{apply-usum, apply-distr, len-data, work-one, work-two}
 use Rattle.snesl.proofs.Correctness.Inside.{copy, length-copy, copied, copies, agrees-inside}
@@ -32,10 +32,6 @@ use Rattle.snesl.proofs.Correctness.Skipping.{skipping, skipped-size}
 use Rattle.snesl.proofs.Correctness.Leaves.{Correct}
 
 -- the body, under a control of as many units as it has environments
-onward-went : (r : Result) → onward r (λ m. went m) ≡ r
-onward-went (went m) = refl
-onward-went (stopped why i) = refl
-
 module _ {Γ : List ValueType} {τ : ValueType} (e : Term Γ τ) (correct : Correct e) (δ : All IdTree Γ) (s : ℕ) (m : State)
     (first : length (m .store) ≡ s) (outs ins : List ℕ) (c n : ℕ) where
   skipped-body : Agrees (m .store) δ []
@@ -53,7 +49,7 @@ module _ {Γ : List ValueType} {τ : ValueType} (e : Term Γ τ) (correct : Corr
         steps = omega (arith, steps-none e);
       })
 
-  controlled-body : (ρs : List (All Val Γ))
+  pub controlled-body : (ρs : List (All Val Γ))
       → Agrees (m .store) δ ρs
       → m .store ! c ≡ some (units (length ρs))
       → ComesTo e δ s ρs m (allOf (eval e) ρs) (run boundless (withCtrl outs c ins (code e δ s) done) n m)

@@ -6,7 +6,7 @@ use mathlib.Core.List.{List, [], _∷_, _++_, append-assoc, zipWith}
 use mathlib.Core.Option.{Option, some, none}
 use lib.ListN.{length, length-append}
 use Rattle.snesl.specs.Values.{ValueType, Val}
-use Rattle.snesl.specs.Terms.{Term, var, bind, const, iota, plus, sum, each, All, _▹_}
+use Rattle.snesl.specs.Terms.{Term, var, bind, const, iota, operation, negation, sum, each, guard, All, _▹_}
 use Rattle.snesl.specs.Trees.{IdTree}
 use Rattle.snesl.specs.Machine.{State, Result, onward, run, boundless}
 use Rattle.snesl.specs.Evaluation.{andThen, eval, allOf}
@@ -18,9 +18,10 @@ use Rattle.snesl.proofs.Correctness.Charged.{charges-bind}
 use Rattle.snesl.proofs.Correctness.Reached.{steps-bind}
 use Rattle.snesl.proofs.Correctness.RunParts.{run-sequence}
 use Rattle.snesl.proofs.Correctness.Grown.{agrees-grown, agrees-bound}
-use Rattle.snesl.proofs.Correctness.Leaves.{Correct, correct-var, correct-const, correct-plus, correct-sum}
+use Rattle.snesl.proofs.Correctness.Leaves.{Correct, correct-var, correct-const, correct-operation, correct-negation, correct-sum}
 use Rattle.snesl.proofs.Correctness.Iota.{correct-iota}
 use Rattle.snesl.proofs.Correctness.Comprehension.{correct-each}
+use Rattle.snesl.proofs.Correctness.Guard.{correct-guard}
 
 nothing : {A B : Type 0} (o : Option A) → _≡_ {A = Option B} (andThen o (λ a. none)) none
 nothing none = refl
@@ -104,8 +105,10 @@ module _ {Γ : List ValueType} {υ τ : ValueType} (e₁ : Term Γ υ) (e₂ : T
 pub correct : {Γ : List ValueType} {τ : ValueType} (e : Term Γ τ) → Correct e
 correct (var x) = correct-var x
 correct (bind e₁ e₂) = correct-bind e₁ e₂ (correct e₁) (correct e₂)
-correct (const n) = correct-const n
+correct (const b e) = correct-const b e
 correct (iota x) = correct-iota x
-correct (plus x y) = correct-plus x y
+correct (operation o x y) = correct-operation o x y
+correct (negation x) = correct-negation x
 correct (sum x) = correct-sum x
 correct (each y us e) = correct-each y us e (correct e)
+correct (guard g us e) = correct-guard g us e (correct e)

@@ -3,30 +3,37 @@
 use Prim.Native.Nat.{ℕ, suc, _+_}
 use native.Mathlib.Omega.{arith}
 use mathlib.Core.Path.{_≡_, refl, ap, _∙_, subst}
-use mathlib.Core.List.{List, [], _∷_, map, zipWith, List·Memᴰ, List·Memᴰ·not-nil, List·Memᴰ·append-cases, List·Memᴰ·eq-of-singleton}
+use mathlib.Core.Bool.{Bool}
+use mathlib.Core.List.{List, [], _∷_, map, zipWith, List·Memᴰ, List·Memᴰ·not-nil, List·Memᴰ·cases-cons, List·Memᴰ·append-cases, List·Memᴰ·eq-of-singleton}
 use mathlib.Core.Option.{Option, some}
 use mathlib.Core.Logic.{⊎-elim}
-use lib.ListN.{length, length-map}
+use lib.ListN.{length, length-append, length-map}
 use Rattle.snesl.specs.declared.code.Transducer.{Transducer}
-use Rattle.snesl.specs.declared.code.Transducer.the-variants.{Distr}
-use Rattle.snesl.specs.Values.{ValueType, braces, int, Val}
-use Rattle.snesl.specs.Terms.{_∋_, Term, var, bind, const, iota, plus, sum, each, Scalars, anyType, listedTypes, All, _▹_, lookup}
+use Rattle.snesl.specs.declared.code.Transducer.the-variants.{B2u, Distr, UPack, Usum}
+use Rattle.snesl.specs.Values.{ValueType, scalar, braces, int, bool, depthOf, Val}
+use Rattle.snesl.specs.Terms.{_∋_, Term, var, bind, const, iota, operation, negation, sum, each, guard, Listing, Scalars, anyType, listedTypes, All, _▹_, lookup}
 use Rattle.snesl.specs.Evaluation.{eval, allOf}
-use Rattle.snesl.specs.Streams.{Stream, flags, units, dataOf, Store, _!_}
-use Rattle.snesl.specs.Trees.{IdTree, order, outer, root}
+use Rattle.snesl.specs.Streams.{Stream, bools, flags, units, dataOf, Store, _!_}
+use Rattle.snesl.specs.Trees.{IdTree, leaf, node, order, inner, outer, root}
 use Rattle.snesl.specs.Transducers.{apply, made}
 use Rattle.snesl.specs.Programs.{Program, done, define, withCtrl, _⨾_, fv, ascending, without}
 use Rattle.snesl.specs.Machine.{State, Result, went, onward, push, step, run, boundless}
-use Rattle.snesl.specs.Translation.{size, tree, code, id, distrs, controlled, within}
+use Rattle.snesl.specs.Translation.{packSize, packsSize, size, packTree, packTrees, tree, packCode, packCodes, code, id, distrs, controlled, within}
 use Rattle.snesl.specs.Agreement.{Agrees, Ran, ComesTo, ran, halted}
 use Rattle.snesl.specs.Representation.{Holds, holds-leaf, holds-node, concat, segments}
 use Rattle.snesl.specs.SideCondition.{Empty, Proper, proper-done, proper-define, proper-withCtrl}
+use Rattle.snesl.proofs.Compiled.Members.{of-ascending}
+use Rattle.snesl.proofs.Compiled.Packing.{free-pack}
 use Rattle.snesl.proofs.Correctness.AllOf.{Each, each-cons, each-of}
-use Rattle.snesl.proofs.Correctness.Environments.{bound, length-bound, insideAll, items}
-use Rattle.snesl.proofs.Correctness.Grown.{held-data, held-flags, agrees-grown}
+use Rattle.snesl.proofs.Correctness.Environments.{bound, length-bound, insideAll, items, passedAll}
+use Rattle.snesl.proofs.Correctness.Charged.{chosen, item, paired}
+use Rattle.snesl.proofs.Correctness.Grown.{held-data, held-flags, held-inner, agrees-grown}
 use Rattle.snesl.proofs.Correctness.Applied.{apply-usum, apply-distr, len-data}
 use Rattle.snesl.proofs.Correctness.Inside.{copied}
 use Rattle.snesl.proofs.Correctness.Comprehension.{copying, preparing, counted, body-start, body-control, body-agrees}
+use Rattle.snesl.proofs.Correctness.Packing as Packing
+use Rattle.snesl.proofs.Correctness.Packing.{opened, packing, packing-all, AllPacked}
+use Rattle.snesl.proofs.Correctness.Guard as Guard
 use Rattle.snesl.proofs.Correctness.Correct.{correct, let-start, let-agrees}
 use Rattle.snesl.proofs.Correctness.RunParts.{run-step, step-made, run-sequence}
 
@@ -129,6 +136,85 @@ module _ {Γ : List ValueType} {υ τ : ValueType} (its : TakesItsEnvironment) (
       (body-agrees y us e δ s ρ ρs m m′ prepared first a)
       (body-control y us e δ s ρ ρs m m′ prepared first)))
 
+-- packing: a level's items take in its spread bools and their own streams, all empty where there is no item
+module _ (τ : ValueType) {R : Type 0} (f : R → Bool) (h : R → Val τ) (b c n s : ℕ) (outs : List ℕ) (t : IdTree τ) (m : State)
+    (below : (r : R) (rs : List R)
+    → m .store ! b ≡ some (bools (map f (r ∷ rs)))
+    → Holds (m .store) τ t (map h (r ∷ rs))
+    → Proper (packCode b t s) (length (r ∷ rs)) m) where
+  proper-items : (rs : List R)
+      → m .store ! b ≡ some (bools (map f rs))
+      → m .store ! c ≡ some (units (length rs))
+      → Holds (m .store) τ t (map h rs)
+      → Proper (withCtrl outs c (ascending (fv s (packCode b t s))) (packCode b t s) done) n m
+  proper-items [] bs us k = proper-withCtrl (λ z u i. taken u (free-pack b t s u (of-ascending (fv s (packCode b t s)) i))) (λ j z. absurd (no-units us z)) (λ m′ z. proper-done)
+    where
+      taken : (u : ℕ) → List·Memᴰ u (b ∷ order t) → Empty (m .store) u
+      taken u i = ⊎-elim (λ e. rw e (record { stream = bools []; there-is = bs; no-elements = refl })) (λ j. holds-empty k j) (List·Memᴰ·cases-cons i)
+  proper-items (r ∷ rs) bs us k =
+      proper-withCtrl (λ z u i. absurd (no-units z us)) (λ j z. subst (λ n. Proper (packCode b t s) n m) (same-units us z) (below r rs bs k)) (λ m′ z. proper-done)
+
+proper-pack : (τ : ValueType) {R : Type 0} (f : R → Bool) (h : R → Val τ) (r : R) (rs : List R) (b : ℕ) (t : IdTree τ) (s : ℕ) (m : State)
+    → length (m .store) ≡ s
+    → m .store ! b ≡ some (bools (map f (r ∷ rs)))
+    → Holds (m .store) τ t (map h (r ∷ rs))
+    → Proper (packCode b t s) (length (r ∷ rs)) m
+unfolding packCode outer inner
+proper-pack (scalar c) f h r rs b (leaf x) s m first bs k = proper-last
+proper-pack (braces τ) f h r rs b (node t l) s m first bs k =
+    let one = opened τ f h (r ∷ rs) b l s m in
+    let next = Packing.opened-next τ f h (r ∷ rs) b l s m first in
+    proper-made (Packing.upacked τ f h (r ∷ rs) b l s m first bs (held-flags k))
+    (proper-made (Packing.distributed τ f h (r ∷ rs) b l s m first bs (held-flags k))
+    (proper-made (Packing.summed τ f h (r ∷ rs) b l s m first bs (held-flags k))
+    (proper-items τ chosen item (s + 1) (s + 2) (length (r ∷ rs)) (s + 3) _ t one (λ p ps bs k. proper-pack τ chosen item p ps (s + 1) t (s + 3) one next bs k)
+    (paired f h (r ∷ rs))
+    (Packing.opened-bools τ f h (r ∷ rs) b l s m first)
+    (Packing.opened-units τ f h (r ∷ rs) b l s m first)
+    (Packing.opened-items τ f h (r ∷ rs) b l s m first t (held-inner k)))))
+
+-- a run that is known to end somewhere ends there
+same-end : {r : Result} {m m′ : State} → r ≡ went m → r ≡ went m′ → m ≡ m′
+same-end p q = cc
+
+proper-packs : {Γ : List ValueType} (g : Γ ∋ bool) (us : Listing Γ) (δ : All IdTree Γ) (s : ℕ) (ρ : All Val Γ) (ρs : List (All Val Γ)) (m : State)
+    → length (m .store) ≡ s
+    → Agrees (m .store) δ (ρ ∷ ρs)
+    → Proper (packCodes (root (lookup g δ)) us δ s) (length (ρ ∷ ρs)) m
+unfolding packCodes
+proper-packs g [] δ s ρ ρs m first a = proper-done
+proper-packs g (u ∷ us) δ s ρ ρs m first a =
+    let b = root (lookup g δ) in
+    let t = lookup (u .1) δ in
+    let n = packSize (depthOf (u .0)) in
+    let bs : m .store ! b ≡ some (bools (map (lookup g) (ρ ∷ ρs))) = held-data (a .holds g) in
+    let (one, w) = packing (u .0) (lookup g) (lookup (u .1)) ρ ρs b t s m first bs (a .holds (u .1)) in
+    let next : length (one .store) ≡ s + n = ap length (w .store) ∙ omega (arith, length-append (m .store) (w .added), w .adds) in
+    proper-sequence (proper-pack (u .0) (lookup g) (lookup (u .1)) ρ ρs b t s m first bs (a .holds (u .1)))
+    (λ m′ e.
+    subst (λ m. Proper (packCodes b us δ (s + n)) (length (ρ ∷ ρs)) m) (same-end (w .runs) e)
+    (proper-packs g us δ (s + n) ρ ρs one next (rw (w .store) (agrees-grown (w .added) a))))
+
+module _ {Γ : List ValueType} {τ : ValueType} (its : TakesItsEnvironment) (g : Γ ∋ bool) (us : Listing Γ) (e : Term (listedTypes us) τ) where
+  always-guard : Always e → Always (guard g us e)
+  unfolding code
+  always-guard always δ ρ ρs s m first a =
+      let n = length (ρ ∷ ρs) in
+      let start = s + (2 + packsSize us) in
+      let δ′ = packTrees us δ (s + 2) in
+      let p = controlled (s + 1) start (code e δ′ start) (tree e δ′ start) in
+      let one = Guard.counted g us δ s (ρ ∷ ρs) m in
+      let next = Guard.counted-next g us δ s (ρ ∷ ρs) m first in
+      let grown = Guard.counted-agrees g us δ s (ρ ∷ ρs) m first a in
+      let (m′, packed) = packing-all g us δ (s + 2) ρ ρs one next grown in
+      proper-made (Guard.applied-b2u g us δ s (ρ ∷ ρs) m first a)
+      (proper-made (Guard.applied-usum g us δ s (ρ ∷ ρs) m first)
+      (proper-sequence (proper-packs g us δ (s + 2) ρ ρs one next grown)
+      (λ m″ z.
+      subst (λ m. Proper p n m) (same-end (packed .runs) z)
+      (proper-body its e always δ′ start (s + 1) n _ m′ (Guard.body-start g us e δ s ρ ρs m m′ first packed) (passedAll g us (ρ ∷ ρs)) (packed .agrees)
+      (Guard.body-control g us e δ s ρ ρs m m′ first packed)))))
+
 -- a run of the first part that went through leaves an environment for the second
 module _ {Γ : List ValueType} {υ τ : ValueType} (e₁ : Term Γ υ) (e₂ : Term (υ ∷ Γ) τ) (always : Always e₂) (δ : All IdTree Γ) (ρ : All Val Γ) (ρs : List (All Val Γ)) (s : ℕ) (m : State) where
   proper-second : {o : Option (List (Val υ))} {r : Result} {m′ : State}
@@ -156,9 +242,11 @@ unfolding code
 proper its (var x) δ ρ ρs s m first a = proper-done
 proper its (bind e₁ e₂) δ ρ ρs s m first a =
     proper-sequence (proper its e₁ δ ρ ρs s m first a)
-    (λ m′ h. proper-second e₁ e₂ (proper its e₂) δ ρ ρs s m first a refl h (correct e₁ δ ρ ρs s m first a))
-proper its (const n) δ ρ ρs s m first a = proper-last
+    (λ m′ h. proper-second e₁ e₂ (λ δ ρ ρs s m first a. proper its e₂ δ ρ ρs s m first a) δ ρ ρs s m first a refl h (correct e₁ δ ρ ρs s m first a))
+proper its (const b e) δ ρ ρs s m first a = proper-last
 proper its (iota x) δ ρ ρs s m first a = always-iota x δ ρ ρs s m first a
-proper its (plus x y) δ ρ ρs s m first a = proper-last
+proper its (operation o x y) δ ρ ρs s m first a = proper-last
+proper its (negation x) δ ρ ρs s m first a = proper-last
 proper its (sum x) δ ρ ρs s m first a = proper-last
-proper its (each y us e) δ ρ ρs s m first a = always-each its y us e (proper its e) δ ρ ρs s m first a
+proper its (each y us e) δ ρ ρs s m first a = always-each its y us e (λ δ ρ ρs s m first a. proper its e δ ρ ρs s m first a) δ ρ ρs s m first a
+proper its (guard g us e) δ ρ ρs s m first a = always-guard its g us e (λ δ ρ ρs s m first a. proper its e δ ρ ρs s m first a) δ ρ ρs s m first a

@@ -1,12 +1,13 @@
--- The two ways in which a term's code makes new environments: a let gives each environment its value more, and a comprehension makes one
--- for each item. A list of environments stays a list of environments: the items' environments stand one after another, over all lists.
+-- The ways in which a term's code makes new environments: a let gives each environment its value more, a comprehension makes one for each item,
+-- and a guard one where it is true. A list of environments stays a list of environments: the items' environments stand one after another, over all lists.
 use Prim.Native.Nat.{ℕ, suc}
+use mathlib.Core.Bool.{Bool, true, false}
 use mathlib.Core.Path.{_≡_, refl, ap, ap₂, _∙_, sym}
 use mathlib.Core.List.{List, [], _∷_, _++_, map, zipWith, map-map, map-append}
 use lib.ListN.{length, length-map}
-use Rattle.snesl.specs.Values.{ValueType, braces, Val}
-use Rattle.snesl.specs.Terms.{_∋_, Term, Scalars, anyType, listedTypes, All, _▹_, lookup, listed, here, there}
-use Rattle.snesl.specs.Evaluation.{eval}
+use Rattle.snesl.specs.Values.{ValueType, braces, bool, Val}
+use Rattle.snesl.specs.Terms.{_∋_, Term, Listing, Scalars, anyType, listedTypes, All, _▹_, lookup, listed, here, there}
+use Rattle.snesl.specs.Evaluation.{oneIf, eval}
 use Rattle.snesl.specs.Representation.{concat, segments}
 use Rattle.snesl.proofs.Correctness.AllOf.{Each, each-nil, each-cons}
 
@@ -44,12 +45,12 @@ abbrev pub items : {Γ : List ValueType} {υ : ValueType} → Γ ∋ braces υ �
 items y ρs = length (concat (map (lookup y) ρs))
 
 -- a map of the items, list by list
-concat-map : {R A B : Type 0} (g : A → B) (f : R → List A) (rs : List R) → map g (concat (map f rs)) ≡ concat (map (λ r. map g (f r)) rs)
+pub concat-map : {R A B : Type 0} (g : A → B) (f : R → List A) (rs : List R) → map g (concat (map f rs)) ≡ concat (map (λ r. map g (f r)) rs)
 unfolding concat
 concat-map g f [] = refl
 concat-map g f (r ∷ rs) = map-append g (f r) (concat (map f rs)) ∙ ap (λ l. map g (f r) ++ l) (concat-map g f rs)
 
-map-same : {A B : Type 0} (f : A → B) (g : B → A) (h : (x : A) → g (f x) ≡ x) (l : List A) → map g (map f l) ≡ l
+pub map-same : {A B : Type 0} (f : A → B) (g : B → A) (h : (x : A) → g (f x) ≡ x) (l : List A) → map g (map f l) ≡ l
 map-same f g h [] = refl
 map-same f g h (x ∷ l) = ap₂ (λ y t. y ∷ t) (h x) (map-same f g h l)
 
@@ -77,3 +78,24 @@ module _ {Γ : List ValueType} {υ : ValueType} (y : Γ ∋ braces υ) (us : Sca
 
   pub length-inside : (ρs : List (All Val Γ)) → length (insideAll y us ρs) ≡ items y ρs
   length-inside ρs = sym (length-map (insideAll y us ρs) (lookup here)) ∙ ap length (item-inside ρs)
+
+-- Each R has a bool (f) and a value (h): the values whose bool is T.
+abbrev pub those : {R A : Type 0} → (R → Bool) → (R → A) → List R → List A
+those f h rs = concat (map (λ r. oneIf (f r) (h r)) rs)
+
+-- the environments of a guard's body in ρ: one or none; and those over all environments
+abbrev pub passed : {Γ : List ValueType} → Γ ∋ bool → (us : Listing Γ) → All Val Γ → List (All Val (listedTypes us))
+passed g us ρ = oneIf (lookup g ρ) (listed us ρ)
+
+abbrev pub passedAll : {Γ : List ValueType} → Γ ∋ bool → (us : Listing Γ) → List (All Val Γ) → List (All Val (listedTypes us))
+passedAll g us ρs = those (lookup g) (listed us) ρs
+
+pub map-one : {A B : Type 0} (k : A → B) (c : Bool) (a : A) → map k (oneIf c a) ≡ oneIf c (k a)
+map-one k false a = refl
+map-one k true a = refl
+
+-- a listed variable's values there
+pub value-passed : {Γ : List ValueType} (g : Γ ∋ bool) (us : Listing Γ) {τ : ValueType} (x : listedTypes us ∋ τ) (ρs : List (All Val Γ))
+    → map (lookup x) (passedAll g us ρs) ≡ those (lookup g) (λ ρ. lookup x (listed us ρ)) ρs
+value-passed g us x ρs =
+    concat-map (lookup x) (passed g us) ρs ∙ ap (λ f. concat (map f ρs)) (λ i ρ. map-one (lookup x) (lookup g ρ) (listed us ρ) i)

@@ -12,7 +12,7 @@ use lib.ListN.{length, replicate, length-append}
 use borrow.Author.Tests.{lt-ltb, ltb-true}
 use Rattle.snesl.specs.Values.{inRange, total}
 use Rattle.snesl.specs.Evaluation.{andThen, within, counting, upTo, allOf}
-use Rattle.snesl.specs.Transducers.{firstOutside, firstNegative, pluses, sums, scans, unary}
+use Rattle.snesl.specs.Transducers.{firstOutside, firstNegative, pairwise, pluses, sums, scans, unary}
 use Rattle.snesl.specs.Charges.{times}
 use Rattle.snesl.specs.Representation.{concat, segments}
 use Rattle.snesl.proofs.Correctness.Segments.{segment}
@@ -47,6 +47,12 @@ module _ {R : Type 0} (f g : R → ℤ) where
   unfolding pluses
   results-pluses [] k = refl
   results-pluses (r ∷ rs) k = ap (λ zs. (f r +ℤ g r) ∷ zs) (results-pluses rs (suc k))
+
+-- an operation on each pair
+pub pairwise-each : {R A B C : Type 0} (k : A → B → C) (f : R → A) (g : R → B) (rs : List R) → pairwise k (map f rs) (map g rs) ≡ map (λ r. k (f r) (g r)) rs
+unfolding pairwise
+pairwise-each k f g [] = refl
+pairwise-each k f g (r ∷ rs) = ap (λ l. k (f r) (g r) ∷ l) (pairwise-each k f g rs)
 
 -- SumPlus
 sums-segment : (l : List ℤ) (k : ℕ) (sofar : ℤ) (bs : List Bool) (xs : List ℤ)

@@ -9,15 +9,17 @@ use mathlib.Core.Option.{Option, some, none}
 use lib.Dec.{ltb}
 use lib.ListN.{length, replicate, length-append, length-replicate, replicate-append-replicate}
 use borrow.Author.Tests.{lt-ltb}
-use Rattle.snesl.specs.Values.{ValueType, braces, int, Val}
-use Rattle.snesl.specs.Terms.{_∋_, Term, var, bind, const, iota, plus, sum, each, Scalars, anyType, All, _▹_, lookup, listed}
-use Rattle.snesl.specs.Evaluation.{eval}
-use Rattle.snesl.specs.Translation.{size}
-use Rattle.snesl.specs.Charges.{times, either, anyOf, reached, countTrue, stepsOf}
+use Rattle.snesl.specs.declared.code.Base.{Base}
+use Rattle.snesl.specs.declared.code.Operation.{Operation}
+use Rattle.snesl.specs.Values.{ValueType, scalar, braces, int, bool, depthOf, Element, Val}
+use Rattle.snesl.specs.Terms.{_∋_, Term, var, bind, const, iota, operation, negation, sum, each, guard, Listing, Scalars, anyType, listedTypes, All, _▹_, lookup, listed}
+use Rattle.snesl.specs.Evaluation.{oneIf, eval}
+use Rattle.snesl.specs.Translation.{packSize, packsSize, size}
+use Rattle.snesl.specs.Charges.{times, either, anyOf, packReached, packsReached, reached, countTrue, stepsOf}
 use Rattle.snesl.specs.Representation.{concat}
 use Rattle.snesl.proofs.Correctness.AllOf.{Each, each-nil, each-cons}
 use Rattle.snesl.proofs.Correctness.Exact.{countsOf, length-counting}
-use Rattle.snesl.proofs.Correctness.Environments.{bound, inside, insideAll}
+use Rattle.snesl.proofs.Correctness.Environments.{bound, inside, insideAll, passed, passedAll}
 
 -- Marks at places, joined place by place.
 length-either : (bs cs : List Bool) → length bs ≡ length cs → length (either bs cs) ≡ length cs
@@ -91,6 +93,35 @@ module _ {R : Type 0} (n : ℕ) (f : R → List Bool) (sized : (r : R) → lengt
       sym (subst (λ k. either (replicate k false) (anyOf n (map f r)) ≡ anyOf n (map f r)) (length-anyOf r) (nowhere-either (anyOf n (map f r))))
   anyOf-append (x ∷ l) r = ap (either (f x)) (anyOf-append l r) ∙ sym (either-assoc (f x) (anyOf n (map f l)) (anyOf n (map f r)))
 
+-- two lists of marks, one after the other
+module _ {R : Type 0} (n k : ℕ) (f g : R → List Bool) (sized : (r : R) → length (f r) ≡ n) where
+  anyOf-both : (rs : List R) → anyOf (n + k) (map (λ r. f r ++ g r) rs) ≡ anyOf n (map f rs) ++ anyOf k (map g rs)
+  unfolding anyOf
+  anyOf-both [] = sym (replicate-append-replicate n k false)
+  anyOf-both (r ∷ rs) =
+      ap (either (f r ++ g r)) (anyOf-both rs)
+      ∙ either-append (f r) (anyOf n (map f rs)) (g r) (anyOf k (map g rs)) (sized r ∙ sym (length-anyOf n f sized rs))
+
+-- marks of lists, list by list and flat
+module _ {R A : Type 0} (n : ℕ) (f : A → List Bool) (sized : (a : A) → length (f a) ≡ n) (l : R → List A) where
+  anyOf-flat : (rs : List R) → anyOf n (map (λ r. anyOf n (map f (l r))) rs) ≡ anyOf n (map f (concat (map l rs)))
+  unfolding anyOf concat
+  anyOf-flat [] = refl
+  anyOf-flat (r ∷ rs) = ap (either (anyOf n (map f (l r)))) (anyOf-flat rs) ∙ sym (anyOf-append n f sized (l r) (concat (map l rs)))
+
+-- the marks of packing
+length-packReached : (τ : ValueType) (v : Val τ) → length (packReached τ v) ≡ packSize (depthOf τ)
+unfolding packReached packSize
+length-packReached (scalar b) v = refl
+length-packReached (braces τ) vs = omega (arith, length-anyOf (packSize (depthOf τ)) (λ v. packReached τ v) (λ v. length-packReached τ v) vs)
+
+length-packsReached : {Γ : List ValueType} (us : Listing Γ) (ρ : All Val Γ) → length (packsReached us ρ) ≡ packsSize us
+unfolding packsReached packsSize
+length-packsReached [] ρ = refl
+length-packsReached (u ∷ us) ρ =
+    length-append (packReached (u .0) (lookup (u .1) ρ)) (packsReached us ρ)
+    ∙ ap₂ _+_ (length-packReached (u .0) (lookup (u .1) ρ)) (length-packsReached us ρ)
+
 pub length-reached : {Γ : List ValueType} {τ : ValueType} (e : Term Γ τ) (ρ : All Val Γ) → length (reached e ρ) ≡ size e
 unfolding reached size
 length-reached (var x) ρ = refl
@@ -102,9 +133,10 @@ length-reached (bind {υ = υ} e₁ e₂) ρ =
         → length {A = Bool} (elim o [ none ↦ replicate (size e₂) false | some v ↦ reached e₂ (v ▹ ρ) ]) ≡ size e₂
     rest none h = length-replicate (size e₂) false
     rest (some v) h = h v
-length-reached (const n) ρ = refl
+length-reached (const b e) ρ = refl
 length-reached (iota x) ρ = refl
-length-reached (plus x y) ρ = refl
+length-reached (operation o x y) ρ = refl
+length-reached (negation x) ρ = refl
 length-reached (sum x) ρ = refl
 length-reached (each y us e) ρ =
     let marks = anyOf (size e) (map (λ v. reached e (v ▹ listed (anyType us) ρ)) (lookup y ρ)) in
@@ -113,6 +145,14 @@ length-reached (each y us e) ρ =
       length-append (replicate (length us) true) marks,
       length-replicate (length us) true,
       length-anyOf (size e) (λ v. reached e (v ▹ listed (anyType us) ρ)) (λ v. length-reached e (v ▹ listed (anyType us) ρ)) (lookup y ρ),
+    )
+length-reached (guard g us e) ρ =
+    let marks = anyOf (size e) (map (λ ρ′. reached e ρ′) (oneIf (lookup g ρ) (listed us ρ))) in
+    omega (
+      arith,
+      length-append (packsReached us ρ) marks,
+      length-packsReached us ρ,
+      length-anyOf (size e) (λ ρ′. reached e ρ′) (λ ρ′. length-reached e ρ′) (oneIf (lookup g ρ) (listed us ρ)),
     )
 
 -- a term's marks in several environments
@@ -129,7 +169,7 @@ module _ {Γ : List ValueType} {τ : ValueType} (e : Term Γ τ) where
   steps-one ρ = ap countTrue (either-nowhere (reached e ρ) (size e) (length-reached e ρ))
 
   length-marks : (ρs : List (All Val Γ)) → length (marks e ρs) ≡ size e
-  length-marks ρs = length-anyOf (size e) (reached e) (length-reached e) ρs
+  length-marks ρs = length-anyOf (size e) (reached e) (λ ρ. length-reached e ρ) ρs
 
 -- marks that are the same in every environment
 same-marks : {R : Type 0} (bs : List Bool) → either bs bs ≡ bs → (r : R) (rs : List R) → anyOf (length bs) (map (λ r. bs) (r ∷ rs)) ≡ bs
@@ -143,13 +183,17 @@ module _ {Γ : List ValueType} where
   steps-var x [] = refl
   steps-var x (ρ ∷ ρs) = steps-var x ρs
 
-  pub steps-const : (n : _) (ρ : All Val Γ) (ρs : List (All Val Γ)) → stepsOf (const n) (ρ ∷ ρs) ≡ 1
+  pub steps-const : (b : Base) (e : Element b) (ρ : All Val Γ) (ρs : List (All Val Γ)) → stepsOf (const b e) (ρ ∷ ρs) ≡ 1
   unfolding reached size countTrue either
-  steps-const n ρ ρs = ap countTrue (same-marks (true ∷ []) refl ρ ρs)
+  steps-const b e ρ ρs = ap countTrue (same-marks (true ∷ []) refl ρ ρs)
 
-  pub steps-plus : (x y : Γ ∋ int) (ρ : All Val Γ) (ρs : List (All Val Γ)) → stepsOf (plus x y) (ρ ∷ ρs) ≡ 1
+  pub steps-operation : (o : Operation) (x y : Γ ∋ int) (ρ : All Val Γ) (ρs : List (All Val Γ)) → stepsOf (operation o x y) (ρ ∷ ρs) ≡ 1
   unfolding reached size countTrue either
-  steps-plus x y ρ ρs = ap countTrue (same-marks (true ∷ []) refl ρ ρs)
+  steps-operation o x y ρ ρs = ap countTrue (same-marks (true ∷ []) refl ρ ρs)
+
+  pub steps-negation : (x : Γ ∋ bool) (ρ : All Val Γ) (ρs : List (All Val Γ)) → stepsOf (negation x) (ρ ∷ ρs) ≡ 1
+  unfolding reached size countTrue either
+  steps-negation x ρ ρs = ap countTrue (same-marks (true ∷ []) refl ρ ρs)
 
   pub steps-sum : (x : Γ ∋ braces int) (ρ : All Val Γ) (ρs : List (All Val Γ)) → stepsOf (sum x) (ρ ∷ ρs) ≡ 1
   unfolding reached size countTrue either
@@ -189,7 +233,7 @@ module _ {Γ : List ValueType} {υ τ : ValueType} (y : Γ ∋ braces υ) (us : 
       ∙ ap (λ l. true ∷ l)
       (either-everywhere (length us) (marks e (inside y us ρ)) (marks e (insideAll y us (ρ′ ∷ ρs)))
       ∙ ap (λ l. replicate (length us) true ++ l)
-      (sym (anyOf-append (size e) (reached e) (length-reached e) (inside y us ρ) (insideAll y us (ρ′ ∷ ρs)))))
+      (sym (anyOf-append (size e) (reached e) (λ ρ. length-reached e ρ) (inside y us ρ) (insideAll y us (ρ′ ∷ ρs)))))
 
   pub steps-each : (ρ : All Val Γ) (ρs : List (All Val Γ))
       → stepsOf (each y us e) (ρ ∷ ρs) ≡ 1 + (length us + stepsOf e (insideAll y us (ρ ∷ ρs)))
@@ -201,6 +245,67 @@ module _ {Γ : List ValueType} {υ τ : ValueType} (y : Γ ∋ braces υ) (us : 
         countTrue-append (replicate (length us) true) (marks e (insideAll y us (ρ ∷ ρs))),
         countTrue-everywhere (length us),
       )
+
+-- the steps of packing some values, under a unit for each
+abbrev pub packSteps : (τ : ValueType) {R : Type 0} → (R → Val τ) → List R → ℕ
+packSteps τ h rs = countTrue (anyOf (packSize (depthOf τ)) (map (λ r. packReached τ (h r)) rs))
+
+pub steps-packed-none : (τ : ValueType) {R : Type 0} (h : R → Val τ) → packSteps τ h [] ≡ 0
+unfolding anyOf
+steps-packed-none τ h = countTrue-nowhere (packSize (depthOf τ))
+
+pub steps-packed-scalar : (b : Base) {R : Type 0} (h : R → Element b) (r : R) (rs : List R) → packSteps (scalar b) h (r ∷ rs) ≡ 1
+unfolding packReached packSize countTrue either
+steps-packed-scalar b h r rs = ap countTrue (same-marks (true ∷ []) refl r rs)
+
+pub steps-packed-list : (τ : ValueType) {R : Type 0} (h : R → List (Val τ)) (r : R) (rs : List R)
+    → packSteps (braces τ) h (r ∷ rs) ≡ 3 + packSteps τ (λ v. v) (concat (map h (r ∷ rs)))
+unfolding packReached packSize countTrue either
+steps-packed-list τ {R} h r rs =
+    let n = packSize (depthOf τ) in
+    let three = true ∷ true ∷ true ∷ [] in
+    let all = anyOf n (map (λ v. packReached τ v) (concat (map h (r ∷ rs)))) in
+    ap countTrue
+    (anyOf-both 3 n (λ r. three) (λ r. anyOf n (map (λ v. packReached τ v) (h r))) (λ r. refl) (r ∷ rs)
+    ∙ ap₂ (λ l k. l ++ k) (same-marks three refl r rs) (anyOf-flat n (λ v. packReached τ v) (λ v. length-packReached τ v) h (r ∷ rs)))
+    ∙ omega (arith, countTrue-append three all)
+
+abbrev pub packsSteps : {Γ : List ValueType} → Listing Γ → List (All Val Γ) → ℕ
+packsSteps us ρs = countTrue (anyOf (packsSize us) (map (λ ρ. packsReached us ρ) ρs))
+
+pub steps-packs-none : {Γ : List ValueType} (ρs : List (All Val Γ)) → packsSteps [] ρs ≡ 0
+unfolding packsReached packsSize anyOf either countTrue
+steps-packs-none [] = refl
+steps-packs-none (ρ ∷ ρs) = steps-packs-none ρs
+
+pub steps-packs : {Γ : List ValueType} (u : (τ : ValueType) × (Γ ∋ τ)) (us : Listing Γ) (ρs : List (All Val Γ))
+    → packsSteps (u ∷ us) ρs ≡ packSteps (u .0) (lookup (u .1)) ρs + packsSteps us ρs
+unfolding packsReached packsSize
+steps-packs u us ρs =
+    let n = packSize (depthOf (u .0)) in
+    let k = packsSize us in
+    ap countTrue (anyOf-both n k (λ ρ. packReached (u .0) (lookup (u .1) ρ)) (λ ρ. packsReached us ρ) (λ ρ. length-packReached (u .0) (lookup (u .1) ρ)) ρs)
+    ∙ countTrue-append (anyOf n (map (λ ρ. packReached (u .0) (lookup (u .1) ρ)) ρs)) (anyOf k (map (λ ρ. packsReached us ρ) ρs))
+
+-- a guard: its own definitions, the packing of its listed variables, and then what the evaluations behind it reach
+pub steps-guard : {Γ : List ValueType} {τ : ValueType} (g : Γ ∋ bool) (us : Listing Γ) (e : Term (listedTypes us) τ) (ρ : All Val Γ) (ρs : List (All Val Γ))
+    → stepsOf (guard g us e) (ρ ∷ ρs) ≡ 2 + (packsSteps us (ρ ∷ ρs) + stepsOf e (passedAll g us (ρ ∷ ρs)))
+unfolding reached size countTrue either
+steps-guard {Γ} g us e ρ ρs =
+    let n = packsSize us in
+    let two = true ∷ true ∷ [] in
+    let body : All Val Γ → List Bool = λ ρ. anyOf (size e) (map (λ ρ′. reached e ρ′) (passed g us ρ)) in
+    let packs = anyOf n (map (λ ρ. packsReached us ρ) (ρ ∷ ρs)) in
+    ap countTrue
+    (anyOf-both 2 (n + size e) (λ ρ. two) (λ ρ. packsReached us ρ ++ body ρ) (λ ρ. refl) (ρ ∷ ρs)
+    ∙ ap₂ (λ l k. l ++ k) (same-marks two refl ρ ρs)
+    (anyOf-both n (size e) (λ ρ. packsReached us ρ) body (λ ρ. length-packsReached us ρ) (ρ ∷ ρs)
+    ∙ ap (λ l. packs ++ l) (anyOf-flat (size e) (λ ρ′. reached e ρ′) (λ ρ′. length-reached e ρ′) (passed g us) (ρ ∷ ρs))))
+    ∙ omega (
+      arith,
+      countTrue-append two (packs ++ marks e (passedAll g us (ρ ∷ ρs))),
+      countTrue-append packs (marks e (passedAll g us (ρ ∷ ρs))),
+    )
 
 -- iota: Const_1 is reached where a number above 0 is among them
 some-above : (a b : ℕ) → (ltb 0 a || ltb 0 b) ≡ ltb 0 (a + b)

@@ -11,6 +11,10 @@ use Rattle.snesl.specs.Transducers.{apply, made, negative, outside}
 use Rattle.snesl.specs.Programs.{Program, done, define, withCtrl, _⨾_}
 use Rattle.snesl.specs.Machine.{State, unfitting, belowZero, outOfRange, Result, went, stopped, onward, push, step, skip, unitsOf, run, boundless}
 
+pub onward-went : (r : Result) → onward r (λ m. went m) ≡ r
+onward-went (went m) = refl
+onward-went (stopped why i) = refl
+
 module _ (fits : ℕ → Bool) where
   pub run-sequence : (p q : Program) (n : ℕ) (m : State) → run fits (p ⨾ q) n m ≡ onward (run fits p n m) (run fits q n)
   unfolding run _⨾_

@@ -1,5 +1,5 @@
 -- What the transducers without arithmetic make of flags that are the segments of some lists: nothing is left over or missing, Usum counts
--- the items, and Distr gives each segment's item to each item of the segment. An empty list is a segment too: a T alone.
+-- the items, Distr gives each segment's item to each item of the segment, and UPack keeps whole segments. An empty list is a segment too: a T alone.
 use Prim.Native.Nat.{ℕ, zero, suc, _+_, _≤_}
 use native.Mathlib.Omega.{arith}
 use mathlib.Core.Path.{_≡_, refl, ap, _∙_}
@@ -9,7 +9,8 @@ use mathlib.Core.Option.{some, none}
 use lib.IntN.{ℤ}
 use lib.ListN.{length, replicate, drop, length-append, length-replicate, length-drop}
 use Rattle.laws.proofs.Lists.{map-const}
-use Rattle.snesl.specs.Transducers.{alone, eachF, eachT, misfit, countF, spread}
+use Rattle.snesl.specs.Evaluation.{oneIf}
+use Rattle.snesl.specs.Transducers.{alone, eachF, eachT, misfit, countF, spread, kept, keptSegments, unitary}
 use Rattle.snesl.specs.Representation.{concat, segments}
 
 -- k F's and a T before further flags
@@ -99,3 +100,47 @@ module _ {R A B : Type 0} (f : R → List A) (g : R → B) where
   spread-segments (r ∷ rs) =
       spread-segment (length (f r)) (segments (map f rs)) (g r) (map g rs)
       ∙ rw (spread-segments rs, map-const (g r) (f r))
+
+-- UPack keeps a segment whole or not at all
+kept-segment : (m : ℕ) (cs bs : List Bool) → keptSegments some (true ∷ cs) (segment m bs) ≡ segment m (keptSegments some cs bs)
+unfolding keptSegments
+kept-segment zero cs bs = refl
+kept-segment (suc m) cs bs = ap (λ l. false ∷ l) (kept-segment m cs bs)
+
+left-segment : (m : ℕ) (cs bs : List Bool) → keptSegments some (false ∷ cs) (segment m bs) ≡ keptSegments some cs bs
+unfolding keptSegments
+left-segment zero cs bs = refl
+left-segment (suc m) cs bs = left-segment m cs bs
+
+-- Each R has a bool (f) and a value (h): what the bools keep, of lists their segments too; and the units that B2u makes of the bools.
+module _ {R A : Type 0} (f : R → Bool) (h : R → A) where
+  pub kept-each : (rs : List R) → kept (map f rs) (map h rs) ≡ concat (map (λ r. oneIf (f r) (h r)) rs)
+  unfolding kept concat
+  kept-each [] = refl
+  kept-each (r ∷ rs) = go (f r) (kept-each rs)
+    where
+      go : (c : Bool) → kept (map f rs) (map h rs) ≡ concat (map (λ r. oneIf (f r) (h r)) rs)
+          → kept (c ∷ map f rs) (h r ∷ map h rs) ≡ oneIf c (h r) ++ concat (map (λ r. oneIf (f r) (h r)) rs)
+      go false e = e
+      go true e = ap (λ l. h r ∷ l) e
+
+  pub unitary-segments : (rs : List R) → unitary (map f rs) ≡ segments (map (λ r. oneIf (f r) (h r)) rs)
+  unfolding unitary segments
+  unitary-segments [] = refl
+  unitary-segments (r ∷ rs) = go (f r) (unitary-segments rs)
+    where
+      go : (c : Bool) → unitary (map f rs) ≡ segments (map (λ r. oneIf (f r) (h r)) rs)
+          → unitary (c ∷ map f rs) ≡ segment (length (oneIf c (h r))) (segments (map (λ r. oneIf (f r) (h r)) rs))
+      go false e = ap (λ l. true ∷ l) e
+      go true e = ap (λ l. false ∷ true ∷ l) e
+
+pub kept-segments : {R A : Type 0} (f : R → Bool) (h : R → List A) (rs : List R)
+    → keptSegments some (map f rs) (segments (map h rs)) ≡ segments (concat (map (λ r. oneIf (f r) (h r)) rs))
+unfolding keptSegments segments concat
+kept-segments f h [] = refl
+kept-segments f h (r ∷ rs) = go (f r) (kept-segments f h rs)
+  where
+    go : (c : Bool) → keptSegments some (map f rs) (segments (map h rs)) ≡ segments (concat (map (λ r. oneIf (f r) (h r)) rs))
+        → keptSegments some (c ∷ map f rs) (segment (length (h r)) (segments (map h rs))) ≡ segments (oneIf c (h r) ++ concat (map (λ r. oneIf (f r) (h r)) rs))
+    go false e = left-segment (length (h r)) (map f rs) (segments (map h rs)) ∙ e
+    go true e = kept-segment (length (h r)) (map f rs) (segments (map h rs)) ∙ ap (segment (length (h r))) e

@@ -6,22 +6,25 @@ use mathlib.Core.List.{List, [], _∷_, _++_, append-assoc, append-nil}
 use mathlib.Core.Option.{some}
 use lib.ListN.{length, length-append, length-map}
 use lib.Seq.{append-snoc}
-use Rattle.laws.proofs.Lists.{getElem?-append-seam, getElem?-append-add}
+use Rattle.laws.proofs.Lists.{getElem?-append-left, getElem?-append-seam, getElem?-append-add}
 use Rattle.snesl.specs.declared.code.Base.{Base}
 use Rattle.snesl.specs.declared.code.Base.the-variants as base
-use Rattle.snesl.specs.declared.code.Transducer.the-variants.{Distr}
-use Rattle.snesl.specs.Values.{ValueType, braces, Element}
-use Rattle.snesl.specs.Terms.{_∋_, here, there, Term, var, bind, const, iota, plus, sum, each, Scalars, anyType, listedTypes, All, _▹_, lookup}
+use Rattle.snesl.specs.declared.code.Transducer.the-variants.{Distr, Pack}
+use Rattle.snesl.specs.declared.code.Operation.{Operation}
+use Rattle.snesl.specs.declared.code.Operation.the-variants.{Plus, LessEqual, Equal}
+use Rattle.snesl.specs.Values.{ValueType, scalar, braces, bool, depthOf, Element, Val, resultOf}
+use Rattle.snesl.specs.Terms.{_∋_, here, there, Term, var, bind, const, iota, operation, negation, sum, each, guard, Listing, Scalars, anyType, listedTypes, All, ∅, _▹_, lookup}
 use Rattle.snesl.specs.Streams.{ints, flags, units, bare, dataOf, dataKind, baseIn, Store, _!_}
-use Rattle.snesl.specs.Trees.{IdTree, outer, root}
+use Rattle.snesl.specs.Trees.{Tree, IdTree, leaf, node, inner, outer, root}
 use Rattle.snesl.specs.Transducers.{empty}
 use Rattle.snesl.specs.Programs.{Program, done, define, withCtrl, _⨾_, count}
 use Rattle.snesl.specs.Machine.{skipped}
-use Rattle.snesl.specs.Translation.{id, size, tree, code, distrs, controlled, within}
+use Rattle.snesl.specs.Translation.{id, packSize, packsSize, size, packTree, packTrees, tree, packCode, packCodes, constantOf, code, distrs, controlled, within}
 use Rattle.snesl.specs.Representation.{Holds, holds-leaf, holds-node, concat, segments}
 use Rattle.snesl.specs.Agreement.{Agrees}
+use Rattle.snesl.proofs.Compiled.Packing.{count-pack, count-packs}
 use Rattle.snesl.proofs.Compiled.Freshness.{count-code}
-use Rattle.snesl.proofs.Correctness.Grown.{holds-grown, held-data, held-flags, agrees-grown, holds-new}
+use Rattle.snesl.proofs.Correctness.Grown.{holds-grown, held-data, held-flags, held-inner, agrees-grown, holds-new, new-stream, old-stream, next-id}
 use Rattle.snesl.proofs.Correctness.Inside.{copied, copies, agrees-inside}
 
 -- a sequence: its second part in the store that the first leaves
@@ -96,6 +99,70 @@ skipped-each y us e δ s σ a =
     ∙ ap (λ l. copies y [] us ++ l)
     (append-nil (skipped ((σ ++ units 0 ∷ []) ++ copies y [] us) b) ∙ ap (λ l. skipped l b) (append-snoc σ (units 0) (copies y [] us))))
 
+-- packing that is skipped: the kind of what is packed stays, whatever the bools' stream is
+empty-packed : (σ : Store) (s t : ℕ) (c : Base) (vs : List (Element c)) → σ ! t ≡ some (dataOf c vs) → empty σ (Pack (id s) (id t)) ≡ dataOf c []
+empty-packed σ s t c vs h = ap (λ o. bare (dataKind (baseIn o))) h ∙ ap (λ k. bare (dataKind k)) (data-base c vs) ∙ bare-data c
+
+pub skipped-pack-size : (τ : ValueType) (b : ℕ) (t : IdTree τ) (s : ℕ) (σ : Store) → length (skipped σ (packCode b t s)) ≡ packSize (depthOf τ)
+skipped-pack-size τ b t s σ = length-skipped σ (packCode b t s) ∙ count-pack b t s
+
+-- a level of lists: its flags, whatever the spread bools are, its control, and its items
+skipped-level : {d : ℕ} (b : ℕ) (t : Tree ℕ d) (l s : ℕ) (σ : Store)
+    → σ ++ skipped σ (packCode b (node t l) s)
+    ≡ ((((σ ++ flags [] ∷ []) ++ empty (σ ++ flags [] ∷ []) (Distr (id l) (id b)) ∷ []) ++ units 0 ∷ [])
+    ++ skipped (((σ ++ flags [] ∷ []) ++ empty (σ ++ flags [] ∷ []) (Distr (id l) (id b)) ∷ []) ++ units 0 ∷ []) (packCode (s + 1) t (s + 3)))
+unfolding skipped packCode
+skipped-level b t l s σ = simp (append-assoc, append-nil)
+
+pub skipped-pack : (τ : ValueType) (b : ℕ) (t : IdTree τ) (s : ℕ) (σ : Store)
+    → length σ ≡ s
+    → Holds σ τ t []
+    → Holds (σ ++ skipped σ (packCode b t s)) τ (packTree t s) []
+unfolding packTree concat segments root outer inner
+skipped-pack (scalar c) b (leaf x) s σ h k =
+    unfold packCode skipped in rw (empty-packed σ b x c [] (held-data k)) (holds-new σ c [] h)
+skipped-pack (braces τ) b (node t l) s σ h k =
+    let one = σ ++ flags [] ∷ [] in
+    let q = empty one (Distr (id l) (id b)) in
+    let two = one ++ q ∷ [] in
+    let three = two ++ units 0 ∷ [] in
+    let next : length three ≡ s + 3 = next-id two (units 0) (next-id one q (next-id σ (flags []) h)) ∙ omega arith in
+    rw (skipped-level b t l s σ)
+    (holds-node (getElem?-append-left three _ s (old-stream two (units 0) s (old-stream one q s (new-stream σ (flags []) h))))
+    (skipped-pack τ (s + 1) t (s + 3) three next (holds-grown (units 0 ∷ []) (holds-grown (q ∷ []) (holds-grown (flags [] ∷ []) (held-inner k))))))
+
+pub no-variables : {σ : Store} (ρs : List (All Val [])) → Agrees σ ∅ ρs
+no-variables {σ} ρs = record { holds = λ x. elim x [ ] }
+
+pub skipped-packs : {Γ : List ValueType} (b : ℕ) (us : Listing Γ) (δ : All IdTree Γ) (s : ℕ) (σ : Store)
+    → length σ ≡ s
+    → Agrees σ δ []
+    → Agrees (σ ++ skipped σ (packCodes b us δ s)) (packTrees us δ s) []
+unfolding packCodes packTrees
+skipped-packs b [] δ s σ h a = no-variables []
+skipped-packs b (u ∷ us) δ s σ h a =
+    let t = lookup (u .1) δ in
+    let l = skipped σ (packCode b t s) in
+    let i = s + packSize (depthOf (u .0)) in
+    let r = skipped (σ ++ l) (packCodes b us δ i) in
+    rw (skipped-sequence σ (packCode b t s) (packCodes b us δ i), ← append-assoc σ l r)
+    (agrees-empty (holds-grown r (skipped-pack (u .0) b t s σ h (a .holds (u .1))))
+    (skipped-packs b us δ i (σ ++ l) (omega (arith, length-append σ l, skipped-pack-size (u .0) b t s σ)) (agrees-grown l a)))
+
+skipped-guard : {Γ : List ValueType} {τ : ValueType} (g : Γ ∋ bool) (us : Listing Γ) (e : Term (listedTypes us) τ) (δ : All IdTree Γ) (s : ℕ) (σ : Store)
+    → let b = root (lookup g δ) in
+    let one = (σ ++ flags [] ∷ []) ++ units 0 ∷ [] in
+    let two = one ++ skipped one (packCodes b us δ (s + 2)) in
+    σ ++ skipped σ (code (guard g us e) δ s) ≡ two ++ skipped two (code e (packTrees us δ (s + 2)) (s + (2 + packsSize us)))
+unfolding skipped code
+skipped-guard g us e δ s σ =
+    let one = (σ ++ flags [] ∷ []) ++ units 0 ∷ [] in
+    rw (skipped-sequence one (packCodes (root (lookup g δ)) us δ (s + 2)) _) (simp (append-assoc, append-nil))
+
+empty-constant : (σ : Store) (b : Base) (e : Element b) → empty σ (constantOf b e) ≡ dataOf b []
+empty-constant σ base.Int e = refl
+empty-constant σ base.Bool e = refl
+
 pub skipping : {Γ : List ValueType} {τ : ValueType} (e : Term Γ τ) (δ : All IdTree Γ) (s : ℕ) (σ : Store)
     → length σ ≡ s
     → Agrees σ δ []
@@ -110,12 +177,13 @@ skipping (bind e₁ e₂) δ s σ h a =
     (skipping e₂ (tree e₁ δ s ▹ δ) (s + size e₁) (σ ++ l)
     (omega (arith, length-append σ l, skipped-size σ e₁ δ s))
     (agrees-empty (skipping e₁ δ s σ h a) (agrees-grown l a))))
-skipping (const n) δ s σ h a = holds-new σ base.Int [] h
+skipping (const b e) δ s σ h a = rw (empty-constant σ b e) (holds-new σ b [] h)
 skipping (iota x) δ s σ h a =
     let l = flags [] ∷ units 0 ∷ ints [] ∷ ints [] ∷ [] in
     holds-node (subst (λ s. (σ ++ l) ! s ≡ some (flags [])) h (getElem?-append-seam σ (flags []) (units 0 ∷ ints [] ∷ ints [] ∷ [])))
     (holds-leaf (subst (λ s. (σ ++ l) ! (s + 3) ≡ some (ints [])) h (getElem?-append-add σ l 3)))
-skipping (plus x y) δ s σ h a = holds-new σ base.Int [] h
+skipping (operation o x y) δ s σ h a = rw (bare-data (resultOf o)) (holds-new σ (resultOf o) [] h)
+skipping (negation x) δ s σ h a = holds-new σ base.Bool [] h
 skipping (sum x) δ s σ h a = holds-new σ base.Int [] h
 skipping (each y us e) δ s σ h a =
     let l = units 0 ∷ copies y [] us in
@@ -126,3 +194,14 @@ skipping (each y us e) δ s σ h a =
     (skipping e (within y us δ s) (s + (1 + length us)) (σ ++ l)
     (omega (arith, length-append σ l, length-map us (copied y [])))
     (agrees-inside y [] us h a))))
+skipping (guard g us e) δ s σ h a =
+    let b = root (lookup g δ) in
+    let one = (σ ++ flags [] ∷ []) ++ units 0 ∷ [] in
+    let l = skipped one (packCodes b us δ (s + 2)) in
+    let first : length one ≡ s + 2 = next-id (σ ++ flags [] ∷ []) (units 0) (next-id σ (flags []) h) ∙ omega arith in
+    let i = s + (2 + packsSize us) in
+    let δ′ = packTrees us δ (s + 2) in
+    let next : length (one ++ l) ≡ i = omega (arith, length-append one l, length-skipped one (packCodes b us δ (s + 2)), count-packs b us δ (s + 2)) in
+    rw (skipped-guard g us e δ s σ)
+    (holds-node (getElem?-append-left (one ++ l) _ s (getElem?-append-left one l s (old-stream (σ ++ flags [] ∷ []) (units 0) s (new-stream σ (flags []) h))))
+    (skipping e δ′ i (one ++ l) next (skipped-packs b us δ (s + 2) one first (agrees-grown (units 0 ∷ []) (agrees-grown (flags [] ∷ []) a)))))
