@@ -1,19 +1,19 @@
 -- What is proved of running a term's code: the values, the work, the steps.
 use Prim.Native.Nat.{ℕ, _+_, _*_, _≤_, _<_}
 use mathlib.Core.Path.{_≡_}
-use mathlib.Core.Bool.{true}
-use mathlib.Core.List.{List, [], _∷_, _++_}
+use mathlib.Core.Bool.{Bool, true}
+use mathlib.Core.List.{List, [], _∷_, _++_, map}
 use mathlib.Core.Option.{some, none}
 use lib.IntN.{pos}
 use lib.ListN.{length}
-use Rattle.snesl.specs.Values.{ValueType, Val, inRange}
-use Rattle.snesl.specs.Terms.{Term, All}
-use Rattle.snesl.specs.Evaluation.{eval, allOf, counting, upTo}
-use Rattle.snesl.specs.Streams.{Store}
+use Rattle.snesl.specs.Values.{ValueType, braces, int, bool, Val, inRange}
+use Rattle.snesl.specs.Terms.{_∋_, here, Term, iota, guard, Listing, listedTypes, All, ∅, _▹_, lookup, listed}
+use Rattle.snesl.specs.Evaluation.{oneIf, eval, allOf, counting, upTo}
+use Rattle.snesl.specs.Streams.{bools, Store, _!_}
 use Rattle.snesl.specs.Trees.{IdTree}
 use Rattle.snesl.specs.Programs.{count}
-use Rattle.snesl.specs.Machine.{State, Stop, went, stopped, skipped, run, boundless}
-use Rattle.snesl.specs.Translation.{size, tree, code}
+use Rattle.snesl.specs.Machine.{State, Stop, went, stopped, skipped, run, boundless, sumOf}
+use Rattle.snesl.specs.Translation.{size, tree, packCode, code}
 use Rattle.snesl.specs.Charges.{charge, plainCharge, reached, stepsOf}
 use Rattle.snesl.specs.Representation.{Holds}
 use Rattle.snesl.specs.Agreement.{Agrees, ByRule, ComesTo, RanOnce, ComesToOnce}
@@ -22,9 +22,10 @@ use Rattle.snesl.proofs.Compiled.Freshness.{count-code}
 use Rattle.snesl.proofs.Correctness.Exact.{iota-in-range}
 use Rattle.snesl.proofs.Correctness.Reached.{length-reached, steps-none}
 use Rattle.snesl.proofs.Correctness.Skipping.{skipping, skipped-size}
+use Rattle.snesl.proofs.Correctness.Packing.{Packed, packing}
 use Rattle.snesl.proofs.Correctness.Correct.{correct}
 use Rattle.snesl.proofs.Correctness.OneEnvironment.{correct-once, value-runs, no-value-halts, run-has-value, halt-has-no-value}
-use Rattle.snesl.proofs.Correctness.Costs.{charge-bounded}
+use Rattle.snesl.proofs.Correctness.Costs.{charge-bounded, guard-bounded, six-is-too-small, fiveEmpty, five-is-too-small}
 use Rattle.snesl.proofs.Correctness.EmptyInputs.{proper}
 use Rattle.snesl.proofs.Correctness.Taken.{takes-its-environment}
 
@@ -80,9 +81,36 @@ skipped-body-has-its-size = skipped-size
 pub skipped-body-counts-nothing : {Γ : List ValueType} {τ : ValueType} (e : Term Γ τ) → stepsOf e [] ≡ 0
 skipped-body-counts-nothing = steps-none
 
+-- A value packed by a guard's bools (a scalar by Pack, a sequence level by level): from a store whose tree holds the values and whose stream b holds their bools,
+-- the code adds the packing's streams, and the packed tree holds the values whose bool is T, in order; work has grown by what packing each is charged, and steps by
+-- the definitions that packing one of them reaches.
+pub packing-keeps-those-chosen : (τ : ValueType) {R : Type 0} (f : R → Bool) (h : R → Val τ) (r : R) (rs : List R) (b : ℕ) (t : IdTree τ) (s : ℕ) (m : State)
+    → length (m .store) ≡ s
+    → m .store ! b ≡ some (bools (map f (r ∷ rs)))
+    → Holds (m .store) τ t (map h (r ∷ rs))
+    → (m′ : State) × Packed τ f h (r ∷ rs) t s (packCode b t s) (length (r ∷ rs)) m m′
+packing-keeps-those-chosen = packing
+
 -- The charge is at most seven times the plain charge.
 pub charge-at-most-sevenfold : {Γ : List ValueType} {τ : ValueType} (e : Term Γ τ) (ρ : All Val Γ) → charge e ρ ≤ 7 * plainCharge e ρ
 charge-at-most-sevenfold = charge-bounded
+
+-- Seven is the smallest whole factor: an evaluation that is charged more than six times its plain charge (iota of 3: 25 and 4).
+pub sixfold-is-too-little : 6 * plainCharge (iota here) (_▹_ {τ = int} (pos 3) ∅) < charge (iota here) (_▹_ {τ = int} (pos 3) ∅)
+sixfold-is-too-little = six-is-too-small
+
+-- A guard by itself, beside its body, is charged at most six times its plain charge;
+pub guard-at-most-sixfold : {Γ : List ValueType} {τ : ValueType} (g : Γ ∋ bool) (us : Listing Γ) (e : Term (listedTypes us) τ) (ρ : All Val Γ)
+    → (own plain : ℕ)
+    × (charge (guard g us e) ρ ≡ own + sumOf (map (charge e) (oneIf (lookup g ρ) (listed us ρ))))
+    × (plainCharge (guard g us e) ρ ≡ plain + sumOf (map (plainCharge e) (oneIf (lookup g ρ) (listed us ρ))))
+    × (own ≤ 6 * plain)
+guard-at-most-sixfold = guard-bounded
+
+-- and six is the smallest such factor: a true guard that lists five empty sequences, with a body that is charged nothing (36 and 7).
+pub fivefold-is-too-little-for-a-guard : 5 * plainCharge fiveEmpty (_▹_ {τ = bool} true (_▹_ {τ = braces int} [] ∅))
+    < charge fiveEmpty (_▹_ {τ = bool} true (_▹_ {τ = braces int} [] ∅))
+fivefold-is-too-little-for-a-guard = five-is-too-small
 
 -- Steps have one mark for each definition of the code.
 pub marks-for-each-definition : {Γ : List ValueType} {τ : ValueType} (e : Term Γ τ) (ρ : All Val Γ) → length (reached e ρ) ≡ size e
