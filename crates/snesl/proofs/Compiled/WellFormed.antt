@@ -13,13 +13,13 @@ use Rattle.snesl.specs.Values.{ValueType, braces, bool, depthOf}
 use Rattle.snesl.specs.Terms.{_∋_, Term, var, bind, const, iota, operation, negation, sum, each, guard, Listing, Scalars, listedTypes, All, _▹_, lookup}
 use Rattle.snesl.specs.Trees.{Tree, IdTree, leaf, node, inner, root, order}
 use Rattle.snesl.specs.Programs.{Program, done, define, withCtrl, _⨾_, count, without, dv, fv, Within, Apart, WellFormed, well-done, well-define, well-withCtrl}
-use Rattle.snesl.specs.declared.code.Transducer.the-variants.{B2u, UPack, Distr, Usum}
+use Rattle.snesl.specs.declared.code.Transducer.the-variants.{B2u}
 use Rattle.snesl.specs.Translation.{id, packSize, packsSize, size, numbered, within, packTree, packTrees, tree, distrs, controlled, packCode, packCodes, code}
 use Rattle.snesl.specs.Ids.{idsOf, Below}
 use Rattle.snesl.proofs.Compiled.Members.{_∈_, _∉_, known, of-without, to-without, of-among, of-ascending}
 use Rattle.snesl.proofs.Compiled.Packing.{count-pack, defined-pack, free-pack}
 use Rattle.snesl.proofs.Compiled.Sequences.{dv-seq-left, dv-from-right, of-dv-from, of-dv-seq, of-fv-define, of-fv-withCtrl}
-use Rattle.snesl.proofs.Compiled.Freshness.{takes-free, free-taken, free-below, count-lead, count-ones, dv-lead, fv-lead, fv-ones, dv-ones, dv-alone, ids-root, ids-outer, ids-lookup, order-inner, order-root, of-ids, ids-numbered, dv-copies, copies, front, count-front, of-dv-front, fv-front, code-each, code-iota, lead, ones, totals, of-dv-controlled, count-code, result-ids, defined-next, flagging, count-flagging, fv-flagging, dv-flagging, defined-packs, free-packs, gate, count-gate, of-dv-gate, fv-gate, gate-packed, code-guard, no-operands}
+use Rattle.snesl.proofs.Compiled.Freshness.{takes-free, free-taken, free-below, count-lead, count-ones, dv-lead, fv-lead, fv-ones, dv-ones, dv-alone, ids-root, ids-outer, ids-lookup, order-inner, order-root, of-ids, ids-numbered, dv-copies, copies, front, count-front, of-dv-front, fv-front, code-each, code-iota, lead, ones, totals, of-dv-controlled, count-code, result-ids, defined-next, flagging, count-flagging, fv-flagging, dv-flagging, defined-packs, gate, count-gate, of-dv-gate, fv-gate, gate-packed, code-guard, no-operands}
 
 -- Lemma 1.2: if p is well-formed, then fv(p) ∩ dv(p) = ∅
 pub freshness : {s : ℕ} {p : Program} → WellFormed s p → Apart (fv s p) (dv s p)

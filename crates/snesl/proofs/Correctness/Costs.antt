@@ -1,11 +1,10 @@
--- The charge of an evaluation is at most seven times its plain charge, and seven is the smallest factor; a guard's own, beside its body, is at most six times.
+-- The charge of an evaluation is at most seven times its plain charge; a guard's own, beside its body, at most six times, and six is the smallest such factor.
 use Prim.Native.Nat.{ℕ, _+_, _*_, _≤_, _<_}
 use native.Mathlib.Omega.{arith}
 use mathlib.Core.Bool.{Bool, true, false}
 use mathlib.Core.List.{List, [], _∷_, map}
 use mathlib.Core.Option.{Option, some, none}
 use mathlib.Core.Path.{_≡_, refl}
-use lib.IntN.{pos}
 use lib.ListN.{length}
 use Rattle.snesl.specs.Values.{ValueType, scalar, braces, int, bool, Val}
 use Rattle.snesl.specs.Terms.{_∋_, here, there, Term, var, bind, const, iota, operation, negation, sum, each, guard, Listing, anyType, listedTypes, All, ∅, _▹_, lookup, listed}
@@ -95,12 +94,7 @@ charge-bounded (guard g us e) ρ =
       sums-bounded (λ ρ′. charge e ρ′) (λ ρ′. plainCharge e ρ′) (λ ρ′. charge-bounded e ρ′) (oneIf (lookup g ρ) (listed us ρ)),
     )
 
--- Six would be too small: iota of 3 is charged 25, its plain charge is 4.
-pub six-is-too-small : 6 * plainCharge (iota here) (_▹_ {τ = int} (pos 3) ∅) < charge (iota here) (_▹_ {τ = int} (pos 3) ∅)
-unfolding charge plainCharge lookup
-six-is-too-small = omega arith
-
--- For a guard alone five would be: a true one that lists five empty sequences, whose body is a variable, is charged 36, its plain charge is 7.
+-- For a guard alone five would be too small: a true one that lists five empty sequences, whose body is a variable, is charged 36, its plain charge is 7.
 abbrev pub fiveEmpty : Term (bool ∷ braces int ∷ []) (braces (braces int))
 fiveEmpty =
     let u : (τ : ValueType) × ((bool ∷ braces int ∷ []) ∋ τ) = (braces int, there here) in

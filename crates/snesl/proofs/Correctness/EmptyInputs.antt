@@ -7,9 +7,9 @@ use mathlib.Core.Bool.{Bool}
 use mathlib.Core.List.{List, [], _∷_, map, zipWith, List·Memᴰ, List·Memᴰ·not-nil, List·Memᴰ·cases-cons, List·Memᴰ·append-cases, List·Memᴰ·eq-of-singleton}
 use mathlib.Core.Option.{Option, some}
 use mathlib.Core.Logic.{⊎-elim}
-use lib.ListN.{length, length-append, length-map}
+use lib.ListN.{length, length-map}
 use Rattle.snesl.specs.declared.code.Transducer.{Transducer}
-use Rattle.snesl.specs.declared.code.Transducer.the-variants.{B2u, Distr, UPack, Usum}
+use Rattle.snesl.specs.declared.code.Transducer.the-variants.{Distr}
 use Rattle.snesl.specs.Values.{ValueType, scalar, braces, int, bool, depthOf, Val}
 use Rattle.snesl.specs.Terms.{_∋_, Term, var, bind, const, iota, operation, negation, sum, each, guard, Listing, Scalars, anyType, listedTypes, All, _▹_, lookup}
 use Rattle.snesl.specs.Evaluation.{eval, allOf}
@@ -18,7 +18,7 @@ use Rattle.snesl.specs.Trees.{IdTree, leaf, node, order, inner, outer, r
 use Rattle.snesl.specs.Transducers.{apply, made}
 use Rattle.snesl.specs.Programs.{Program, done, define, withCtrl, _⨾_, fv, ascending, without}
 use Rattle.snesl.specs.Machine.{State, Result, went, onward, push, step, run, boundless}
-use Rattle.snesl.specs.Translation.{packSize, packsSize, size, packTree, packTrees, tree, packCode, packCodes, code, id, distrs, controlled, within}
+use Rattle.snesl.specs.Translation.{packSize, packsSize, size, packTrees, tree, packCode, packCodes, code, id, distrs, controlled, within}
 use Rattle.snesl.specs.Agreement.{Agrees, Ran, ComesTo, ran, halted}
 use Rattle.snesl.specs.Representation.{Holds, holds-leaf, holds-node, concat, segments}
 use Rattle.snesl.specs.SideCondition.{Empty, Proper, proper-done, proper-define, proper-withCtrl}
@@ -32,7 +32,7 @@ use Rattle.snesl.proofs.Correctness.Applied.{apply-usum, apply-distr, l
 use Rattle.snesl.proofs.Correctness.Inside.{copied}
 use Rattle.snesl.proofs.Correctness.Comprehension.{copying, preparing, counted, body-start, body-control, body-agrees}
 use Rattle.snesl.proofs.Correctness.Packing as Packing
-use Rattle.snesl.proofs.Correctness.Packing.{opened, packing, packing-all, AllPacked}
+use Rattle.snesl.proofs.Correctness.Packing.{opened, packing, packing-all}
 use Rattle.snesl.proofs.Correctness.Guard as Guard
 use Rattle.snesl.proofs.Correctness.Correct.{correct, let-start, let-agrees}
 use Rattle.snesl.proofs.Correctness.RunParts.{run-step, step-made, run-sequence}
@@ -185,15 +185,13 @@ unfolding packCodes
 proper-packs g [] δ s ρ ρs m first a = proper-done
 proper-packs g (u ∷ us) δ s ρ ρs m first a =
     let b = root (lookup g δ) in
-    let t = lookup (u .1) δ in
     let n = packSize (depthOf (u .0)) in
     let bs : m .store ! b ≡ some (bools (map (lookup g) (ρ ∷ ρs))) = held-data (a .holds g) in
-    let (one, w) = packing (u .0) (lookup g) (lookup (u .1)) ρ ρs b t s m first bs (a .holds (u .1)) in
-    let next : length (one .store) ≡ s + n = ap length (w .store) ∙ omega (arith, length-append (m .store) (w .added), w .adds) in
-    proper-sequence (proper-pack (u .0) (lookup g) (lookup (u .1)) ρ ρs b t s m first bs (a .holds (u .1)))
+    let (one, w) = packing (u .0) (lookup g) (lookup (u .1)) ρ ρs b (lookup (u .1) δ) s m first bs (a .holds (u .1)) in
+    proper-sequence (proper-pack (u .0) (lookup g) (lookup (u .1)) ρ ρs b (lookup (u .1) δ) s m first bs (a .holds (u .1)))
     (λ m′ e.
     subst (λ m. Proper (packCodes b us δ (s + n)) (length (ρ ∷ ρs)) m) (same-end (w .runs) e)
-    (proper-packs g us δ (s + n) ρ ρs one next (rw (w .store) (agrees-grown (w .added) a))))
+    (proper-packs g us δ (s + n) ρ ρs one (Packing.packed-next w first) (rw (w .store) (agrees-grown (w .added) a))))
 
 module _ {Γ : List ValueType} {τ : ValueType} (its : TakesItsEnvironment) (g : Γ ∋ bool) (us : Listing Γ) (e : Term (listedTypes us) τ) where
   always-guard : Always e → Always (guard g us e)

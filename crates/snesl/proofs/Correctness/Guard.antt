@@ -9,15 +9,14 @@ use mathlib.Core.Option.{Option, some}
 use lib.ListN.{length, length-append, length-map}
 use Rattle.laws.proofs.Lists.{getElem?-append-left}
 use Rattle.snesl.specs.declared.code.Transducer.the-variants.{B2u, Usum}
-use Rattle.snesl.specs.Values.{ValueType, braces, bool, Val}
+use Rattle.snesl.specs.Values.{ValueType, bool, Val}
 use Rattle.snesl.specs.Terms.{_∋_, Term, guard, Listing, listedTypes, All, lookup, listed}
-use Rattle.snesl.specs.Streams.{Store, flags, bools, units, _!_}
+use Rattle.snesl.specs.Streams.{flags, units, _!_}
 use Rattle.snesl.specs.Trees.{IdTree, root}
 use Rattle.snesl.specs.Transducers.{apply, made}
-use Rattle.snesl.specs.Programs.{Program, done, define, _⨾_}
-use Rattle.snesl.specs.Machine.{State, Result, onward, run, boundless, push, sumOf}
+use Rattle.snesl.specs.Programs.{define, _⨾_}
+use Rattle.snesl.specs.Machine.{State, Result, onward, run, boundless, push}
 use Rattle.snesl.specs.Evaluation.{eval, allOf}
-use Rattle.snesl.specs.Charges.{unitFor, packCharges}
 use Rattle.snesl.specs.Translation.{packsSize, packTrees, size, tree, code, id, packCodes, controlled}
 use Rattle.snesl.specs.Representation.{holds-node, segments}
 use Rattle.snesl.specs.Agreement.{Agrees, ComesTo, ran, halted}
@@ -25,7 +24,7 @@ use Rattle.snesl.proofs.Correctness.AllOf.{allOf-map, Flattened, flat, 
 use Rattle.snesl.proofs.Correctness.Segments.{length-segments}
 use Rattle.snesl.proofs.Correctness.Environments.{passed, passedAll}
 use Rattle.snesl.proofs.Correctness.Charged.{charges-guard}
-use Rattle.snesl.proofs.Correctness.Reached.{packsSteps, steps-guard}
+use Rattle.snesl.proofs.Correctness.Reached.{steps-guard}
 use Rattle.snesl.proofs.Correctness.RunParts.{run-made, run-sequence}
 use Rattle.snesl.proofs.Correctness.Grown.{held-data, agrees-grown, new-stream, old-stream, next-id}
 use Rattle.snesl.proofs.Correctness.Applied.{apply-b2u, apply-usum, work-one}

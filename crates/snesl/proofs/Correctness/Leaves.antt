@@ -20,7 +20,7 @@ use Rattle.snesl.specs.Streams.{ints, bools, flags, dataOf, _!_}
 use Rattle.snesl.specs.Trees.{IdTree, leaf, inner, outer, root}
 use Rattle.snesl.specs.Transducers.{apply, made, outside, operands, results, exact, unless, firstOutside, pairwise, pluses, sums}
 use Rattle.snesl.specs.Programs.{define, done}
-use Rattle.snesl.specs.Machine.{State, went, fetch, workOf, run, boundless, sumOf}
+use Rattle.snesl.specs.Machine.{State, went, fetch, workOf, run, boundless}
 use Rattle.snesl.specs.Evaluation.{eval, allOf, within}
 use Rattle.snesl.specs.Translation.{size, tree, constantOf, code, id}
 use Rattle.snesl.specs.Charges.{stepsOf}

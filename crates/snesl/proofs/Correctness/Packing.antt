@@ -1,32 +1,30 @@
 -- Values packed by bools, each value with its own: the packed tree holds those whose bool is T, in order, at the sum of what packing each is charged. By
 -- recursion over the type, for any list of values: at an inner level the bools are spread over the items, so the items are values with bools again, and
 -- where there is no item at all the rest is skipped.
-use Prim.Native.Nat.{ℕ, suc, _+_, _*_}
+use Prim.Native.Nat.{ℕ, _+_, _*_}
 use native.Mathlib.Omega.{arith}
 use mathlib.Core.Bool.{Bool, true, false}
 use mathlib.Core.Path.{_≡_, refl, ap, _∙_, sym, subst}
 use mathlib.Core.List.{List, [], _∷_, _++_, map, map-map, append-assoc, append-nil}
 use mathlib.Core.Option.{some}
 use lib.ListN.{length, length-append, length-map}
-use lib.Seq.{append-snoc}
 use Rattle.laws.proofs.Lists.{getElem?-append-left}
-use Rattle.snesl.specs.declared.code.Base.{Base}
 use Rattle.snesl.specs.declared.code.Base.the-variants as base
 use Rattle.snesl.specs.declared.code.Transducer.the-variants.{Usum, Distr, Pack, UPack}
-use Rattle.snesl.specs.Values.{ValueType, scalar, braces, bool, depthOf, Element, Val}
+use Rattle.snesl.specs.Values.{ValueType, scalar, braces, bool, depthOf, Val}
 use Rattle.snesl.specs.Terms.{_∋_, here, there, Listing, listedTypes, All, _▹_, lookup, listed}
-use Rattle.snesl.specs.Streams.{Stream, flags, bools, units, dataOf, Store, _!_}
+use Rattle.snesl.specs.Streams.{flags, bools, units, dataOf, Store, _!_}
 use Rattle.snesl.specs.Trees.{IdTree, leaf, node, inner, outer, root}
 use Rattle.snesl.specs.Transducers.{apply, made}
-use Rattle.snesl.specs.Programs.{Program, done, define, withCtrl, _⨾_}
+use Rattle.snesl.specs.Programs.{Program, done, define, withCtrl}
 use Rattle.snesl.specs.Machine.{State, went, onward, run, boundless, push, skip, skipped, sumOf}
 use Rattle.snesl.specs.Evaluation.{oneIf}
 use Rattle.snesl.specs.Charges.{unitFor, packCharges, anyOf, packReached, countTrue}
-use Rattle.snesl.specs.Translation.{id, packSize, packsSize, packTree, packTrees, packCode, packCodes, controlled}
-use Rattle.snesl.specs.Representation.{Holds, holds-leaf, holds-node, concat, segments}
+use Rattle.snesl.specs.Translation.{id, packSize, packsSize, packTree, packTrees, packCode, packCodes}
+use Rattle.snesl.specs.Representation.{Holds, holds-node, concat, segments}
 use Rattle.snesl.specs.Agreement.{Agrees}
 use Rattle.snesl.proofs.Correctness.Segments.{length-segments}
-use Rattle.snesl.proofs.Correctness.Environments.{concat-map, map-same, map-one, those, passedAll, value-passed}
+use Rattle.snesl.proofs.Correctness.Environments.{concat-map, map-same, those, passedAll, value-passed}
 use Rattle.snesl.proofs.Correctness.Charged.{packWork, tagged, paired, chosen, item, work-packed-scalar, work-packed-list, work-packs, work-packs-none}
 use Rattle.snesl.proofs.Correctness.Reached.{packSteps, steps-packed-none, steps-packed-scalar, steps-packed-list, packsSteps, steps-packs-none, steps-packs}
 use Rattle.snesl.proofs.Correctness.RunParts.{onward-went, run-made, run-skipped, run-body, run-sequence}
@@ -297,6 +295,41 @@ agrees-passed g u us ρs σ t δ k a = record { holds = go }
     go here = rw (value-passed g (u ∷ us) here ρs) k
     go (there x) = rw (value-passed g (u ∷ us) (there x) ρs) (rw (value-passed g us x ρs) at (a .holds x))
 
+pub packed-next : {τ : ValueType} {R : Type 0} {f : R → Bool} {h : R → Val τ} {rs : List R} {t : IdTree τ} {s : ℕ} {p : Program} {n : ℕ} {m m′ : State}
+    → Packed τ f h rs t s p n m m′
+    → length (m .store) ≡ s
+    → length (m′ .store) ≡ s + packSize (depthOf τ)
+packed-next {m = m} w first = ap length (w .store) ∙ omega (arith, length-append (m .store) (w .added), w .adds)
+
+-- the first variable packed, and then the others
+module _ {Γ : List ValueType} (g : Γ ∋ bool) (u : (τ : ValueType) × (Γ ∋ τ)) (us : Listing Γ) (δ : All IdTree Γ) (s : ℕ) (ρs : List (All Val Γ)) (m one m′ : State) where
+  abbrev bs : ℕ
+  bs = root (lookup g δ)
+
+  abbrev rest : Program
+  rest = packCodes bs us δ (s + packSize (depthOf (u .0)))
+
+  joined : Packed (u .0) (lookup g) (lookup (u .1)) ρs (lookup (u .1) δ) s (packCode bs (lookup (u .1) δ) s) (length ρs) m one
+      → AllPacked g us δ (s + packSize (depthOf (u .0))) ρs one m′
+      → AllPacked g (u ∷ us) δ s ρs m m′
+  unfolding packCodes packTrees packsSize
+  joined w z =
+      record {
+        runs =
+            run-sequence boundless (packCode bs (lookup (u .1) δ) s) rest (length ρs) m
+            ∙ ap (λ r. onward r (run boundless rest (length ρs))) (w .runs)
+            ∙ z .runs;
+        added = w .added ++ z .added;
+        store = z .store ∙ ap (λ σ. σ ++ z .added) (w .store) ∙ append-assoc (m .store) (w .added) (z .added);
+        adds = omega (arith, length-append (w .added) (z .added), w .adds, z .adds);
+        agrees =
+            agrees-passed g u us ρs (m′ .store) (packTree (lookup (u .1) δ) s) (packTrees us δ (s + packSize (depthOf (u .0))))
+            (rw (z .store) (holds-grown (z .added) (w .results)))
+            (z .agrees);
+        work = omega (arith, w .work, z .work, work-packs g u us ρs);
+        steps = omega (arith, w .steps, z .steps, steps-packs u us ρs);
+      }
+
 pub packing-all : {Γ : List ValueType} (g : Γ ∋ bool) (us : Listing Γ) (δ : All IdTree Γ) (s : ℕ) (ρ : All Val Γ) (ρs : List (All Val Γ)) (m : State)
     → length (m .store) ≡ s
     → Agrees (m .store) δ (ρ ∷ ρs)
@@ -315,23 +348,8 @@ packing-all g [] δ s ρ ρs m first a = (
   },
 )
 packing-all g (u ∷ us) δ s ρ ρs m first a =
-    let b = root (lookup g δ) in
-    let t = lookup (u .1) δ in
     let n = packSize (depthOf (u .0)) in
-    let (one, w) = packing (u .0) (lookup g) (lookup (u .1)) ρ ρs b t s m first (held-data (a .holds g)) (a .holds (u .1)) in
-    let next : length (one .store) ≡ s + n = ap length (w .store) ∙ omega (arith, length-append (m .store) (w .added), w .adds) in
-    let (m′, z) = packing-all g us δ (s + n) ρ ρs one next (rw (w .store) (agrees-grown (w .added) a)) in (
-      m′,
-      record {
-        runs =
-            run-sequence boundless (packCode b t s) (packCodes b us δ (s + n)) (length (ρ ∷ ρs)) m
-            ∙ ap (λ r. onward r (run boundless (packCodes b us δ (s + n)) (length (ρ ∷ ρs)))) (w .runs)
-            ∙ z .runs;
-        added = w .added ++ z .added;
-        store = z .store ∙ ap (λ σ. σ ++ z .added) (w .store) ∙ append-assoc (m .store) (w .added) (z .added);
-        adds = omega (arith, length-append (w .added) (z .added), w .adds, z .adds);
-        agrees = agrees-passed g u us (ρ ∷ ρs) (m′ .store) (packTree t s) (packTrees us δ (s + n)) (rw (z .store) (holds-grown (z .added) (w .results))) (z .agrees);
-        work = omega (arith, w .work, z .work, work-packs g u us (ρ ∷ ρs));
-        steps = omega (arith, w .steps, z .steps, steps-packs u us (ρ ∷ ρs));
-      },
-    )
+    let (one, w) =
+    packing (u .0) (lookup g) (lookup (u .1)) ρ ρs (root (lookup g δ)) (lookup (u .1) δ) s m first (held-data (a .holds g)) (a .holds (u .1)) in
+    let (m′, z) = packing-all g us δ (s + n) ρ ρs one (packed-next w first) (rw (w .store) (agrees-grown (w .added) a)) in
+    (m′, joined g u us δ s (ρ ∷ ρs) m one m′ w z)

@@ -10,8 +10,6 @@ use Rattle.laws.proofs.Lists.{getElem?-append-left, getElem?-append-seam, getEl
 use Rattle.snesl.specs.declared.code.Base.{Base}
 use Rattle.snesl.specs.declared.code.Base.the-variants as base
 use Rattle.snesl.specs.declared.code.Transducer.the-variants.{Distr, Pack}
-use Rattle.snesl.specs.declared.code.Operation.{Operation}
-use Rattle.snesl.specs.declared.code.Operation.the-variants.{Plus, LessEqual, Equal}
 use Rattle.snesl.specs.Values.{ValueType, scalar, braces, bool, depthOf, Element, Val, resultOf}
 use Rattle.snesl.specs.Terms.{_∋_, here, there, Term, var, bind, const, iota, operation, negation, sum, each, guard, Listing, Scalars, anyType, listedTypes, All, ∅, _▹_, lookup}
 use Rattle.snesl.specs.Streams.{ints, flags, units, bare, dataOf, dataKind, baseIn, Store, _!_}
@@ -149,6 +147,7 @@ skipped-packs b (u ∷ us) δ s σ h a =
     (agrees-empty (holds-grown r (skipped-pack (u .0) b t s σ h (a .holds (u .1))))
     (skipped-packs b us δ i (σ ++ l) (omega (arith, length-append σ l, skipped-pack-size (u .0) b t s σ)) (agrees-grown l a)))
 
+-- a guard: its flags, its control, the packing, and then its body
 skipped-guard : {Γ : List ValueType} {τ : ValueType} (g : Γ ∋ bool) (us : Listing Γ) (e : Term (listedTypes us) τ) (δ : All IdTree Γ) (s : ℕ) (σ : Store)
     → let b = root (lookup g δ) in
     let one = (σ ++ flags [] ∷ []) ++ units 0 ∷ [] in
@@ -156,8 +155,10 @@ skipped-guard : {Γ : List ValueType} {τ : ValueType} (g : Γ ∋ bool) (us : L
     σ ++ skipped σ (code (guard g us e) δ s) ≡ two ++ skipped two (code e (packTrees us δ (s + 2)) (s + (2 + packsSize us)))
 unfolding skipped code
 skipped-guard g us e δ s σ =
-    let one = (σ ++ flags [] ∷ []) ++ units 0 ∷ [] in
-    rw (skipped-sequence one (packCodes (root (lookup g δ)) us δ (s + 2)) _) (simp (append-assoc, append-nil))
+    let a = s + (2 + packsSize us) in
+    let δ′ = packTrees us δ (s + 2) in
+    rw (skipped-sequence ((σ ++ flags [] ∷ []) ++ units 0 ∷ []) (packCodes (root (lookup g δ)) us δ (s + 2)) (controlled (s + 1) a (code e δ′ a) (tree e δ′ a)))
+    (simp (append-assoc, append-nil))
 
 empty-constant : (σ : Store) (b : Base) (e : Element b) → empty σ (constantOf b e) ≡ dataOf b []
 empty-constant σ base.Int e = refl

@@ -7,7 +7,7 @@ use mathlib.Core.Option.{some, none}
 use lib.IntN.{pos}
 use lib.ListN.{length}
 use Rattle.snesl.specs.Values.{ValueType, braces, int, bool, Val, inRange}
-use Rattle.snesl.specs.Terms.{_∋_, here, Term, iota, guard, Listing, listedTypes, All, ∅, _▹_, lookup, listed}
+use Rattle.snesl.specs.Terms.{_∋_, Term, guard, Listing, listedTypes, All, ∅, _▹_, lookup, listed}
 use Rattle.snesl.specs.Evaluation.{oneIf, eval, allOf, counting, upTo}
 use Rattle.snesl.specs.Streams.{bools, Store, _!_}
 use Rattle.snesl.specs.Trees.{IdTree}
@@ -25,7 +25,7 @@ use Rattle.snesl.proofs.Correctness.Skipping.{skipping, skipped-size}
 use Rattle.snesl.proofs.Correctness.Packing.{Packed, packing}
 use Rattle.snesl.proofs.Correctness.Correct.{correct}
 use Rattle.snesl.proofs.Correctness.OneEnvironment.{correct-once, value-runs, no-value-halts, run-has-value, halt-has-no-value}
-use Rattle.snesl.proofs.Correctness.Costs.{charge-bounded, guard-bounded, six-is-too-small, fiveEmpty, five-is-too-small}
+use Rattle.snesl.proofs.Correctness.Costs.{charge-bounded, guard-bounded, fiveEmpty, five-is-too-small}
 use Rattle.snesl.proofs.Correctness.EmptyInputs.{proper}
 use Rattle.snesl.proofs.Correctness.Taken.{takes-its-environment}
 
@@ -94,10 +94,6 @@ packing-keeps-those-chosen = packing
 -- The charge is at most seven times the plain charge.
 pub charge-at-most-sevenfold : {Γ : List ValueType} {τ : ValueType} (e : Term Γ τ) (ρ : All Val Γ) → charge e ρ ≤ 7 * plainCharge e ρ
 charge-at-most-sevenfold = charge-bounded
-
--- Seven is the smallest whole factor: an evaluation that is charged more than six times its plain charge (iota of 3: 25 and 4).
-pub sixfold-is-too-little : 6 * plainCharge (iota here) (_▹_ {τ = int} (pos 3) ∅) < charge (iota here) (_▹_ {τ = int} (pos 3) ∅)
-sixfold-is-too-little = six-is-too-small
 
 -- A guard by itself, beside its body, is charged at most six times its plain charge;
 pub guard-at-most-sixfold : {Γ : List ValueType} {τ : ValueType} (g : Γ ∋ bool) (us : Listing Γ) (e : Term (listedTypes us) τ) (ρ : All Val Γ)
