@@ -4,7 +4,7 @@ use native.Mathlib.Omega.{arith}
 use mathlib.Core.Bool.{Bool, true, false, _&&_, not}
 use mathlib.Core.List.{List, [], _∷_}
 use mathlib.Core.Option.{Option, some, none}
-use mathlib.Core.Path.{_≡_, refl, sym, ap, transport, subst, _∙_}
+use mathlib.Core.Path.{_≡_, refl, sym, ap, transport, _∙_}
 use borrow.Author.Tests.{leb-true, eqb-true}
 use lib.Dec.{eqb, ltb, leb}
 use lib.IntN.{ℤ}
@@ -18,9 +18,12 @@ use Rattle.snesl.specs.Values.{ValueType, scalar, braces, int, bool, dep
 use Rattle.snesl.specs.Terms as terms
 use Rattle.snesl.specs.Terms.{_∋_, Term, anyType, listedTypes, All, ∅, _▹_}
 use Rattle.snesl.specs.Records
-use Rattle.snesl.specs.Records.{Raw, var, bind, const, truth, iota, operation, negation, sum, each, guard, Head, absent, over, single, letting, eaching, guarding, whole, operationOf, operationHead, headAt, byteAt, markAt, variableAt, variablesAt, variablesOk, intAt, markVR, markLT, markKN, markKB, markIO, markNO, markSM, markEA, markGU, Scanned, scanned, thenScan, tooDeep, counted, scan, Input, Declared, declared, inputsAt, Front, front, expressionAfter, inputsThen, frontOf, formulaEnd, readFormula, Texts, texts, textsAt, textsThen, JobRead, job, jobEnd, readJob, Span}
+use Rattle.snesl.specs.Records.{Raw, var, bind, const, truth, iota, operation, negation, sum, each, guard, Head, absent, over, single, letting, eaching, guarding, whole, operationOf, operationHead, headAt}
+use Rattle.snesl.specs.Records.{byteAt, markAt, variableAt, variablesAt, variablesOk, intAt, markVR, markLT, markKN, markKB, markIO, markNO, markSM, markEA, markGU}
+use Rattle.snesl.specs.Records.{Scanned, scanned, thenScan, tooDeep, counted, scan, Input, Declared, declared, inputsAt, Front, front, expressionAfter, inputsThen, frontOf, formulaEnd, readFormula, Texts, texts, textsAt, textsThen, JobRead, job, jobEnd, readJob, Span}
 use Rattle.snesl.specs.Checking
-use Rattle.snesl.specs.Checking.{Name, Found, missing, found, find, isBound, asScalar, asInt, asBool, asInts, Sequence, noSequence, sequence, asSequence, names, usable, NamedScalars, listedScalars, listedNames, pointers, NamedListing, listedAny, anyNames, anyPointers, Typed, typed, demand, typedIf, typedSequence, typedThen, check, turned, context, inputNames, repeated, checkInputs, checkFormula}
+use Rattle.snesl.specs.Checking.{Name, Found, missing, found, find, isBound, asScalar, asInt, asBool, asInts, Sequence, noSequence, sequence, asSequence, names, usable, NamedScalars, listedScalars, listedNames, pointers, NamedListing, listedAny, anyNames, anyPointers}
+use Rattle.snesl.specs.Checking.{Typed, typed, demand, typedIf, typedSequence, typedThen, check, turned, context, inputNames, repeated, checkInputs, checkFormula}
 use Rattle.snesl.specs.Formed.{Formed, formed-var, formed-bind, formed-const, formed-truth, formed-iota, formed-operation, formed-negation, formed-sum, formed-each, formed-guard}
 
 -- What headAt can answer at k: a record with no expression behind it has its offset as its place, and its bytes, like those of LT, EA and GU, are there.
