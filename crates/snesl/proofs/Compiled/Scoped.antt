@@ -20,7 +20,8 @@ use Rattle.snesl.specs.Ids.{idsOf}
 use Rattle.snesl.proofs.Compiled.Members.{_∈_, known, to-without}
 use Rattle.snesl.proofs.Compiled.Packing.{count-pack, free-pack}
 use Rattle.snesl.proofs.Compiled.Sequences.{of-fv-define, of-fv-withCtrl}
-use Rattle.snesl.proofs.Compiled.Freshness.{takes-free, free-taken, fv-alone, ids-root, ids-outer, ids-lookup, order-inner, order-root, of-ids, dv-front, copies, front, count-front, code-each, code-iota, lead, ones, totals, count-lead, count-ones, lead-flags, lead-control, ones-puts-out, count-code, result-ids, free-ids, flagging, count-flagging, gate, count-gate, gate-control, gate-packed, code-guard, no-operands}
+use Rattle.snesl.proofs.Compiled.Freshness.{takes-free, free-taken, fv-alone, ids-root, ids-outer, ids-lookup, order-inner, order-root, of-ids, dv-front, copies, front, count-front, code-each, code-iota, lead, ones}
+use Rattle.snesl.proofs.Compiled.Freshness.{totals, count-lead, count-ones, lead-flags, lead-control, ones-puts-out, count-code, result-ids, free-ids, flagging, count-flagging, gate, count-gate, gate-control, gate-packed, code-guard, no-operands}
 
 -- what is free in a scoped program is known to it
 pub scoped-free : {ks : List ℕ} {s : ℕ} {p : Program} → Scoped ks s p → Within (fv s p) ks

@@ -19,7 +19,8 @@ use Rattle.snesl.specs.Ids.{idsOf, Below}
 use Rattle.snesl.proofs.Compiled.Members.{_∈_, _∉_, known, of-without, to-without, of-among, of-ascending}
 use Rattle.snesl.proofs.Compiled.Packing.{count-pack, defined-pack, free-pack}
 use Rattle.snesl.proofs.Compiled.Sequences.{dv-seq-left, dv-from-right, of-dv-from, of-dv-seq, of-fv-define, of-fv-withCtrl}
-use Rattle.snesl.proofs.Compiled.Freshness.{takes-free, free-taken, free-below, count-lead, count-ones, dv-lead, fv-lead, fv-ones, dv-ones, dv-alone, ids-root, ids-outer, ids-lookup, order-inner, order-root, of-ids, ids-numbered, dv-copies, copies, front, count-front, of-dv-front, fv-front, code-each, code-iota, lead, ones, totals, of-dv-controlled, count-code, result-ids, defined-next, flagging, count-flagging, fv-flagging, dv-flagging, defined-packs, gate, count-gate, of-dv-gate, fv-gate, gate-packed, code-guard, no-operands}
+use Rattle.snesl.proofs.Compiled.Freshness.{takes-free, free-taken, free-below, count-lead, count-ones, dv-lead, fv-lead, fv-ones, dv-ones, dv-alone, ids-root, ids-outer, ids-lookup, order-inner, order-root, of-ids, ids-numbered, dv-copies, copies, front, count-front, of-dv-front}
+use Rattle.snesl.proofs.Compiled.Freshness.{fv-front, code-each, code-iota, lead, ones, totals, of-dv-controlled, count-code, result-ids, defined-next, flagging, count-flagging, fv-flagging, dv-flagging, defined-packs, gate, count-gate, of-dv-gate, fv-gate, gate-packed, code-guard, no-operands}
 
 -- Lemma 1.2: if p is well-formed, then fv(p) ∩ dv(p) = ∅
 pub freshness : {s : ℕ} {p : Program} → WellFormed s p → Apart (fv s p) (dv s p)
