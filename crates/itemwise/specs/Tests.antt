@@ -6,7 +6,8 @@ use lib.IntN.{ℤ}
 use lib.ListN.{length}
 use lib.Signed.{leZ}
 use Rattle.snesl.specs.Streams.{bools}
-use Rattle.snesl.specs.Transducers.{Answer, equalZ, lengthMisfit, made, pairwise, unfit, unless}
+use Rattle.snesl.specs.Values.{equalZ}
+use Rattle.snesl.specs.Transducers.{Answer, lengthMisfit, made, pairwise, unfit, unless}
 
 -- of two comparisons, the one that is asked for: whether x and y are equal, or else whether x is at most y
 abbrev pub compared : (equal : Bool) → ℤ → ℤ → Bool
