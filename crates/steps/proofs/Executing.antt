@@ -23,8 +23,9 @@ use Rattle.snesl.specs.declared.code.Kind.the-variants.{Ints, Bools, Flags, Uni
 use Rattle.snesl.specs.declared.code.Base.{Base}
 use Rattle.snesl.specs.declared.code.Base.the-variants as base
 use Rattle.snesl.specs.Streams.{Stream, ints, bools, flags, units, kindOf, bare, dataKind, baseIn, len, bit, elements, Store, _!_, contents, room}
+use Rattle.snesl.specs.Values.{resultOf}
 use Rattle.snesl.specs.Transducers as snesl
-use Rattle.snesl.specs.Transducers.{Answer, made, unfit, negative, outside, apply, operands, signature, carried, resultOf, empty, countF, alone, misfit, unless, onFlags}
+use Rattle.snesl.specs.Transducers.{Answer, made, unfit, negative, outside, apply, operands, signature, carried, empty, countF, alone, misfit, unless, onFlags}
 use Rattle.snesl.specs.Programs.{define, done}
 use Rattle.snesl.specs.Machine.{State, Stop, full, unfitting, belowZero, outOfRange, Result, went, stopped, sumOf, workOf, fetch, push, skip, skipped, holding}
 use Rattle.snesl.specs.Outcome.{refusalOf}

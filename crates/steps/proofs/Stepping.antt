@@ -17,10 +17,10 @@ use Rattle.snesl.specs.declared.code.Base.{Base}
 use Rattle.snesl.specs.declared.code.Base.the-variants as base
 use Rattle.snesl.specs.declared.code.Kind.{Kind}
 use Rattle.snesl.specs.declared.code.Kind.the-variants.{Ints, Bools, Flags, Units}
-use Rattle.snesl.specs.Values.{Element}
+use Rattle.snesl.specs.Values.{Element, resultOf, equalZ}
 use Rattle.snesl.specs.Streams.{Stream, ints, bools, flags, units, kindOf, bare, dataOf, dataKind, baseIn, len, Store, _!_, room}
-use Rattle.snesl.specs.Transducers.{Answer, made, unfit, negative, outside, apply, operands, signature, carried, empty, unless, exact, onInts, onBools, onData, onFlags, toFlags, b2u, usum, mapTwo, mapOneNot, results, resultOf}
-use Rattle.snesl.specs.Transducers.{scanPlus, distr, sumPlus, pack, upack, countF, alone, eachF, eachT, misfit, spread, kept, keptSegments, scans, sums, pluses, pairwise, equalZ, firstOutside, firstNegative, unary, unitary, lengthMisfit}
+use Rattle.snesl.specs.Transducers.{Answer, made, unfit, negative, outside, apply, operands, signature, carried, empty, unless, exact, onInts, onBools, onData, onFlags, toFlags, b2u, usum, mapTwo, mapOneNot, results}
+use Rattle.snesl.specs.Transducers.{scanPlus, distr, sumPlus, pack, upack, countF, alone, eachF, eachT, misfit, spread, kept, keptSegments, scans, sums, pluses, pairwise, firstOutside, firstNegative, unary, unitary, lengthMisfit}
 use Rattle.snesl.specs.Programs.{done, define}
 use Rattle.snesl.specs.Machine.{State, full, unfitting, belowZero, outOfRange, Result, went, stopped, sumOf, workOf, fetch, push, step, skip, skipped, holding}
 use Rattle.steps.specs.Walking.{stepped}

@@ -26,7 +26,7 @@ use Rattle.steps.specs.declared.Spans.{Spans}
 
 -- the most streams that a run defines: with the most elements that a stream buffer has, numbers that follow from these don't wrap
 abbrev pub mostStreams : ℕ
-mostStreams = 1048576
+mostStreams = 2097152
 
 -- where stream s starts, and how long it is
 abbrev pub startOf : Store → ℕ → ℕ

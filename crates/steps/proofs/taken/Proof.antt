@@ -8,7 +8,8 @@ use Rattle.snesl.specs.declared.code.Base.{Base}
 use Rattle.snesl.specs.declared.code.Transducer.{Transducer}
 use Rattle.snesl.specs.declared.code.Transducer.the-variants.{Const, ConstBool, ToFlags, B2u, Usum, MapTwo, MapOneNot, ScanPlus, Distr, SumPlus, Pack, UPack}
 use Rattle.snesl.proofs.code.Transducer as transducer
-use Rattle.snesl.specs.Transducers.{signature, resultOf}
+use Rattle.snesl.specs.Values.{resultOf}
+use Rattle.snesl.specs.Transducers.{signature}
 use Rattle.steps.specs.Holding.{taking}
 use Rattle.steps.proofs.Executing.{data-takes}
 use borrow.Author.Needs.{needs}
