@@ -1,27 +1,33 @@
 // One expression record by itself: what stands at a position, whatever stands there. Every walk over a formula's bytes (reading, checking, listing,
 // running) goes from record to record by `head_at`.
 use crate::marks;
+use snesl::code::Operation;
 use snesl::code::Variable;
 use snesl::limits::Formula;
 ghost use mathlib.Core.Path.{_≡_};
+ghost use mathlib.Core.Option.{some};
 ghost use Prim.Native.Nat.{_+_, _≤_};
 ghost use lib.ListN.{length};
 ghost use lib.Dec.{leb};
 ghost use Rattle.snesl.specs.Records as records;
-ghost use Rattle.snesl.specs.Records.{markAt, headAt, variablesOk, intAt};
-ghost use Rattle.records.specs.Heads.{headOf, shaped, eachShaped, shapeOf};
+ghost use Rattle.snesl.specs.Records.{markAt, headAt, variablesOk, intAt, operationOf};
+ghost use Rattle.records.specs.Heads.{headOf, shaped, truthShaped, listShaped, shapeOf, IsOperation};
 
-// An expression record: none that is whole, one over a limit, or its fields. Each's count says how many listed variables follow its first five bytes.
+// An expression record: none that is whole, one over a limit, or its fields. Each's count says how many listed variables follow its first five bytes,
+// Guard's how many follow its first four.
 pub enum Head {
     Absent,
     Over,
     Var(Variable),
     Let(Variable),
     Const(i32),
+    Truth(bool),
     Iota(Variable),
-    Plus(Variable, Variable),
+    Operation(Operation, Variable, Variable),
+    Negation(Variable),
     Sum(Variable),
     Each(Variable, Variable, usize),
+    Guard(Variable, usize),
 }
 
 // Do `size` bytes stand at k?
@@ -105,16 +111,29 @@ fn sized(bytes: &[u8], k: usize, size: usize, count: usize) -> Shape
     }
 }
 
-// An EA record at k: its count says how long it is.
-fn each_shape(bytes: &[u8], k: usize) -> Shape
-    ensures { λ r. ⌜ r ≡ eachShaped (now (bytes .entry)) k ⌝ }
+// A KB record at k: its byte is 0 or 1, or there is no record.
+fn truth_shape(bytes: &[u8], k: usize) -> Shape
+    ensures { λ r. ⌜ r ≡ truthShaped (now (bytes .entry)) k ⌝ }
 {
-    if has_bytes(bytes, k, 5) {
-        let listed = bytes[k + 4] as usize;
-        if has_bytes(bytes, k, 5 + listed) {
-            if variables_ok(bytes, k + 2, 2) {
+    if has_bytes(bytes, k, 3) {
+        if bytes[k + 2] <= 1 {
+            return Shape::Fits;
+        }
+    }
+    Shape::Cut
+}
+
+// A record at k with `count` variables, then a using list: the list's count says how long the record is.
+fn list_shape(bytes: &[u8], k: usize, count: usize) -> Shape
+    requires { ⌜ count ≤ 2 ⌝ }
+    ensures { λ r. ⌜ r ≡ listShaped (now (bytes .entry)) k count ⌝ }
+{
+    if has_bytes(bytes, k, 3 + count) {
+        let listed = bytes[k + (2 + count)] as usize;
+        if has_bytes(bytes, k, 3 + count + listed) {
+            if variables_ok(bytes, k + 2, count) {
                 if listed <= Formula::LISTED {
-                    if variables_ok(bytes, k + 5, listed) {
+                    if variables_ok(bytes, k + (3 + count), listed) {
                         return Shape::Fits;
                     }
                 }
@@ -130,11 +149,25 @@ fn shape_of(bytes: &[u8], k: usize, mark: u16) -> Shape
     ensures { λ r. ⌜ r ≡ shapeOf (now (bytes .entry)) k mark ⌝ }
 {
     match mark {
-        marks::VR | marks::LT | marks::IO | marks::SM => sized(bytes, k, 3, 1),
-        marks::PL => sized(bytes, k, 4, 2),
+        marks::VR | marks::LT | marks::IO | marks::NO | marks::SM => sized(bytes, k, 3, 1),
+        marks::PL | marks::LE | marks::EQ => sized(bytes, k, 4, 2),
         marks::KN => sized(bytes, k, 6, 0),
-        marks::EA => each_shape(bytes, k),
+        marks::KB => truth_shape(bytes, k),
+        marks::EA => list_shape(bytes, k, 2),
+        marks::GU => list_shape(bytes, k, 1),
         _ => Shape::Cut,
+    }
+}
+
+// The scalar operation on two ints that a mark stands for.
+fn operation_of(mark: u16) -> Operation
+    requires { ⌜ IsOperation mark ⌝ }
+    ensures { λ r. ⌜ operationOf mark ≡ some r ⌝ }
+{
+    match mark {
+        marks::PL => Operation::Plus,
+        marks::LE => Operation::LessEqual,
+        _ => Operation::Equal,
     }
 }
 
@@ -148,10 +181,13 @@ fn fields(bytes: &[u8], k: usize, mark: u16) -> Head
         marks::VR => Head::Var(x),
         marks::LT => Head::Let(x),
         marks::IO => Head::Iota(x),
+        marks::NO => Head::Negation(x),
         marks::SM => Head::Sum(x),
-        marks::PL => Head::Plus(x, Variable(bytes[k + 3])),
         marks::KN => Head::Const(int_at(bytes, k + 2)),
-        _ => Head::Each(x, Variable(bytes[k + 3]), bytes[k + 4] as usize),
+        marks::KB => Head::Truth(bytes[k + 2] == 1),
+        marks::EA => Head::Each(x, Variable(bytes[k + 3]), bytes[k + 4] as usize),
+        marks::GU => Head::Guard(x, bytes[k + 3] as usize),
+        _ => Head::Operation(operation_of(mark), x, Variable(bytes[k + 3])),
     }
 }
 

@@ -12,10 +12,20 @@ pub const LT: u16 = 19_540;
 
 pub const KN: u16 = 19_278;
 
+pub const KB: u16 = 19_266;
+
 pub const IO: u16 = 18_767;
 
 pub const PL: u16 = 20_556;
 
+pub const LE: u16 = 19_525;
+
+pub const EQ: u16 = 17_745;
+
+pub const NO: u16 = 20_047;
+
 pub const SM: u16 = 21_325;
 
 pub const EA: u16 = 17_729;
+
+pub const GU: u16 = 18_261;
