@@ -15,7 +15,7 @@ use Rattle.snesl.specs.Listing.{defineLine, withCtrlLine, closeLine, linesOf}
 use Rattle.decimals.proofs.Stores.{sets-append}
 use Rattle.sink.specs.Sinks.{Mode, running, listing, surveying, Sink, far, put, take-in, mark, markAll, defined, opened, closed, feed}
 use Rattle.sink.proofs.Sinking.{landed, put-near}
-use Rattle.sink.proofs.Operands.{uses}
+use Rattle.sink.proofs.Tidy.{uses}
 
 -- one program behind another
 pub feed-seq : (s : ℕ) (p q : Program) (k : Sink) → feed s (p ⨾ q) k ≡ feed (s + count p) q (feed s p k)

@@ -8,6 +8,8 @@ pub mod Using
 pub mod Keeping
 pub mod Sinking
 pub mod Opening
+pub mod Tidy
 pub mod Operands
+pub mod Packs
 pub mod Feeding
 pub mod Surveying

@@ -12,18 +12,20 @@ use lib.Dec.{ltb, eqb}
 use lib.ListN.{length}
 use Rattle.snesl.specs.Values.{ValueType}
 use Rattle.snesl.specs.Terms.{Term, All}
-use Rattle.snesl.specs.Trees.{IdTree, order}
-use Rattle.snesl.specs.Programs.{Program, dv, fv, insert, among, member, ascending, Within}
+use Rattle.snesl.specs.Trees.{Tree, IdTree, order}
+use Rattle.snesl.specs.Programs.{Program, count, dv, fv, insert, among, member, ascending, Within}
 use Rattle.snesl.specs.Translation.{size, tree, code}
 use Rattle.snesl.specs.Ids.{idsOf, Below}
 use Rattle.snesl.proofs.Compiled.Members.{_∈_, _∉_, known, of-insert, to-insert, of-among, to-among, of-ascending, to-ascending, Ascends, ascending-ascends}
+use Rattle.snesl.proofs.Compiled.Freshness.{count-code}
 use Rattle.snesl.proofs.Compiled.Ascending.{ascends-same, ascending-same}
 use Rattle.sink.specs.Sinks.{Sink, listing, surveying, mark, markAll, take-in, opened, surveyed, resumed, feed}
 use Rattle.sink.specs.Sunk.{Plain, opening}
 use Rattle.sink.specs.Between.{between}
 use Rattle.sink.proofs.Least.{of-between, to-between}
 use Rattle.sink.proofs.Shorts.{ascending-length}
-use Rattle.sink.proofs.Operands.{uses, taken-in, used-known, put-out}
+use Rattle.sink.proofs.Tidy.{uses, Surveyable, taken-in, used-known, put-out}
+use Rattle.sink.proofs.Operands.{code-surveyable}
 use Rattle.sink.proofs.Feeding.{feed-surveying}
 
 among-length : (ss ts : List ℕ) → length (among ss ts) ≤ length ss
@@ -158,35 +160,49 @@ module _ (own most : ℕ) (ids : List ℕ) (room : length ids ≤ most) where
           (λ v j. ⊎-elim (λ i. absurd (List·Memᴰ·not-nil i)) (λ p. to-ascending (between 0 own us) (to-between 0 own us (p .0) (omega arith) (p .1))) (r .none v j))
           (λ v j. let b = of-between 0 own us (of-ascending (between 0 own us) j) in r .new v (b .0) (b .2))
 
--- ---- a body's survey
-module _ {Γ : List ValueType} {τ : ValueType} (e : Term Γ τ) (δ : All IdTree Γ) (s : ℕ) (below : Below s (idsOf δ)) (k : Sink) (room : length (idsOf δ) ≤ k .most) where
+-- ---- the survey of a program
+module _ {s d : ℕ} {p : Program} {st : Tree ℕ d} {ids : List ℕ} (y : Surveyable s p st ids) (k : Sink) (room : length ids ≤ k .most) where
   abbrev after : Sink
-  after = feed s (code e δ s) (surveyed s k)
+  after = feed s p (surveyed s k)
 
-  after-is : after ≡ take-in (uses (code e δ s)) (surveyed s k)
-  after-is = feed-surveying s (code e δ s) (surveyed s k) refl
+  after-is : after ≡ take-in (uses p) (surveyed s k)
+  after-is = feed-surveying s p (surveyed s k) refl
 
-  pub survey-takes : after .taken ≡ ascending (fv s (code e δ s))
+  survey-takes : after .taken ≡ ascending (fv s p)
   survey-takes =
-      ap (λ j. j .taken) after-is
-      ∙ (marks-all s (k .most) (idsOf δ) room (uses (code e δ s)) (λ u m l. used-known e δ s below u m l) ∙ sym (taken-in e δ s below))
+      ap (λ j. j .taken) after-is ∙ (marks-all s (k .most) ids room (uses p) (λ u m l. used-known y u m l) ∙ sym (taken-in y))
 
-  pub survey-mode : after .mode ≡ surveying
-  survey-mode = ap (λ j. j .mode) after-is
+  pub surveyed-mode : after .mode ≡ surveying
+  surveyed-mode = ap (λ j. j .mode) after-is
 
-  pub survey-own : after .own ≡ s
-  survey-own = ap (λ j. j .own) after-is
+  pub surveyed-own : after .own ≡ s
+  surveyed-own = ap (λ j. j .own) after-is
 
-  pub resumes : k .mode ≡ listing → Plain k → resumed after ≡ k
-  resumes m p =
+  resumes : k .mode ≡ listing → Plain k → resumed after ≡ k
+  resumes m q =
       ap resumed after-is
-      ∙ (λ i. record { mode = sym m i; text = k .text; at = k .at; own = sym (p .own) i; taken = sym (p .taken) i; most = k .most })
+      ∙ (λ i. record { mode = sym m i; text = k .text; at = k .at; own = sym (q .own) i; taken = sym (q .taken) i; most = k .most })
 
   -- the line that opens its WithCtrl
+  pub opening-of : (c : ℕ) → k .mode ≡ listing → Plain k
+      → opening after st c (s + count p) ≡ opened (ascending (among (order st) (dv s p))) c (ascending (fv s p)) k
+  opening-of c m q =
+      ap (λ n. opened (ascending (between n (s + count p) (order st))) c (after .taken) (resumed after)) surveyed-own
+      ∙ (ap (λ o. opened o c (after .taken) (resumed after)) (sym (put-out y))
+      ∙ (ap (λ i. opened (ascending (among (order st) (dv s p))) c i (resumed after)) survey-takes
+      ∙ ap (opened (ascending (among (order st) (dv s p))) c (ascending (fv s p))) (resumes m q)))
+
+-- ---- a body's survey
+module _ {Γ : List ValueType} {τ : ValueType} (e : Term Γ τ) (δ : All IdTree Γ) (s : ℕ) (below : Below s (idsOf δ)) (k : Sink) (room : length (idsOf δ) ≤ k .most) where
+  pub survey-mode : feed s (code e δ s) (surveyed s k) .mode ≡ surveying
+  survey-mode = surveyed-mode (code-surveyable e δ s below) k room
+
+  pub survey-own : feed s (code e δ s) (surveyed s k) .own ≡ s
+  survey-own = surveyed-own (code-surveyable e δ s below) k room
+
   pub opening-is : (c : ℕ) → k .mode ≡ listing → Plain k
-      → opening after (tree e δ s) c (s + size e) ≡ opened (ascending (among (order (tree e δ s)) (dv s (code e δ s)))) c (ascending (fv s (code e δ s))) k
-  opening-is c m p =
-      ap (λ n. opened (ascending (between n (s + size e) (order (tree e δ s)))) c (after .taken) (resumed after)) survey-own
-      ∙ (ap (λ o. opened o c (after .taken) (resumed after)) (sym (put-out e δ s below))
-      ∙ (ap (λ i. opened (ascending (among (order (tree e δ s)) (dv s (code e δ s)))) c i (resumed after)) survey-takes
-      ∙ ap (opened (ascending (among (order (tree e δ s)) (dv s (code e δ s)))) c (ascending (fv s (code e δ s)))) (resumes m p)))
+      → opening (feed s (code e δ s) (surveyed s k)) (tree e δ s) c (s + size e)
+      ≡ opened (ascending (among (order (tree e δ s)) (dv s (code e δ s)))) c (ascending (fv s (code e δ s))) k
+  opening-is c m q =
+      let long : s + size e ≡ s + count (code e δ s) = omega (arith, count-code e δ s) in
+      ap (opening (feed s (code e δ s) (surveyed s k)) (tree e δ s) c) long ∙ opening-of (code-surveyable e δ s below) k room c m q
