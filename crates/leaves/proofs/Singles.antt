@@ -1,5 +1,6 @@
 -- The laws of a variable and of the forms that stand for one instruction.
 use Prim.Native.Nat.{ℕ, suc, _+_, _*_, _-_, _≤_, _<_}
+use mathlib.Core.Bool.{Bool}
 use mathlib.Core.List.{List, [], _∷_, _++_}
 use mathlib.Core.Option.{some}
 use mathlib.Core.Path.{_≡_, refl, sym, _∙_, ap, ap₂, subst, transport}
@@ -12,15 +13,14 @@ use mir.Val.{SFits, toZ, ofZ}
 use Rattle.laws.proofs.Never.{never}
 use Rattle.laws.specs.Parts.{part, written}
 use Rattle.snesl.specs.declared.code.Kind.{Kind}
-use Rattle.snesl.specs.declared.code.Kind.the-variants.{Ints}
 use Rattle.snesl.specs.declared.code.Variable.{Variable}
 use Rattle.snesl.specs.declared.code.Transducer.{Transducer}
-use Rattle.snesl.specs.declared.code.Transducer.the-variants.{Const, MapTwo, SumPlus}
-use Rattle.snesl.specs.declared.code.Operation.the-variants.{Plus}
+use Rattle.snesl.specs.declared.code.Transducer.the-variants.{Const, ConstBool, MapTwo, MapOneNot, SumPlus}
+use Rattle.snesl.specs.declared.code.Operation.{Operation}
 use Rattle.snesl.specs.declared.code.Base.{Base}
 use Rattle.snesl.specs.declared.code.Base.the-variants as base
 use Rattle.snesl.specs.declared.refusal.Refusal.{Refusal}
-use Rattle.snesl.specs.Values.{ValueType, scalar, braces, int, depthOf, Element}
+use Rattle.snesl.specs.Values.{ValueType, scalar, braces, int, bool, depthOf, Element}
 use Rattle.snesl.specs.Terms.{_∋_, All, lookup}
 use Rattle.snesl.specs.Trees.{IdTree, leaf, root, inner, outer, mapTree}
 use Rattle.snesl.specs.Streams.{Stream, dataOf, dataKind, len, elements, Store, _!_, room}
@@ -51,8 +51,8 @@ use Rattle.leaves.specs.declared.Walked.{Walked}
 use Rattle.leaves.specs.declared.Walked.the-variants as walked-as
 use Rattle.leaves.specs.Scenes.{Runs}
 use Rattle.leaves.specs.Making.{Makes, Instructed}
-use Rattle.leaves.specs.Arms.{Named, named-const, named-plus, named-sum, Sole, Located}
-use Rattle.leaves.proofs.Places.{place-newest}
+use Rattle.leaves.specs.Arms.{Named, named-const, named-truth, named-operation, named-negation, named-sum, Sole, Located}
+use Rattle.leaves.proofs.Places.{place-newest, data-full}
 use Rattle.leaves.proofs.Operands.{sought, named-there, scalar-placed, flags-placed, data-placed}
 use Rattle.leaves.proofs.Making.{Making, making, stopping}
 use Rattle.leaves.proofs.Running.{ran-through, ran-stopped, ran-as}
@@ -122,31 +122,34 @@ module _ {cap n : ℕ} {t : Transducer} {m : State} {k : Sink} {old new : List �
 
 -- ---- a form by its shape
 
+module _ {Γ : List ValueType} (names : All Name Γ) (δ : All IdTree Γ) where
+  -- what a form's transducer is over the variables that it finds
+  abbrev Shape : Transducer → Form → Type 0
+  Shape t (form.Const z) = t ≡ Const z
+  Shape t (form.Truth c) = t ≡ ConstBool c
+  Shape t (form.Operation o x y) =
+      (v : Γ ∋ int) × (w : Γ ∋ int) × (find x names ≡ found int v) × (find y names ≡ found int w) × (t ≡ MapTwo o (id (root (lookup v δ))) (id (root (lookup w δ))))
+  Shape t (form.Negation x) = (v : Γ ∋ bool) × (find x names ≡ found bool v) × (t ≡ MapOneNot (id (root (lookup v δ))))
+  Shape t (form.Sum x) =
+      (v : Γ ∋ braces int) × (find x names ≡ found (braces int) v) × (t ≡ SumPlus (id (outer (lookup v δ))) (id (root (inner (lookup v δ)))))
+
 module _ {Γ : List ValueType} {names : All Name Γ} {δ : All IdTree Γ} where
-  const-of : {f : Form} {t : Transducer} {z : ℤ} → Named names δ f t → f ≡ form.Const z → t ≡ Const z
-  const-of {z = z} (named-const {z = w}) e = let same : w ≡ z = cc in ap Const same
-  const-of (named-plus p q) e = never (cc)
-  const-of (named-sum p) e = never (cc)
+  shape : {f : Form} {b : Base} {t : Transducer} → Named names δ f b t → Shape names δ t f
+  shape named-const = refl
+  shape named-truth = refl
+  shape (named-operation {v = v} {w = w} p q) = (v, w, p, q, refl)
+  shape (named-negation {v = v} p) = (v, p, refl)
+  shape (named-sum {v = v} p) = (v, p, refl)
 
-  plus-of : {f : Form} {t : Transducer} {x y : Variable} → Named names δ f t → f ≡ form.Plus x y
-      → (v : Γ ∋ int) × (w : Γ ∋ int) × (find x names ≡ found int v) × (find y names ≡ found int w) × (t ≡ MapTwo Plus (id (root (lookup v δ))) (id (root (lookup w δ))))
-  plus-of named-const e = never (cc)
-  plus-of {x = x} {y = y} (named-plus {x = x′} {y = y′} {v = v} {w = w} p q) e =
-      let one : x ≡ x′ = cc in
-      let two : y ≡ y′ = cc in
-      (v, w, ap (λ z. find z names) one ∙ p, ap (λ z. find z names) two ∙ q, refl)
-  plus-of (named-sum p) e = never (cc)
+  shape-of : {f g : Form} {b : Base} {t : Transducer} → Named names δ f b t → f ≡ g → Shape names δ t g
+  shape-of {t = t} n e = subst (Shape names δ t) e (shape n)
 
-  sum-of : {f : Form} {t : Transducer} {x : Variable} → Named names δ f t → f ≡ form.Sum x
-      → (v : Γ ∋ braces int) × (find x names ≡ found (braces int) v) × (t ≡ SumPlus (id (outer (lookup v δ))) (id (root (inner (lookup v δ)))))
-  sum-of named-const e = never (cc)
-  sum-of (named-plus p q) e = never (cc)
-  sum-of {x = x} (named-sum {x = x′} {v = v} p) e = let one : x ≡ x′ = cc in (v, ap (λ z. find z names) one ∙ p, refl)
-
-  gives-ints : {f : Form} {t : Transducer} → Named names δ f t → (b : Base) → signature b t .output ≡ Ints
-  gives-ints named-const b = refl
-  gives-ints (named-plus p q) b = refl
-  gives-ints (named-sum p) b = refl
+  gives-data : {f : Form} {b : Base} {t : Transducer} → Named names δ f b t → (c : Base) → signature c t .output ≡ dataKind b
+  gives-data named-const c = refl
+  gives-data named-truth c = refl
+  gives-data (named-operation p q) c = refl
+  gives-data (named-negation p) c = refl
+  gives-data (named-sum p) c = refl
 
 module _ {f : Form} {sp : ℕ} {env : List ℕ} {buf : List ℤ} {state text : List ℕ} (g : Sole f sp env buf state text) where
   placed-as : (at : Operands) {t : Transducer} → g .transducer ≡ t
@@ -159,28 +162,40 @@ module _ {f : Form} {sp : ℕ} {env : List ℕ} {buf : List ℤ} {state text : L
       }
 
   pub const-located : {z : ℤ} (at : Operands) → f ≡ form.Const z → Located g at
-  const-located at e = placed-as at (const-of (g .named) e) tt
+  const-located at e = placed-as at (shape-of (g .named) e) tt
 
-  pub left-sought : {x y : Variable} → f ≡ form.Plus x y → Sought env sp x
-  left-sought e = let o = plus-of (g .named) e in sought (g .scene) (o .0) (o .2)
+  pub truth-located : {c : Bool} (at : Operands) → f ≡ form.Truth c → Located g at
+  truth-located at e = placed-as at (shape-of (g .named) e) tt
 
-  pub right-sought : {x y : Variable} → f ≡ form.Plus x y → Sought env sp y
-  right-sought e = let o = plus-of (g .named) e in sought (g .scene) (o .1) (o .3)
+  pub left-sought : {o : Operation} {x y : Variable} → f ≡ form.Operation o x y → Sought env sp x
+  left-sought e = let o = shape-of (g .named) e in sought (g .scene) (o .0) (o .2)
+
+  pub right-sought : {o : Operation} {x y : Variable} → f ≡ form.Operation o x y → Sought env sp y
+  right-sought e = let o = shape-of (g .named) e in sought (g .scene) (o .1) (o .3)
+
+  pub negation-sought : {x : Variable} → f ≡ form.Negation x → Sought env sp x
+  negation-sought e = let o = shape-of (g .named) e in sought (g .scene) (o .0) (o .1)
 
   pub sum-sought : {x : Variable} → f ≡ form.Sum x → Sought env sp x
-  sum-sought e = let o = sum-of (g .named) e in sought (g .scene) (o .0) (o .1)
+  sum-sought e = let o = shape-of (g .named) e in sought (g .scene) (o .0) (o .1)
 
-  pub plus-located : {x y : Variable} {p q : ℕ} → f ≡ form.Plus x y → ((s : Sought env sp x) → Entry env sp p (lookup (s .pointer) (s .trees)))
+  pub operation-located : {o : Operation} {x y : Variable} {p q : ℕ} → f ≡ form.Operation o x y → ((s : Sought env sp x) → Entry env sp p (lookup (s .pointer) (s .trees)))
       → ((s : Sought env sp y) → Entry env sp q (lookup (s .pointer) (s .trees))) → Located g (record { first = p + 2; second = q + 2 })
-  plus-located {p = p} {q = q} e h i =
-      let o = plus-of (g .named) e in
+  operation-located {p = p} {q = q} e h i =
+      let o = shape-of (g .named) e in
       placed-as (record { first = p + 2; second = q + 2 }) (o .4)
       (scalar-placed (g .scene) (o .0) (h (sought (g .scene) (o .0) (o .2))), (scalar-placed (g .scene) (o .1) (i (sought (g .scene) (o .1) (o .3))), tt))
+
+  pub negation-located : {x : Variable} {p : ℕ} → f ≡ form.Negation x → ((s : Sought env sp x) → Entry env sp p (lookup (s .pointer) (s .trees)))
+      → Located g (record { first = p + 2; second = 0 })
+  negation-located {p = p} e h =
+      let o = shape-of (g .named) e in
+      placed-as (record { first = p + 2; second = 0 }) (o .2) (scalar-placed (g .scene) (o .0) (h (sought (g .scene) (o .0) (o .1))), tt)
 
   pub sum-located : {x : Variable} {p : ℕ} → f ≡ form.Sum x → ((s : Sought env sp x) → Entry env sp p (lookup (s .pointer) (s .trees)))
       → Located g (record { first = p + 2 + 3; second = p + 2 })
   sum-located {p = p} e h =
-      let o = sum-of (g .named) e in
+      let o = shape-of (g .named) e in
       let at = h (sought (g .scene) (o .0) (o .1)) in
       placed-as (record { first = p + 2 + 3; second = p + 2 }) (o .2) (flags-placed (g .scene) (o .0) at, (data-placed (g .scene) (o .0) at, tt))
 
@@ -190,17 +205,25 @@ module _ {f : Form} {sp : ℕ} {env : List ℕ} {buf : List ℤ} {state text : L
     placed-of e = subst (λ t. Placed (g .scene .machine .store) env (signature base.Int t .inputs) (operands t) (positions at)) e (l .placed)
 
     pub const-chosen : {z : ℤ} → f ≡ form.Const z → SFits w32 z → Const (toZ w32 (ofZ w32 z)) ≡ g .transducer
-    const-chosen e h = ap Const (toZ-ofZ h) ∙ sym (const-of (g .named) e)
+    const-chosen e h = ap Const (toZ-ofZ h) ∙ sym (shape-of (g .named) e)
 
-    pub plus-chosen : {x y : Variable} → f ≡ form.Plus x y → MapTwo Plus (id (getD env (at .first) 0)) (id (getD env (at .second) 0)) ≡ g .transducer
-    plus-chosen e =
-        let o = plus-of (g .named) e in
-        let p = placed-of (o .4) in
-        ap₂ (λ a b. MapTwo Plus (id a) (id b)) (named-there (p .0)) (named-there (p .1 .0)) ∙ sym (o .4)
+    pub truth-chosen : {c : Bool} → f ≡ form.Truth c → ConstBool c ≡ g .transducer
+    truth-chosen e = sym (shape-of (g .named) e)
+
+    pub operation-chosen : {o : Operation} {x y : Variable} → f ≡ form.Operation o x y → MapTwo o (id (getD env (at .first) 0)) (id (getD env (at .second) 0)) ≡ g .transducer
+    operation-chosen {o} e =
+        let h = shape-of (g .named) e in
+        let p = placed-of (h .4) in
+        ap₂ (λ a b. MapTwo o (id a) (id b)) (named-there (p .0)) (named-there (p .1 .0)) ∙ sym (h .4)
+
+    pub negation-chosen : {x : Variable} → f ≡ form.Negation x → MapOneNot (id (getD env (at .first) 0)) ≡ g .transducer
+    negation-chosen e =
+        let h = shape-of (g .named) e in
+        ap (λ a. MapOneNot (id a)) (named-there (placed-of (h .2) .0)) ∙ sym (h .2)
 
     pub sum-chosen : {x : Variable} → f ≡ form.Sum x → SumPlus (id (getD env (at .first) 0)) (id (getD env (at .second) 0)) ≡ g .transducer
     sum-chosen e =
-        let o = sum-of (g .named) e in
+        let o = shape-of (g .named) e in
         let p = placed-of (o .2) in
         ap₂ (λ a b. SumPlus (id a) (id b)) (named-there (p .0)) (named-there (p .1 .0)) ∙ sym (o .2)
 
@@ -208,11 +231,14 @@ module _ {f : Form} {sp : ℕ} {env : List ℕ} {buf : List ℤ} {state text : L
         → (at .first + 3 ≤ length env) × (at .second + 3 ≤ length env)
     both-within o p = (place-within env (at .first) _ (o .words), place-within env (at .second) _ (p .words))
 
-    pub plus-within : {x y : Variable} → f ≡ form.Plus x y → (at .first + 3 ≤ length env) × (at .second + 3 ≤ length env)
-    plus-within e = let p = placed-of (plus-of (g .named) e .4) in both-within (p .0) (p .1 .0)
+    pub negation-within : {x : Variable} → f ≡ form.Negation x → at .first + 3 ≤ length env
+    negation-within e = place-within env (at .first) _ (placed-of (shape-of (g .named) e .2) .0 .words)
+
+    pub operation-within : {o : Operation} {x y : Variable} → f ≡ form.Operation o x y → (at .first + 3 ≤ length env) × (at .second + 3 ≤ length env)
+    operation-within e = let p = placed-of (shape-of (g .named) e .4) in both-within (p .0) (p .1 .0)
 
     pub sum-within : {x : Variable} → f ≡ form.Sum x → (at .first + 3 ≤ length env) × (at .second + 3 ≤ length env)
-    sum-within e = let p = placed-of (sum-of (g .named) e .2) in both-within (p .0) (p .1 .0)
+    sum-within e = let p = placed-of (shape-of (g .named) e .2) in both-within (p .0) (p .1 .0)
 
     pub sole-ready : {t : Transducer} → t ≡ g .transducer → Makes t at env buf state text (g .scene .machine) (g .scene .sink)
     sole-ready e =
@@ -246,12 +272,12 @@ module _ {f : Form} {sp : ℕ} {env : List ℕ} {buf : List ℤ} {state text : L
       done-so : Making (length buf) n (g .transducer) (g .scene .machine) (g .scene .sink) buf new state₁ text₁ made
       done-so = making (length buf) n (g .transducer) own made e
 
-      ints-so : signature (carried (g .scene .machine .store) (g .transducer)) (g .transducer) .output ≡ Ints
-      ints-so = gives-ints (g .named) (carried (g .scene .machine .store) (g .transducer))
+      data-so : signature (carried (g .scene .machine .store) (g .transducer)) (g .transducer) .output ≡ dataKind (g .base)
+      data-so = gives-data (g .named) (carried (g .scene .machine .store) (g .transducer))
 
       pub single-push : (4 ≤ length state₁) × (1 ≤ getD state₁ 0 0) × (getD state₁ 0 0 < 4294967296) × (made ≤ getD state₁ 1 0) × (getD state₁ 1 0 < 4294967296)
       single-push =
-          pushable (done-so .held) (g .scene .machine .store) (dataOf base.Int (items done-so base.Int ints-so)) (items-stored done-so base.Int ints-so) refl (items-long done-so base.Int ints-so)
+          pushable (done-so .held) (g .scene .machine .store) (dataOf (g .base) (items done-so (g .base) data-so)) (items-stored done-so (g .base) data-so) (data-full (g .base) (items done-so (g .base) data-so)) (items-long done-so (g .base) data-so)
 
       pub single-made : {env′ : List ℕ} (next : ℕ) → env′ ≡ written (sp - 3) ((getD state₁ 0 0 - 1) ∷ (getD state₁ 1 0 - made) ∷ made ∷ []) env
           → Runs (g .scene) (g .term) n next env′ new state₁ text₁ (walked-as.Tree 0 next)
@@ -264,10 +290,10 @@ module _ {f : Form} {sp : ℕ} {env : List ℕ} {buf : List ℤ} {state text : L
             held = u .held;
             sunk = u .sunk;
             kept = u .kept;
-            shapely = made-shapely (u .after) (g .scene .machine .store) base.Int (items u base.Int ints-so) (items-stored u base.Int ints-so);
+            shapely = made-shapely (u .after) (g .scene .machine .store) (g .base) (items u (g .base) data-so) (items-stored u (g .base) data-so);
             words =
                 ap (drop (sp - 3)) w
                 ∙ (lowered env sp 3 ((getD state₁ 0 0 - 1) ∷ (getD state₁ 1 0 - made) ∷ made ∷ []) refl (g .low) (g .scene .within)
                 ∙ ap (λ l. l ++ drop sp env)
-                (pushed-words (u .held) (g .scene .machine .store) (dataOf base.Int (items u base.Int ints-so)) (items-stored u base.Int ints-so) refl (items-long u base.Int ints-so)));
+                (pushed-words (u .held) (g .scene .machine .store) (dataOf (g .base) (items u (g .base) data-so)) (items-stored u (g .base) data-so) (data-full (g .base) (items u (g .base) data-so)) (items-long u (g .base) data-so)));
           }))

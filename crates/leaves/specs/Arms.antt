@@ -1,5 +1,6 @@
 -- What the walk's arms need: the streams of the variables that a record names, and room for their result on the stack and for their streams' ids.
 use Prim.Native.Nat.{ℕ, _+_, _-_, _≤_}
+use mathlib.Core.Bool.{Bool}
 use mathlib.Core.List.{List, [], _∷_, _++_}
 use mathlib.Core.Path.{_≡_}
 use lib.IntN.{ℤ, pos}
@@ -9,9 +10,11 @@ use Rattle.snesl.specs.declared.code.Kind.the-variants.{Flags}
 use Rattle.snesl.specs.declared.code.Variable.{Variable}
 use Rattle.snesl.specs.declared.code.Transducer.{Transducer}
 use Rattle.snesl.specs.declared.code.Transducer.the-variants as transducer
+use Rattle.snesl.specs.declared.code.Base.{Base}
 use Rattle.snesl.specs.declared.code.Base.the-variants.{Int}
-use Rattle.snesl.specs.declared.code.Operation.the-variants.{Plus}
-use Rattle.snesl.specs.Values.{ValueType, braces, int}
+use Rattle.snesl.specs.declared.code.Base.the-variants as base
+use Rattle.snesl.specs.declared.code.Operation.{Operation}
+use Rattle.snesl.specs.Values.{ValueType, scalar, braces, int, bool, resultOf}
 use Rattle.snesl.specs.Terms.{_∋_, Term, All, lookup}
 use Rattle.snesl.specs.Checking.{Name, find, found}
 use Rattle.snesl.specs.Trees.{IdTree, leaf, root, inner, outer}
@@ -32,20 +35,24 @@ use Rattle.leaves.specs.declared.Form.{Form}
 use Rattle.leaves.specs.declared.Form.the-variants as form
 use Rattle.leaves.specs.Scenes.{Scene}
 
--- the transducer that a form stands for, over the variables that it names
-pub data Named {Γ : List ValueType} (names : All Name Γ) (δ : All IdTree Γ) : Form → Transducer → Type 0 where
-  named-const : {z : ℤ} → Named names δ (form.Const z) (transducer.Const z)
-  named-plus : {x y : Variable} {v w : Γ ∋ int} → find x names ≡ found int v → find y names ≡ found int w
-      → Named names δ (form.Plus x y) (transducer.MapTwo Plus (id (root (lookup v δ))) (id (root (lookup w δ))))
+-- the transducer that a form stands for, over the variables that it names, and the base of the data that it gives
+pub data Named {Γ : List ValueType} (names : All Name Γ) (δ : All IdTree Γ) : Form → Base → Transducer → Type 0 where
+  named-const : {z : ℤ} → Named names δ (form.Const z) Int (transducer.Const z)
+  named-truth : {c : Bool} → Named names δ (form.Truth c) base.Bool (transducer.ConstBool c)
+  named-operation : {o : Operation} {x y : Variable} {v w : Γ ∋ int} → find x names ≡ found int v → find y names ≡ found int w
+      → Named names δ (form.Operation o x y) (resultOf o) (transducer.MapTwo o (id (root (lookup v δ))) (id (root (lookup w δ))))
+  named-negation : {x : Variable} {v : Γ ∋ bool} → find x names ≡ found bool v
+      → Named names δ (form.Negation x) base.Bool (transducer.MapOneNot (id (root (lookup v δ))))
   named-sum : {x : Variable} {v : Γ ∋ braces int} → find x names ≡ found (braces int) v
-      → Named names δ (form.Sum x) (transducer.SumPlus (id (outer (lookup v δ))) (id (root (inner (lookup v δ)))))
+      → Named names δ (form.Sum x) Int (transducer.SumPlus (id (outer (lookup v δ))) (id (root (inner (lookup v δ)))))
 
 -- a record that stands for one instruction, whose output is the whole result
 pub record Sole (f : Form) (sp : ℕ) (env : List ℕ) (buf : List ℤ) (state text : List ℕ) : Type 0 where
   pub scene : Scene env sp buf state text
-  pub term : Term (scene .context) int
+  pub base : Base
+  pub term : Term (scene .context) (scalar base)
   pub transducer : Transducer
-  pub named : Named (scene .names) (scene .trees) f transducer
+  pub named : Named (scene .names) (scene .trees) f base transducer
   pub code-is : (s : ℕ) → code term (scene .trees) s ≡ define transducer done
   pub tree-is : (s : ℕ) → tree term (scene .trees) s ≡ leaf s
   pub low : 3 ≤ sp

@@ -31,10 +31,11 @@ pub data Shallow : List ValueType → Type 0 where
   shallow-none : Shallow []
   shallow-more : {τ : ValueType} {Γ : List ValueType} → depthOf τ ≤ mostDepth → Shallow Γ → Shallow (τ ∷ Γ)
 
--- How many words below sp the walk of an expression may take that has so many nestings left, its result's tree among them: an EA takes three words for its
--- flags, five for each of eight listed variables, and twenty-six for its x (two and a tree of depth 7); a LT takes twenty-nine (two and a tree of depth 8).
+-- How many words below sp the walk of an expression may take that has so many nestings left, its result's tree among them: a GU takes three words for its flags and
+-- twenty-nine for each of eight listed variables (two and a tree of depth 8); an EA takes sixty-nine, and a LT twenty-nine. While the innermost GU packs, below them
+-- stand the bools spread over each of eight levels.
 abbrev pub wordsFor : (levels : ℕ) → ℕ
-wordsFor levels = 69 * levels
+wordsFor levels = 235 * levels + 24
 
 -- How many words a whole formula needs: those of its expression, with one level more than the nestings allowed, and a binding of depth 8 for each input.
 abbrev pub mostWords : ℕ

@@ -1,5 +1,5 @@
 -- What each arm of the run's walk finds, and what it answers and leaves.
-use Prim.Native.Nat.{ℕ, _+_, _-_, _≤_}
+use Prim.Native.Nat.{ℕ, _+_, _*_, _-_, _≤_}
 use mathlib.Core.List.{List, _++_}
 use mathlib.Core.Path.{_≡_}
 use lib.IntN.{ℤ}
@@ -21,9 +21,10 @@ use Rattle.leaves.specs.Places.{places, Shapely, Shaped, Shallow}
 use Rattle.leaves.specs.declared.Walked.{Walked}
 use Rattle.leaves.specs.declared.Walked.the-variants as walked
 
--- a sink that lists can keep every id that a body takes in: those of x, whose type is less deep than the deepest, and of the listed variables
+-- a sink that lists can keep every id that a body takes in: at most those of listed variables of the deepest type, which a GU's may be; an EA's are those of x, whose
+-- type is less deep, and of listed scalars
 abbrev pub mostTaken : ℕ
-mostTaken = mostDepth + mostListed
+mostTaken = mostListed * (mostDepth + 1)
 
 pub record Wide (k : Sink) : Type 0 where
   pub room : k .mode ≡ listing → mostTaken ≤ k .most

@@ -42,7 +42,9 @@ pub enum Walked {
 // A record that stands for one instruction.
 pub enum Form {
     Const(i32),
-    Plus(Variable, Variable),
+    Truth(bool),
+    Operation(Operation, Variable, Variable),
+    Negation(Variable),
     Sum(Variable),
 }
 
@@ -99,9 +101,17 @@ fn locate(form: Form, sp: usize, env: &[u32]) -> Operands
             first: 0,
             second: 0,
         },
-        Form::Plus(x, y) => Operands {
+        Form::Truth(_) => Operands {
+            first: 0,
+            second: 0,
+        },
+        Form::Operation(_, x, y) => Operands {
             first: find(env, sp, x) + 2,
             second: find(env, sp, y) + 2,
+        },
+        Form::Negation(x) => Operands {
+            first: find(env, sp, x) + 2,
+            second: 0,
         },
         Form::Sum(x) => {
             let p = find(env, sp, x) + 2;
@@ -122,11 +132,11 @@ fn choose(form: Form, at: Operands, env: &[u32]) -> Transducer
     let q = at.second;
     match form {
         Form::Const(z) => Transducer::Const(z),
-        Form::Plus(_, _) => Transducer::MapTwo(
-            Operation::Plus,
-            StreamId(env[p] as usize),
-            StreamId(env[q] as usize),
-        ),
+        Form::Truth(c) => Transducer::ConstBool(c),
+        Form::Operation(o, _, _) => {
+            Transducer::MapTwo(o, StreamId(env[p] as usize), StreamId(env[q] as usize))
+        }
+        Form::Negation(_) => Transducer::MapOneNot(StreamId(env[p] as usize)),
         Form::Sum(_) => Transducer::SumPlus(StreamId(env[p] as usize), StreamId(env[q] as usize)),
     }
 }
