@@ -13,9 +13,9 @@ use Rattle.snesl.specs.declared.refusal.Refusal.{Refusal}
 use Rattle.snesl.specs.declared.refusal.Refusal.the-variants.{NoRecord, OverLimit, TooMany}
 use Rattle.snesl.specs.Limits.{mostRecords}
 use Rattle.snesl.specs.Records as records
-use Rattle.snesl.specs.Records.{Raw, bind, each, Scanned, refused, scanned, headAt, absent, over, single, letting, eaching, scan, thenScan, tooDeep, counted}
+use Rattle.snesl.specs.Records.{Raw, bind, each, guard, Scanned, refused, scanned, headAt, absent, over, single, letting, eaching, guarding, scan, thenScan, tooDeep, counted}
 use Rattle.formula.specs.declared.read.Asks.{Asks}
-use Rattle.formula.specs.declared.read.Asks.the-variants.{Refused, Leaf, Let, Each}
+use Rattle.formula.specs.declared.read.Asks.the-variants.{Refused, Leaf, Let, Nested}
 use Rattle.formula.specs.declared.read.Scanned.the-variants as found
 use Rattle.formula.specs.Reading.{askedOf, oneMore, admitted, scannedOf}
 
@@ -32,7 +32,7 @@ module _ (levels k n : ℕ) where
   within (Refused r) h i = refl
   within (Leaf m) h i = room (Leaf m) h i
   within (Let m) h i = room (Let m) h i
-  within (Each m) h i = room (Each m) h i
+  within (Nested m) h i = room (Nested m) h i
 
   -- and past one of them none but a refusal
   pub full : (a : Asks) → (mostRecords ≤ n) ⊎ (levels ≤ 0) → Refused (TooMany k) ≡ oneMore levels k n a
@@ -58,7 +58,7 @@ module _ (t : List ℕ) (k n : ℕ) where
   After levels (Refused r) s = scannedOf s ≡ found.Refused r
   After levels (Leaf m) s = (n < mostRecords) × (scannedOf s ≡ found.Found m (n + 1))
   After levels (Let m) s = (n < mostRecords) × (0 < levels) × Both (levels - 1) m s
-  After levels (Each m) s = (n < mostRecords) × (0 < levels) × (scannedOf s ≡ scannedOf (scan (levels - 1) t m (n + 1)))
+  After levels (Nested m) s = (n < mostRecords) × (0 < levels) × (scannedOf s ≡ scannedOf (scan (levels - 1) t m (n + 1)))
 
   module _ (levels : ℕ) (x : Variable) where
     both :
@@ -90,6 +90,7 @@ module _ (t : List ℕ) (k n : ℕ) where
   none-left (single e b) = refl
   none-left (letting x) = refl
   none-left (eaching x y us b) = refl
+  none-left (guarding g us b) = refl
 
   one-more :
       (levels : ℕ) (a : Asks) (s : Scanned) → (n < mostRecords → After (suc levels) a s)
@@ -115,6 +116,15 @@ module _ (t : List ℕ) (k n : ℕ) where
       same : l ≡ suc l - 1
       same = omega arith
 
+      -- a record with one expression behind it, whatever it makes of that
+      nested :
+          (f : Raw → Raw) (b : ℕ)
+          → After (suc l) (oneMore (suc l) k n (Nested (k + b)))
+          (counted k n (thenScan (scan l t (k + b) (n + 1)) (λ e k₁ n₁. scanned (f e) k₁ n₁)))
+      nested f b =
+          one-more l (Nested (k + b)) _
+          (λ i. (i, omega arith, then-end (scan l t (k + b) (n + 1)) f ∙ ap (λ z. scannedOf (scan z t (k + b) (n + 1))) same))
+
       go :
           (h : records.Head)
           → After (suc l) (admitted (suc l) k n (askedOf k h))
@@ -128,16 +138,16 @@ module _ (t : List ℕ) (k n : ℕ) where
                 (λ e₁ k₁ n₁. thenScan (scan l t k₁ n₁) (λ e₂ k₂ n₂. scanned (bind k x e₁ e₂) k₂ n₂)))
             | eaching x y us b ↦
                 counted k n (thenScan (scan l t (k + b) (n + 1)) (λ e k₁ n₁. scanned (each k x y us e) k₁ n₁))
+            | guarding g us b ↦
+                counted k n (thenScan (scan l t (k + b) (n + 1)) (λ e k₁ n₁. scanned (guard k g us e) k₁ n₁))
           ])
       go absent = refl
       go over = refl
       go (single e b) = one-more l (Leaf (k + b)) _ (λ i. (i, refl))
       go (letting x) =
           one-more l (Let (k + 3)) _ (λ i. (i, omega arith, both-at same (both l x (k + 3))))
-      go (eaching x y us b) =
-          one-more l (Each (k + b)) _
-          (λ i.
-          (i, omega arith, then-end (scan l t (k + b) (n + 1)) (each k x y us) ∙ ap (λ z. scannedOf (scan z t (k + b) (n + 1))) same))
+      go (eaching x y us b) = nested (each k x y us) b
+      go (guarding g us b) = nested (guard k g us) b
 
   -- the same of answers that are equal to these
   pub scan-by : (levels : ℕ) {a b : Asks} → b ≡ askedOf k (headAt t k) → a ≡ admitted levels k n b → After levels a (scan levels t k n)

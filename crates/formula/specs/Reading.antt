@@ -32,7 +32,8 @@ askedOf k records.absent = asks.Refused (NoRecord k)
 askedOf k records.over = asks.Refused (OverLimit k)
 askedOf k (records.single e b) = asks.Leaf (k + b)
 askedOf k (records.letting x) = asks.Let (k + 3)
-askedOf k (records.eaching x y us b) = asks.Each (k + b)
+askedOf k (records.eaching x y us b) = asks.Nested (k + b)
+askedOf k (records.guarding g us b) = asks.Nested (k + b)
 
 -- one more record at k, unless there are as many records or nestings as are allowed
 abbrev pub oneMore : (levels k n : ℕ) → Asks → Asks
@@ -42,7 +43,7 @@ abbrev pub admitted : (levels k n : ℕ) → Asks → Asks
 admitted levels k n (asks.Refused r) = asks.Refused r
 admitted levels k n (asks.Leaf m) = oneMore levels k n (asks.Leaf m)
 admitted levels k n (asks.Let m) = oneMore levels k n (asks.Let m)
-admitted levels k n (asks.Each m) = oneMore levels k n (asks.Each m)
+admitted levels k n (asks.Nested m) = oneMore levels k n (asks.Nested m)
 
 abbrev pub scannedOf : records.Scanned → Scanned
 scannedOf (records.refused r) = scanned.Refused r

@@ -16,12 +16,12 @@ ghost use Rattle.snesl.specs.Records.{headAt, inputsAt, textsAt, frontOf, readF
 ghost use Rattle.snesl.specs.Records as records;
 ghost use Rattle.formula.specs.Reading.{askedOf, admitted, scannedOf, entryAt, declaredOf, textAt, textsOf, formulaOf, jobOf};
 
-// What the record at a position asks: nothing behind it, two expressions behind a LT, one behind an EA; each with the position behind the record.
+// What the record at a position asks: nothing behind it, two expressions behind a LT, one behind an EA or a GU; each with the position behind the record.
 enum Asks {
     Refused(Refusal),
     Leaf(usize),
     Let(usize),
-    Each(usize),
+    Nested(usize),
 }
 
 // An expression's end, and how many records have been read with it.
@@ -73,11 +73,14 @@ fn asked(bytes: &[u8], k: usize) -> Asks
         Head::Absent => Asks::Refused(Refusal::NoRecord(k)),
         Head::Over => Asks::Refused(Refusal::OverLimit(k)),
         Head::Let(_) => Asks::Let(k + 3),
-        Head::Each(_, _, listed) => Asks::Each(k + (5 + listed)),
+        Head::Each(_, _, listed) => Asks::Nested(k + (5 + listed)),
+        Head::Guard(_, listed) => Asks::Nested(k + (4 + listed)),
         Head::Const(_) => Asks::Leaf(k + 6),
-        Head::Plus(_, _) => Asks::Leaf(k + 4),
+        Head::Operation(_, _, _) => Asks::Leaf(k + 4),
         Head::Var(_) => Asks::Leaf(k + 3),
+        Head::Truth(_) => Asks::Leaf(k + 3),
         Head::Iota(_) => Asks::Leaf(k + 3),
+        Head::Negation(_) => Asks::Leaf(k + 3),
         Head::Sum(_) => Asks::Leaf(k + 3),
     }
 }
@@ -95,7 +98,7 @@ fn admit(asks: Asks, k: usize, n: usize, levels: usize) -> Asks
         Asks::Refused(refusal) => Asks::Refused(refusal),
         Asks::Leaf(_) => Asks::Refused(Refusal::TooMany(k)),
         Asks::Let(_) => Asks::Refused(Refusal::TooMany(k)),
-        Asks::Each(_) => Asks::Refused(Refusal::TooMany(k)),
+        Asks::Nested(_) => Asks::Refused(Refusal::TooMany(k)),
     }
 }
 
@@ -110,7 +113,7 @@ fn scan(bytes: &[u8], k: usize, n: usize, levels: usize) -> Scanned
             Scanned::Refused(refusal) => Scanned::Refused(refusal),
             Scanned::Found(body, count) => scan(bytes, body, count, levels - 1),
         },
-        Asks::Each(next) => scan(bytes, next, n + 1, levels - 1),
+        Asks::Nested(next) => scan(bytes, next, n + 1, levels - 1),
     }
 }
 

@@ -1,7 +1,7 @@
 -- Past a limit every record is refused, and within both nothing changes.
 use mathlib.Core.Logic.{⊎-elim, inl, inr}
 use mathlib.Core.Path.{sym, ap, _∙_}
-use Rattle.formula.specs.declared.read.Asks.the-variants.{Leaf, Let, Each}
+use Rattle.formula.specs.declared.read.Asks.the-variants.{Leaf, Let, Nested}
 use Rattle.formula.specs.Reading.{admitted}
 use Rattle.formula.proofs.Scanning.{within, full}
 use borrow.Author.Needs.{needs}
