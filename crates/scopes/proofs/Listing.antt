@@ -4,18 +4,19 @@ use mathlib.Core.Bool.{Bool, true, false, _&&_, _||_, not}
 use mathlib.Core.List.{List, [], _∷_}
 use mathlib.Core.Path.{_≡_, refl, sym, ap, ap₂, _∙_}
 use native.Mathlib.Omega.{arith}
-use lib.Dec.{leb}
+use lib.Dec.{eqb, leb}
 use lib.ListN.{length, take, drop}
 use lib.Seq.{take-take, drop-drop, drop-at}
 use borrow.Author.Tests.{eq-eqb, ne-eqb, lt-ltb, le-ltb, le-leb, lt-leb}
 use Rattle.snesl.specs.declared.code.Variable.{Variable}
-use Rattle.snesl.specs.Checking.{same, names}
+use Rattle.snesl.specs.Checking.{names}
 use Rattle.snesl.specs.Records.{variableAt, variablesAt}
 use Rattle.snesl.specs.declared.refusal.Refusal.the-variants.{Unbound, WrongType}
 use Rattle.scopes.specs.declared.scope.Kind.{Kind}
 use Rattle.scopes.specs.declared.scope.Kind.the-variants.{Missing, Word}
 use Rattle.scopes.specs.Scopes.{scope, wordIn, Pushed}
-use Rattle.scopes.specs.UsingLists.{isBoundIn, isScalarIn, firstUsable, usableIn, scalarsIn, wordFound, listedWords, Listed, Body, stop as stopped, inside, sequenceIn, eachIn, Inside}
+use Rattle.scopes.specs.UsingLists.{isBoundIn, isScalarIn, firstUsable, usableIn, eachUsable, scalarsIn, wordFound, listedWords}
+use Rattle.scopes.specs.UsingLists.{Listed, Body, stop as stopped, inside, sequenceIn, eachIn, boolIn, guardIn, Inside}
 use Rattle.records.proofs.Variables.{length-variables}
 
 module _ (t : List ℕ) where
@@ -84,32 +85,32 @@ unfolding names
 names-none u = refl
 
 -- the first variable of a list, by its tests in turn
-module _ (w : List ℕ) (x u : Variable) (us : List Variable) where
-  pub first-missing : wordIn (u .0) w ≡ Missing → false ≡ firstUsable w x u us
-  first-missing e = sym (ap (λ k. isBoundIn k && (not (same x u) && not (names u us))) e)
+module _ (w : List ℕ) (u : Variable) (us : List Variable) where
+  pub first-missing : wordIn (u .0) w ≡ Missing → false ≡ firstUsable w u us
+  first-missing e = sym (ap (λ k. isBoundIn k && not (names u us)) e)
 
-  module _ (d : ℕ) (e : wordIn (u .0) w ≡ Word d) where
-    bound : firstUsable w x u us ≡ (not (same x u) && not (names u us))
-    bound = ap (λ k. isBoundIn k && (not (same x u) && not (names u us))) e
+  pub first-once : (d : ℕ) → wordIn (u .0) w ≡ Word d → (b : Bool) → names u us ≡ b → not b ≡ firstUsable w u us
+  first-once d e b q = sym (ap (λ k. isBoundIn k && not (names u us)) e ∙ ap not q)
 
-    pub first-x : x .0 ≡ u .0 → false ≡ firstUsable w x u us
-    first-x q = sym (bound ∙ ap (λ b. not b && not (names u us)) (eq-eqb (x .0) (u .0) q))
-
-    pub first-once : (x .0 ≡ u .0 → ⊥) → (b : Bool) → names u us ≡ b → not b ≡ firstUsable w x u us
-    first-once n b q = sym (bound ∙ (ap (λ b. not b && not (names u us)) (ne-eqb (x .0) (u .0) n) ∙ ap not q))
-
-module _ (w : List ℕ) (x : Variable) where
-  pub usable-on : (u : Variable) (us : List Variable) → firstUsable w x u us ≡ true → usableIn w x (u ∷ us) ≡ usableIn w x us
+module _ (w : List ℕ) where
+  pub usable-on : (u : Variable) (us : List Variable) → firstUsable w u us ≡ true → usableIn w (u ∷ us) ≡ usableIn w us
   unfolding usableIn
-  usable-on u us e = ap (λ b. b && usableIn w x us) e
+  usable-on u us e = ap (λ b. b && usableIn w us) e
 
-  pub usable-off : (u : Variable) (us : List Variable) → firstUsable w x u us ≡ false → usableIn w x (u ∷ us) ≡ false
+  pub usable-off : (u : Variable) (us : List Variable) → firstUsable w u us ≡ false → usableIn w (u ∷ us) ≡ false
   unfolding usableIn
-  usable-off u us e = ap (λ b. b && usableIn w x us) e
+  usable-off u us e = ap (λ b. b && usableIn w us) e
 
-  pub usable-none : usableIn w x [] ≡ true
+  pub usable-none : usableIn w [] ≡ true
   unfolding usableIn
   usable-none = refl
+
+  -- an EA's list
+  pub each-off : (x : Variable) (us : List Variable) → usableIn w us ≡ false → false ≡ eachUsable w x us
+  each-off x us e = sym (ap (λ b. b && not (names x us)) e)
+
+  pub each-on : (x : Variable) (us : List Variable) → usableIn w us ≡ true → (b : Bool) → names x us ≡ b → not b ≡ eachUsable w x us
+  each-on x us e b q = sym (ap (λ b. b && not (names x us)) e ∙ ap not q)
 
 module _ (w : List ℕ) where
   pub scalars-on : (u : Variable) (us : List Variable) (d : ℕ) → wordIn (u .0) w ≡ Word d → d < 2 → scalarsIn w (u ∷ us) ≡ scalarsIn w us
@@ -204,7 +205,7 @@ module _ (t : List ℕ) (at count sp floor : ℕ) (old : List ℕ) where
 -- an EA record up to its body, by its tests in turn
 module _ (w : List ℕ) (p : ℕ) (x y : Variable) (us : List Variable) where
   abbrev of-kind : Kind → Body
-  of-kind k = elim (isBoundIn k && usableIn w x us) [ true ↦ sequenceIn w p x us k | false ↦ stopped (Unbound p) ]
+  of-kind k = elim (isBoundIn k && eachUsable w x us) [ true ↦ sequenceIn w p x us k | false ↦ stopped (Unbound p) ]
 
   of-y : {k : Kind} → wordIn (y .0) w ≡ k → eachIn w p x y us ≡ of-kind k
   unfolding eachIn
@@ -214,13 +215,13 @@ module _ (w : List ℕ) (p : ℕ) (x y : Variable) (us : List Variable) where
   each-unbound e = of-y e
 
   module _ (d : ℕ) (e : wordIn (y .0) w ≡ Word d) where
-    by-names : {b : Bool} → usableIn w x us ≡ b → eachIn w p x y us ≡ elim b [ true ↦ sequenceIn w p x us (Word d) | false ↦ stopped (Unbound p) ]
+    by-names : {b : Bool} → eachUsable w x us ≡ b → eachIn w p x y us ≡ elim b [ true ↦ sequenceIn w p x us (Word d) | false ↦ stopped (Unbound p) ]
     by-names q = of-y e ∙ ap (λ (b : Bool). elim b as (λ z. Body) [ true ↦ sequenceIn w p x us (Word d) | false ↦ stopped (Unbound p) ]) q
 
-    pub each-unusable : usableIn w x us ≡ false → eachIn w p x y us ≡ stopped (Unbound p)
+    pub each-unusable : eachUsable w x us ≡ false → eachIn w p x y us ≡ stopped (Unbound p)
     each-unusable q = by-names q
 
-    module _ (q : usableIn w x us ≡ true) where
+    module _ (q : eachUsable w x us ≡ true) where
       by-types :
           {b c : Bool} → leb 2 d ≡ b → scalarsIn w us ≡ c
           → eachIn w p x y us ≡ elim (b && c) [ true ↦ inside (x .0 ∷ (d - 2) ∷ listedWords w us) | false ↦ stopped (WrongType p) ]
@@ -247,6 +248,39 @@ module _ (w : List ℕ) (p : ℕ) (x y : Variable) (us : List Variable) where
             below = m .below ∙ less-below mid old r top (omega (arith, m .at)) (l .below);
             words = m .words ∙ ap (λ z. x .0 ∷ (d - 2) ∷ z) (l .words);
           }
+
+-- a GU record up to its body, by its tests in turn
+module _ (w : List ℕ) (p : ℕ) (g : Variable) (us : List Variable) where
+  abbrev guard-kind : Kind → Body
+  guard-kind k = elim (isBoundIn k && usableIn w us) [ true ↦ boolIn w p us k | false ↦ stopped (Unbound p) ]
+
+  of-g : {k : Kind} → wordIn (g .0) w ≡ k → guardIn w p g us ≡ guard-kind k
+  unfolding guardIn
+  of-g e = ap guard-kind e
+
+  pub guard-unbound : wordIn (g .0) w ≡ Missing → guardIn w p g us ≡ stopped (Unbound p)
+  guard-unbound e = of-g e
+
+  module _ (d : ℕ) (e : wordIn (g .0) w ≡ Word d) where
+    guard-names : {b : Bool} → usableIn w us ≡ b → guardIn w p g us ≡ elim b [ true ↦ boolIn w p us (Word d) | false ↦ stopped (Unbound p) ]
+    guard-names q = of-g e ∙ ap (λ (b : Bool). elim b as (λ z. Body) [ true ↦ boolIn w p us (Word d) | false ↦ stopped (Unbound p) ]) q
+
+    pub guard-unusable : usableIn w us ≡ false → guardIn w p g us ≡ stopped (Unbound p)
+    guard-unusable q = guard-names q
+
+    module _ (q : usableIn w us ≡ true) where
+      guard-type : {b : Bool} → eqb d 1 ≡ b → guardIn w p g us ≡ elim b [ true ↦ inside (listedWords w us) | false ↦ stopped (WrongType p) ]
+      guard-type u =
+          guard-names q
+          ∙ ap (λ (b : Bool). elim b as (λ z. Body) [ true ↦ inside (listedWords w us) | false ↦ stopped (WrongType p) ]) u
+
+      pub guard-other : (d ≡ 1 → ⊥) → guardIn w p g us ≡ stopped (WrongType p)
+      guard-other n = guard-type (ne-eqb d 1 n)
+
+      pub guard-inside :
+          d ≡ 1 → {sp r : ℕ} {old new : List ℕ} → Listed (listedWords w us) sp old new r → Inside (guardIn w p g us) sp old new r
+      guard-inside h l =
+          record { pairs = listedWords w us; is = guard-type (eq-eqb d 1 h); at = l .at; below = l .below; words = l .words }
 
 -- below the listed variables there is room for x
 pub room-left :

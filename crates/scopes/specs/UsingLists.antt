@@ -1,15 +1,15 @@
 -- A using list, and the scope of its body, over scopes as the code holds them (Scopes.antt): only types are kept. Crate checking's proofs/Judging.antt
--- shows that this is what snesl's `check` does at an EA.
+-- shows that this is what snesl's `check` does at an EA and at a GU.
 use Prim.Native.Nat.{ℕ, _+_, _-_}
 use mathlib.Core.Bool.{Bool, true, false, _&&_, not}
 use mathlib.Core.List.{List, [], _∷_, _++_}
 use mathlib.Core.Path.{_≡_}
-use lib.Dec.{leb, ltb}
+use lib.Dec.{eqb, leb, ltb}
 use lib.ListN.{length, take, drop}
 use Rattle.snesl.specs.declared.code.Variable.{Variable}
 use Rattle.snesl.specs.declared.refusal.Refusal.{Refusal}
 use Rattle.snesl.specs.declared.refusal.Refusal.the-variants.{Unbound, WrongType}
-use Rattle.snesl.specs.Checking.{same, names}
+use Rattle.snesl.specs.Checking.{names}
 use Rattle.scopes.specs.declared.scope.Kind.{Kind}
 use Rattle.scopes.specs.declared.scope.Kind.the-variants.{Missing, Word}
 use Rattle.scopes.specs.declared.listed.Prepared.{Prepared}
@@ -24,13 +24,17 @@ abbrev pub isScalarIn : Kind → Bool
 isScalarIn Missing = false
 isScalarIn (Word d) = ltb d 2
 
--- the first of some listed variables is bound, is not x, and is not listed again
-abbrev pub firstUsable : List ℕ → Variable → Variable → List Variable → Bool
-firstUsable w x u us = isBoundIn (wordIn (u .0) w) && (not (same x u) && not (names u us))
+-- the first of some listed variables is bound, and is not listed again
+abbrev pub firstUsable : List ℕ → Variable → List Variable → Bool
+firstUsable w u us = isBoundIn (wordIn (u .0) w) && not (names u us)
 
-unfoldable pub usableIn : List ℕ → Variable → List Variable → Bool
-usableIn w x [] = true
-usableIn w x (u ∷ us) = firstUsable w x u us && usableIn w x us
+unfoldable pub usableIn : List ℕ → List Variable → Bool
+usableIn w [] = true
+usableIn w (u ∷ us) = firstUsable w u us && usableIn w us
+
+-- an EA's list: none of it is x either
+abbrev pub eachUsable : List ℕ → Variable → List Variable → Bool
+eachUsable w x us = usableIn w us && not (names x us)
 
 unfoldable pub scalarsIn : List ℕ → List Variable → Bool
 scalarsIn w [] = true
@@ -51,7 +55,7 @@ pub record Listed (pairs : List ℕ) (sp : ℕ) (old new : List ℕ) (r : ℕ) :
   pub below : take r new ≡ take r old
   pub words : drop r new ≡ pairs ++ drop sp old
 
--- an EA record up to its body: a refusal, or the body's scope
+-- an EA or GU record up to its body: a refusal, or the body's scope
 pub data Body : Type 0 where
   stop : Refusal → Body
   inside : List ℕ → Body
@@ -63,8 +67,17 @@ sequenceIn w p x us (Word d) =
 
 unfoldable pub eachIn : List ℕ → (place : ℕ) → (x y : Variable) → List Variable → Body
 eachIn w p x y us =
-    elim (isBoundIn (wordIn (y .0) w) && usableIn w x us)
+    elim (isBoundIn (wordIn (y .0) w) && eachUsable w x us)
     [ true ↦ sequenceIn w p x us (wordIn (y .0) w) | false ↦ stop (Unbound p) ]
+
+-- a guard's body has the listed variables alone, of whatever type
+abbrev pub boolIn : List ℕ → (place : ℕ) → List Variable → Kind → Body
+boolIn w p us Missing = stop (Unbound p)
+boolIn w p us (Word d) = elim (eqb d 1) [ true ↦ inside (listedWords w us) | false ↦ stop (WrongType p) ]
+
+unfoldable pub guardIn : List ℕ → (place : ℕ) → (g : Variable) → List Variable → Body
+guardIn w p g us =
+    elim (isBoundIn (wordIn (g .0) w) && usableIn w us) [ true ↦ boolIn w p us (wordIn (g .0) w) | false ↦ stop (Unbound p) ]
 
 -- the body's scope stands below sp, and all else is as it was
 pub record Inside (b : Body) (sp : ℕ) (old new : List ℕ) (r : ℕ) : Type 0 where

@@ -1,7 +1,8 @@
-// A comprehension's using list, and the scope of its body: x and the listed variables, nothing else.
+// A comprehension's using list, and the scope of its body: the listed variables and an EA's x, nothing else.
 use crate::scope::Kind;
 use crate::scope::look;
 use crate::scope::push;
+use crate::types::BOOL;
 use crate::types::BRACES;
 use snesl::code::Variable;
 use snesl::refusal::Refusal;
@@ -12,9 +13,9 @@ ghost use lib.ListN.{length, drop};
 ghost use Rattle.snesl.specs.Checking.{names};
 ghost use Rattle.snesl.specs.Records.{variableAt, variablesAt};
 ghost use Rattle.scopes.specs.Scopes.{scope};
-ghost use Rattle.scopes.specs.UsingLists.{firstUsable, usableIn, scalarsIn, wordFound, listedWords, Listed, eachIn, Prepares};
+ghost use Rattle.scopes.specs.UsingLists.{firstUsable, usableIn, eachUsable, scalarsIn, wordFound, listedWords, Listed, eachIn, guardIn, Prepares};
 
-// What an EA record says before its body: a refusal, or where the body's scope starts; its floor is the scope outside.
+// What an EA or GU record says before its body: a refusal, or where the body's scope starts; its floor is the scope outside.
 pub enum Prepared {
     Refused(Refusal),
     Scope(usize),
@@ -36,26 +37,15 @@ fn named(bytes: &[u8], from: usize, count: usize, u: Variable) -> bool
     false
 }
 
-// Is the first of `left` listed variables bound, not x, and not listed again?
-fn first_usable(
-    bytes: &[u8],
-    at: usize,
-    left: usize,
-    env: &[u8],
-    x: Variable,
-    sp: usize,
-    floor: usize,
-) -> bool
+// Is the first of `left` listed variables bound, and not listed again?
+fn first_usable(bytes: &[u8], at: usize, left: usize, env: &[u8], sp: usize, floor: usize) -> bool
     requires { ⌜ (0 < left) × (at + left ≤ length (now bytes)) ⌝ ∗ ⌜ (sp ≤ floor) × (floor ≤ length (now env)) ⌝ }
-    ensures { λ r. ⌜ r ≡ firstUsable (scope sp floor (now (env .entry))) x (variableAt (now (bytes .entry)) at) (variablesAt (now (bytes .entry)) (at + 1) (left - 1)) ⌝ }
+    ensures { λ r. ⌜ r ≡ firstUsable (scope sp floor (now (env .entry))) (variableAt (now (bytes .entry)) at) (variablesAt (now (bytes .entry)) (at + 1) (left - 1)) ⌝ }
 {
     let u = Variable(bytes[at]);
     match look(env, u, sp, floor) {
         Kind::Missing => false,
         Kind::Word(_) => {
-            if x.0 == u.0 {
-                return false;
-            }
             if named(bytes, at + 1, left - 1, u) {
                 return false;
             }
@@ -64,8 +54,24 @@ fn first_usable(
     }
 }
 
-// Is each listed variable bound, once, and not x?
-fn usable(
+// Is each listed variable bound, and listed once?
+fn usable(bytes: &[u8], at: usize, count: usize, env: &[u8], sp: usize, floor: usize) -> bool
+    requires { ⌜ at + count ≤ length (now bytes) ⌝ ∗ ⌜ (sp ≤ floor) × (floor ≤ length (now env)) ⌝ }
+    ensures { λ r. ⌜ r ≡ usableIn (scope sp floor (now (env .entry))) (variablesAt (now (bytes .entry)) at count) ⌝ }
+{
+    let mut i = 0;
+    while i < count {
+        if first_usable(bytes, at + i, count - i, env, sp, floor) {
+            i += 1;
+        } else {
+            return false;
+        }
+    }
+    true
+}
+
+// The same of an EA's list: none of them is x.
+fn each_usable(
     bytes: &[u8],
     at: usize,
     count: usize,
@@ -75,17 +81,15 @@ fn usable(
     floor: usize,
 ) -> bool
     requires { ⌜ at + count ≤ length (now bytes) ⌝ ∗ ⌜ (sp ≤ floor) × (floor ≤ length (now env)) ⌝ }
-    ensures { λ r. ⌜ r ≡ usableIn (scope sp floor (now (env .entry))) x (variablesAt (now (bytes .entry)) at count) ⌝ }
+    ensures { λ r. ⌜ r ≡ eachUsable (scope sp floor (now (env .entry))) x (variablesAt (now (bytes .entry)) at count) ⌝ }
 {
-    let mut i = 0;
-    while i < count {
-        if first_usable(bytes, at + i, count - i, env, x, sp, floor) {
-            i += 1;
-        } else {
+    if usable(bytes, at, count, env, sp, floor) {
+        if named(bytes, at, count, x) {
             return false;
         }
+        return true;
     }
-    true
+    false
 }
 
 // Is each listed variable a scalar?
@@ -161,12 +165,39 @@ pub fn prepare(
     match look(env, y, sp, floor) {
         Kind::Missing => Prepared::Refused(Refusal::Unbound(k)),
         Kind::Word(word) => {
-            if usable(bytes, k + 5, listed, env, x, sp, floor) {
+            if each_usable(bytes, k + 5, listed, env, x, sp, floor) {
                 if BRACES <= word {
                     if scalars(bytes, k + 5, listed, env, sp, floor) {
                         let top = push_listed(bytes, k + 5, listed, env, sp, floor);
                         return Prepared::Scope(push(env, top, x, word - BRACES));
                     }
+                }
+                return Prepared::Refused(Refusal::WrongType(k));
+            }
+            Prepared::Refused(Refusal::Unbound(k))
+        }
+    }
+}
+
+// The GU record at k, up to its body.
+pub fn prepare_guard(
+    bytes: &[u8],
+    k: usize,
+    g: Variable,
+    listed: usize,
+    env: &mut [u8],
+    sp: usize,
+    floor: usize,
+) -> Prepared
+    requires { ⌜ k + (4 + listed) ≤ length (now bytes) ⌝ ∗ ⌜ (2 * listed ≤ sp) × (sp ≤ floor) × (floor ≤ length (now env)) ⌝ }
+    ensures { λ r. ⌜ Prepares (guardIn (scope sp floor (now (env .entry))) k g (variablesAt (now (bytes .entry)) (k + 4) listed)) sp (now (env .entry)) (now (env .exit)) r ⌝ }
+{
+    match look(env, g, sp, floor) {
+        Kind::Missing => Prepared::Refused(Refusal::Unbound(k)),
+        Kind::Word(word) => {
+            if usable(bytes, k + 4, listed, env, sp, floor) {
+                if word == BOOL {
+                    return Prepared::Scope(push_listed(bytes, k + 4, listed, env, sp, floor));
                 }
                 return Prepared::Refused(Refusal::WrongType(k));
             }

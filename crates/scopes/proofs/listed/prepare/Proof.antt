@@ -14,11 +14,11 @@ enum-told c = c .match .keys1
 enum-known-word : tie.Need-enum-known-word
 enum-known-word c = c .match .keys2
 
-add-usable : tie.Need-add-usable
-add-usable c = omega arith
+add-each-usable : tie.Need-add-each-usable
+add-each-usable c = omega arith
 
-usable-requires : tie.Need-usable-requires
-usable-requires c κs = omega arith
+each-usable-requires : tie.Need-each-usable-requires
+each-usable-requires c κs = omega arith
 
 add-scalars : tie.Need-add-scalars
 add-scalars c = omega arith
@@ -39,19 +39,19 @@ same-length : tie.Need-same-length
 same-length c = c .before .before .push .kept .0 ∙ c .before .before .before .before .before .before .push-listed .kept .1 .1 .1 .0
 
 returns : tie.Need-returns
-returns c = each-inside _ _ _ _ _ _ (sym (c .before .before .before .before .before .before .before .before .before .before .before .before .before .before .before .before .before .before .look .ensures) ∙ c .before .before .before .before .before .before .before .before .before .before .before .before .before .before .before .before .word .given .1) (sym (c .before .before .before .before .before .before .before .before .before .before .before .before .before .usable .ensures) ∙ c .before .before .before .before .before .before .before .before .before .before .before .before .if1 .taken) (c .before .before .before .before .before .before .before .before .before .before .before .if2 .taken) (sym (c .before .before .before .before .before .before .before .before .before .scalars .ensures) ∙ c .before .before .before .before .before .before .before .before .if3 .taken) (c .before .before .before .before .before .before .push-listed .ensures) (c .before .before .push .ensures)
+returns c = each-inside _ _ _ _ _ _ (sym (c .before .before .before .before .before .before .before .before .before .before .before .before .before .before .before .before .before .before .look .ensures) ∙ c .before .before .before .before .before .before .before .before .before .before .before .before .before .before .before .before .word .given .1) (sym (c .before .before .before .before .before .before .before .before .before .before .before .before .before .each-usable .ensures) ∙ c .before .before .before .before .before .before .before .before .before .before .before .before .if1 .taken) (c .before .before .before .before .before .before .before .before .before .before .before .if2 .taken) (sym (c .before .before .before .before .before .before .before .before .before .scalars .ensures) ∙ c .before .before .before .before .before .before .before .before .if3 .taken) (c .before .before .before .before .before .before .push-listed .ensures) (c .before .before .push .ensures)
 
 same-length-2 : tie.Need-same-length-2
 same-length-2 c = refl
 
 returns-2 : tie.Need-returns-2
-returns-2 c = record { is = each-types _ _ _ _ _ _ (sym (c .before .before .before .before .before .before .before .before .before .before .look .ensures) ∙ c .before .before .before .before .before .before .before .before .word .given .1) (sym (c .before .before .before .before .before .usable .ensures) ∙ c .before .before .before .before .if1 .taken) (c .before .before .before .if2 .taken) (sym (c .before .scalars .ensures) ∙ c .if3 .left); kept = refl }
+returns-2 c = record { is = each-types _ _ _ _ _ _ (sym (c .before .before .before .before .before .before .before .before .before .before .look .ensures) ∙ c .before .before .before .before .before .before .before .before .word .given .1) (sym (c .before .before .before .before .before .each-usable .ensures) ∙ c .before .before .before .before .if1 .taken) (c .before .before .before .if2 .taken) (sym (c .before .scalars .ensures) ∙ c .if3 .left); kept = refl }
 
 same-length-3 : tie.Need-same-length-3
 same-length-3 c = refl
 
 returns-3 : tie.Need-returns-3
-returns-3 c = record { is = each-scalar _ _ _ _ _ _ (sym (c .before .before .before .before .before .before .before .look .ensures) ∙ c .before .before .before .before .before .word .given .1) (sym (c .before .before .usable .ensures) ∙ c .before .if1 .taken) (c .if2 .left); kept = refl }
+returns-3 c = record { is = each-scalar _ _ _ _ _ _ (sym (c .before .before .before .before .before .before .before .look .ensures) ∙ c .before .before .before .before .before .word .given .1) (sym (c .before .before .each-usable .ensures) ∙ c .before .if1 .taken) (c .if2 .left); kept = refl }
 
 same-length-4 : tie.Need-same-length-4
 same-length-4 c = refl
@@ -63,7 +63,7 @@ same-length-5 : tie.Need-same-length-5
 same-length-5 c = refl
 
 returns-5 : tie.Need-returns-5
-returns-5 c = record { is = each-unusable _ _ _ _ _ _ (sym (c .before .before .before .before .before .before .look .ensures) ∙ c .before .before .before .before .word .given .1) (sym (c .before .usable .ensures) ∙ c .if1 .left); kept = refl }
+returns-5 c = record { is = each-unusable _ _ _ _ _ _ (sym (c .before .before .before .before .before .before .look .ensures) ∙ c .before .before .before .before .word .given .1) (sym (c .before .each-usable .ensures) ∙ c .if1 .left); kept = refl }
 
 pub prepare-spec : {M : Type 1} → statement M
 prepare-spec =
@@ -72,8 +72,8 @@ prepare-spec =
     look-requires
     enum-told
     enum-known-word
-    add-usable
-    usable-requires
+    add-each-usable
+    each-usable-requires
     add-scalars
     scalars-requires
     add-push-listed

@@ -10,10 +10,10 @@ use Rattle.scopes.proofs.listed.usable.Statement.{statement}
 use Rattle.scopes.proofs.listed.usable.Tie as tie
 
 abbrev Inv-loop : tie.InvT-loop
-Inv-loop bytes at count env x sp floor i₀ i = Passing bytes (usableIn (scope sp floor env) x) at count i
+Inv-loop bytes at count env sp floor i₀ i = Passing bytes (usableIn (scope sp floor env)) at count i
 
 abbrev μ-loop : tie.MeasureT-loop
-μ-loop bytes at count env x sp floor i₀ i = count - i
+μ-loop bytes at count env sp floor i₀ i = count - i
 
 loop-holds : tie.Need-loop-holds Inv-loop μ-loop
 loop-holds c = start _ _ _ _
@@ -34,13 +34,13 @@ loop-less : tie.Need-loop-less Inv-loop μ-loop
 loop-less c = omega arith
 
 loop-again : tie.Need-loop-again Inv-loop μ-loop
-loop-again c = turn _ _ _ _ (c .before .before .before .loop .inv) (c .before .before .loop-test .taken) (usable-on _ _ _ _ (sym (c .before .first-usable .ensures) ∙ c .if1 .taken))
+loop-again c = turn _ _ _ _ (c .before .before .before .loop .inv) (c .before .before .loop-test .taken) (usable-on _ _ _ (sym (c .before .first-usable .ensures) ∙ c .if1 .taken))
 
 returns : tie.Need-returns Inv-loop μ-loop
-returns c = stop _ _ _ _ (c .before .before .before .loop .inv) (c .before .before .loop-test .taken) false (usable-off _ _ _ _ (sym (c .before .first-usable .ensures) ∙ c .if1 .left))
+returns c = stop _ _ _ _ (c .before .before .before .loop .inv) (c .before .before .loop-test .taken) false (usable-off _ _ _ (sym (c .before .first-usable .ensures) ∙ c .if1 .left))
 
 returns-2 : tie.Need-returns-2 Inv-loop μ-loop
-returns-2 c = sym (usable-none _ _) ∙ done _ _ _ _ (c .before .loop .inv) (c .loop-test .left)
+returns-2 c = sym (usable-none _) ∙ done _ _ _ _ (c .before .loop .inv) (c .loop-test .left)
 
 pub usable-spec : {M : Type 1} → statement M
 usable-spec =
