@@ -5,3 +5,5 @@ pub mod Data
 pub mod Levels
 pub mod Surveys
 pub mod Items
+pub mod Ones
+pub mod All

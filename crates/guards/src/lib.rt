@@ -7,7 +7,11 @@ ghost use Rattle.snesl.specs.declared.code.Base.{Base};
 ghost use Rattle.snesl.specs.Trees.{Tree, leaf, node};
 ghost use Rattle.snesl.specs.Machine.{State};
 ghost use Rattle.sink.specs.Sinks.{Sink};
+ghost use Rattle.snesl.specs.Records.{byteAt};
+ghost use Rattle.guards.specs.Lists.{Chosen, Enters, Lists, AllBinds};
 ghost use Rattle.guards.specs.Packs.{Puts, Placed, Packs, Ends, Levels, Opened};
+use environment::find;
+use environment::put_name;
 use leaves::make;
 use leaves::push;
 use sink::openings::begin_survey;
@@ -18,6 +22,7 @@ use sink::words::MODE;
 use snesl::code::Instruction;
 use snesl::code::StreamId;
 use snesl::code::Transducer;
+use snesl::code::Variable;
 use snesl::refusal::Refusal;
 use steps::Executed;
 use steps::Operands;
@@ -33,6 +38,19 @@ pub struct Packing {
 
 pub enum Packed {
     Whole,
+    Stopped(Refusal),
+}
+
+// Where the environment starts that lists are looked up in, where the place of the guard's bools stands, and where the lowest entry is to stand.
+pub struct Guarding {
+    pub sp: usize,
+    pub bools: usize,
+    pub base: usize,
+}
+
+// Where the entry of a listed variable ends.
+pub enum Bound {
+    Until(usize),
     Stopped(Refusal),
 }
 
@@ -121,7 +139,13 @@ fn pack_level(
 }
 
 // Where a listing is wanted, the line that opens the WithCtrl over a packing: it is surveyed first, under no units, so that nothing is executed.
-fn survey_items(p: Packing, env: &mut [u32], buf: &mut [i32], state: &mut [usize], text: &mut [u8])
+fn survey_items(
+    p: Packing,
+    env: &mut [u32],
+    buf: &mut [i32],
+    state: &mut [usize],
+    text: &mut [u8],
+)
     requires { ⌜ ((d : ℕ) × (t : Tree ℕ d) × (b : ℕ) × (c : Base) × (m : State) × (k : Sink) × Packs p t b c m k (now env) (now buf) (now state) (now text)) ⌝ }
     ensures { λ _. ⌜ ((d : ℕ) (t : Tree ℕ d) (b : ℕ) (c : Base) (m : State) (k : Sink) → Packs p t b c m k (now (env .entry)) (now (buf .entry)) (now (state .entry)) (now (text .entry)) → Opened p t b m k (now (env .entry)) (now (env .exit)) (now (buf .entry)) (now (buf .exit)) (now (state .exit)) (now (text .exit))) ⌝ }
 {
@@ -196,4 +220,66 @@ fn pack(
         }
         Executed::Stopped(r) => Packed::Stopped(r),
     }
+}
+
+// The listed variable u packed, with its entry at `to`.
+fn pack_one(
+    u: Variable,
+    to: usize,
+    q: Guarding,
+    n: usize,
+    env: &mut [u32],
+    buf: &mut [i32],
+    state: &mut [usize],
+    text: &mut [u8],
+) -> Bound
+    requires { ⌜ Chosen u to q (now env) (now buf) (now state) (now text) ⌝ }
+    ensures { λ r. ⌜ ((g : Chosen u to q (now (env .entry)) (now (buf .entry)) (now (state .entry)) (now (text .entry))) → Enters g n (now (env .exit)) (now (buf .exit)) (now (state .exit)) (now (text .exit)) r) ⌝ }
+{
+    let p = find(env, q.sp, u);
+    let depth = env[p + 1] as usize;
+    put_name(env, to, u, depth);
+    let tree = Packing {
+        depth: depth,
+        from: p + 2,
+        to: to + 2,
+        bools: q.bools,
+        low: q.base,
+    };
+    match pack(tree, n, env, buf, state, text) {
+        Packed::Whole => Bound::Until(to + 5 + 3 * depth),
+        Packed::Stopped(r) => Bound::Stopped(r),
+    }
+}
+
+// Each of the `count` variables listed from byte `at` on, in the order listed: the first has the lowest entry.
+fn pack_listed(
+    bytes: &[u8],
+    at: usize,
+    q: Guarding,
+    n: usize,
+    env: &mut [u32],
+    buf: &mut [i32],
+    state: &mut [usize],
+    text: &mut [u8],
+) -> Packed
+    requires { ⌜ Lists (now bytes) (at + 1) (byteAt (now bytes) at) (q .base) q (now env) (now buf) (now state) (now text) ⌝ }
+    ensures { λ r. ⌜ ((g : Lists (now (bytes .entry)) (at + 1) (byteAt (now (bytes .entry)) at) (q .base) q (now (env .entry)) (now (buf .entry)) (now (state .entry)) (now (text .entry))) → AllBinds (g .guarded) (g .list) n (q .base) (now (env .exit)) (now (buf .exit)) (now (state .exit)) (now (text .exit)) r) ⌝ }
+{
+    let mut left = bytes[at] as usize;
+    let mut k = at + 1;
+    let mut to = q.base;
+    while 0 < left {
+        match pack_one(Variable(bytes[k]), to, q, n, env, buf, state, text) {
+            Bound::Until(next) => {
+                left -= 1;
+                k += 1;
+                to = next;
+            }
+            Bound::Stopped(r) => {
+                return Packed::Stopped(r);
+            }
+        }
+    }
+    Packed::Whole
 }
