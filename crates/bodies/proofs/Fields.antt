@@ -10,7 +10,7 @@ use Rattle.snesl.specs.Records.{byteAt, variableAt, variablesAt, headAt}
 use Rattle.records.specs.declared.head.Head.the-variants.{Let, Each}
 use Rattle.records.specs.declared.head.Shape.{Shape}
 use Rattle.records.specs.Heads.{headOf}
-use Rattle.records.proofs.Heads.{Reading, none, beyond, aVar, aLet, aConst, anIota, aPlus, aSum, anEach, reading}
+use Rattle.records.proofs.Heads.{Reading, none, beyond, aVar, aLet, aConst, aTruth, anIota, anOperation, aNegation, aSum, anEach, aGuard, reading}
 use Rattle.records.proofs.Variables.{length-variables}
 
 pub let-field : (t : List ℕ) (k : ℕ) (x : Variable) → Let x ≡ headOf (headAt t k) → x ≡ variableAt t (k + 2)
@@ -22,10 +22,13 @@ let-field t k x e = go (reading t k) e
     go (aVar p l) q = never (cc)
     go (aLet p l) q = cc
     go (aConst p l) q = never (cc)
+    go (aTruth p c f l) q = never (cc)
     go (anIota p l) q = never (cc)
-    go (aPlus p l) q = never (cc)
+    go (anOperation o p l) q = never (cc)
+    go (aNegation p l) q = never (cc)
     go (aSum p l) q = never (cc)
     go (anEach p j f l i) q = never (cc)
+    go (aGuard p j f l i) q = never (cc)
 
 pub each-fields : (t : List ℕ) (k : ℕ) (x y : Variable) (n : ℕ) → Each x y n ≡ headOf (headAt t k)
     → (x ≡ variableAt t (k + 2)) × (y ≡ variableAt t (k + 3)) × (n ≡ byteAt t (k + 4))
@@ -38,11 +41,14 @@ each-fields t k x y n e = go (reading t k) e
     go (aVar p l) q = never (cc)
     go (aLet p l) q = never (cc)
     go (aConst p l) q = never (cc)
+    go (aTruth p c f l) q = never (cc)
     go (anIota p l) q = never (cc)
-    go (aPlus p l) q = never (cc)
+    go (anOperation o p l) q = never (cc)
+    go (aNegation p l) q = never (cc)
     go (aSum p l) q = never (cc)
     go (anEach p j f l i) q =
         let one : x ≡ variableAt t (k + 2) = cc in
         let two : y ≡ variableAt t (k + 3) = cc in
         let three : n ≡ length (variablesAt t (k + 5) j) = cc in
         (one, two, three ∙ (length-variables t (k + 5) j ∙ f))
+    go (aGuard p j f l i) q = never (cc)

@@ -124,7 +124,7 @@ pub record Each (t : List ℕ) (k sp : ℕ) (env : List ℕ) (buf : List ℤ) (s
   pub short : length t ≤ mostBytes
   pub shallow : depthOf type < mostDepth
   pub space : 3 + 5 * byteAt t (k + 4) + (treeSize (depthOf inside) + 2) + words body ≤ sp
-  pub few : length (scene .machine .store) + 2 * (length t - k) ≤ mostStreams
+  pub few : length (scene .machine .store) + 25 * (length t - k) ≤ mostStreams
 
 -- the trees of the body's environment
 abbrev pub innerTrees : {t : List ℕ} {k sp : ℕ} {env : List ℕ} {buf : List ℤ} {state text : List ℕ} → (g : Each t k sp env buf state text)
