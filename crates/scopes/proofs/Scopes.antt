@@ -29,7 +29,7 @@ module _ (env : List ℕ) where
       ∙ (ap (λ l. getD env i 0 ∷ l) (drop-cons env (suc i) 0 (omega arith))
       ∙ ap₂ (λ a b. getD env i 0 ∷ getD env a 0 ∷ drop b env) one two)
 
-  scope-pair :
+  pub scope-pair :
       (i floor : ℕ) → 2 ≤ floor - i → floor ≤ length env
       → scope i floor env ≡ getD env i 0 ∷ getD env (i + 1) 0 ∷ scope (i + 2) floor env
   scope-pair i floor h l =
