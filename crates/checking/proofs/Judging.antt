@@ -10,15 +10,17 @@ use lib.ListN.{length}
 use borrow.Author.Tests.{le-leb, le-ltb, ne-eqb}
 use Rattle.snesl.specs.declared.code.Base.{Base}
 use Rattle.snesl.specs.declared.code.Base.the-variants as base
+use Rattle.snesl.specs.declared.code.Operation.{Operation}
 use Rattle.snesl.specs.declared.code.Variable.{Variable}
 use Rattle.snesl.specs.declared.refusal.Refusal.the-variants.{Unbound, WrongType}
 use Rattle.snesl.specs.Limits.{mostDepth}
-use Rattle.snesl.specs.Values.{ValueType, scalar, braces, int, depthOf}
+use Rattle.snesl.specs.Values.{ValueType, scalar, braces, int, bool, depthOf, resultOf}
 use Rattle.snesl.specs.Terms as terms
-use Rattle.snesl.specs.Terms.{_∋_, here, Term, Scalars, anyType, listedTypes, All, ∅, _▹_}
+use Rattle.snesl.specs.Terms.{_∋_, here, Term, Listing, Scalars, anyType, listedTypes, All, ∅, _▹_}
 use Rattle.snesl.specs.Records as records
 use Rattle.snesl.specs.Records.{Raw, Input}
 use Rattle.snesl.specs.Checking as checking
+use Rattle.snesl.specs.Checking.{asBool, NamedListing, anyFirst, listedAny, anyPointers, anyNames}
 use Rattle.snesl.specs.Checking.{Name, same, Found, missing, found, later, find, isBound, asScalar, asInt, asSequence, asInts, names, usable, NamedScalars, listedFirst, listedScalars, pointers, listedNames, Typed, refused, typed, demand, typedIf, typedSequence, typedThen, turned, inputType, inputNames, repeated, checkInputs}
 use Rattle.scopes.specs.declared.scope.Kind.{Kind}
 use Rattle.scopes.specs.declared.scope.Kind.the-variants as kind
@@ -30,13 +32,14 @@ use Rattle.checking.specs.declared.check.Judged.{Judged}
 use Rattle.checking.specs.declared.check.Judged.the-variants as judged
 use Rattle.scopes.specs.TypeWords.{wordOf}
 use Rattle.scopes.specs.Scopes.{wordIn}
-use Rattle.scopes.specs.UsingLists.{isBoundIn, isScalarIn, firstUsable, usableIn, scalarsIn, wordFound, listedWords, Body, stop, inside, sequenceIn, eachIn}
+use Rattle.scopes.specs.UsingLists.{isBoundIn, isScalarIn, firstUsable, usableIn, eachUsable, scalarsIn, wordFound, listedWords, Body, stop, inside, sequenceIn, eachIn}
+use Rattle.scopes.specs.UsingLists.{boolIn, guardIn}
 use Rattle.environment.specs.Words.{treeSize}
-use Rattle.environment.specs.Needs.{bindingSize, bodySize, words}
+use Rattle.environment.specs.Needs.{bindingSize, bodySize, listedSize, spreadSize, words}
 use Rattle.scopes.proofs.TypeWords.{half-is}
 use Rattle.checking.specs.Types.{toldBy}
 use Rattle.checking.proofs.Telling.{told-is}
-use Rattle.checking.specs.Checks.{checkedOf, checkFront, judgedOf, judgeFront, Judgement, refuses, gives, varIn, wantIn, plusIn, sized, thenTyped, bodyThen, bound, closed, newest, judge, Entry, again, entered, enterFirst, enterIn}
+use Rattle.checking.specs.Checks.{checkedOf, checkFront, judgedOf, judgeFront, Judgement, refuses, gives, varIn, wantIn, bothIn, resultWord, sized, thenTyped, bodyThen, bound, closed, guarded, pairsSize, newest, judge, Entry, again, entered, enterFirst, enterIn}
 
 -- the pairs of a scope
 unfoldable pub spelled : {Γ : List ValueType} → All Name Γ → List ℕ
@@ -107,20 +110,30 @@ module _ {Γ : List ValueType} (p : ℕ) where
   sum-is (found (braces (scalar base.Bool)) v) = refl
   sum-is (found (braces (braces τ)) v) = ap (word-if p 0) (braces-braces τ)
 
-  plus-is :
-      (f g : Found Γ)
-      → sized (plusIn p (kindOf f) (kindOf g))
+  negation-is :
+      (f : Found Γ)
+      → sized (wantIn p 1 1 (kindOf f)) ≡ judgementOf (demand (isBound f) (Unbound p) (typedIf p (asBool (asScalar f)) (λ v. typed bool (terms.negation v))))
+  unfolding words
+  negation-is missing = refl
+  negation-is (found (scalar base.Int) v) = refl
+  negation-is (found (scalar base.Bool) v) = refl
+  negation-is (found (braces τ) v) = ap (word-if p 1) (braces-scalar τ 1 (omega arith))
+
+  operation-is :
+      (o : Operation) (f g : Found Γ)
+      → sized (bothIn p (resultWord o) (kindOf f) (kindOf g))
       ≡ judgementOf
       (demand (isBound f && isBound g) (Unbound p)
-      (typedIf p (asInt (asScalar f)) (λ v. typedIf p (asInt (asScalar g)) (λ w. typed int (terms.plus v w)))))
+      (typedIf p (asInt (asScalar f)) (λ v. typedIf p (asInt (asScalar g)) (λ w. typed (scalar (resultOf o)) (terms.operation o v w)))))
   unfolding words
-  plus-is missing g = refl
-  plus-is (found τ v) missing = refl
-  plus-is (found (scalar base.Int) v) (found (scalar base.Int) w) = refl
-  plus-is (found (scalar base.Int) v) (found (scalar base.Bool) w) = refl
-  plus-is (found (scalar base.Int) v) (found (braces υ) w) = ap (word-if p 0) (braces-scalar υ 0 (omega arith))
-  plus-is (found (scalar base.Bool) v) (found υ w) = refl
-  plus-is (found (braces τ) v) (found υ w) = ap (λ b. word-if p 0 (b && eqb (wordOf υ) 0)) (braces-scalar τ 0 (omega arith))
+  operation-is o missing g = refl
+  operation-is o (found τ v) missing = refl
+  operation-is o (found (scalar base.Int) v) (found (scalar base.Int) w) = ap (λ d. gives (resultWord o) (treeSize d)) (half-is (scalar (resultOf o)))
+  operation-is o (found (scalar base.Int) v) (found (scalar base.Bool) w) = refl
+  operation-is o (found (scalar base.Int) v) (found (braces υ) w) = ap (word-if p (resultWord o)) (braces-scalar υ 0 (omega arith))
+  operation-is o (found (scalar base.Bool) v) (found υ w) = refl
+  operation-is o (found (braces τ) v) (found υ w) =
+      ap (λ b. word-if p (resultWord o) (b && eqb (wordOf υ) 0)) (braces-scalar τ 0 (omega arith))
 
 -- ---- a using list
 
@@ -132,19 +145,46 @@ and-assoc : (a b c : Bool) → ((a && b) && c) ≡ (a && (b && c))
 and-assoc true b c = refl
 and-assoc false b c = refl
 
+and-false : (a : Bool) → (a && false) ≡ false
+and-false true = refl
+and-false false = refl
+
+-- the words of the listed variables
+names-size : {Γ : List ValueType} (l : NamedListing Γ) → pairsSize (spelled (anyNames l)) ≡ listedSize (anyPointers l)
+unfolding pairsSize spelled anyNames listedSize
+names-size [] = refl
+names-size (p ∷ l) = ap₂ (λ d n. bindingSize d + n) (half-is (p .1 .0)) (names-size l)
+
 -- a scalar's number is below 2
 scalar-below : (b : Base) → ltb (wordOf (scalar b)) 2 ≡ true
 scalar-below base.Int = refl
 scalar-below base.Bool = refl
 
 module _ {Γ : List ValueType} (scope : All Name Γ) where
-  usable-is : (x : Variable) (us : List Variable) → usableIn (spelled scope) x us ≡ usable scope x us
+  usable-is : (us : List Variable) → usableIn (spelled scope) us ≡ usable scope us
   unfolding usableIn usable
-  usable-is x [] = refl
-  usable-is x (u ∷ us) =
-      and-assoc (isBoundIn (wordIn (u .0) (spelled scope))) (not (same x u) && not (names u us)) (usableIn (spelled scope) x us)
-      ∙ (ap (λ b. isBoundIn (wordIn (u .0) (spelled scope)) && b) (and-assoc (not (same x u)) (not (names u us)) (usableIn (spelled scope) x us))
-      ∙ ap₂ (λ a b. a && (not (same x u) && (not (names u us) && b))) (ap isBoundIn (word-is u scope) ∙ bound-is (find u scope)) (usable-is x us))
+  usable-is [] = refl
+  usable-is (u ∷ us) =
+      and-assoc (isBoundIn (wordIn (u .0) (spelled scope))) (not (names u us)) (usableIn (spelled scope) us)
+      ∙ ap₂ (λ a b. a && (not (names u us) && b)) (ap isBoundIn (word-is u scope) ∙ bound-is (find u scope)) (usable-is us)
+
+  -- variables of any type: they are all there where they are usable, and then their scope is theirs
+  abbrev Any : List Variable → Option (NamedListing Γ) → Type 0
+  Any us none = usable scope us ≡ false
+  Any us (some l) = spelled (anyNames l) ≡ listedWords (spelled scope) us
+
+  any-first :
+      (u : Variable) (us : List Variable) (f : Found Γ) → find u scope ≡ f → (o : Option (NamedListing Γ)) → Any us o → Any (u ∷ us) (anyFirst u f o)
+  unfolding usable listedWords anyNames spelled
+  any-first u us missing e o h = ap (λ z. isBound z && (not (names u us) && usable scope us)) e
+  any-first u us (found τ v) e none h =
+      ap (λ z. isBound z && (not (names u us) && usable scope us)) e ∙ (ap (λ b. not (names u us) && b) h ∙ and-false (not (names u us)))
+  any-first u us (found τ v) e (some l) h = ap₂ (λ d z. u .0 ∷ d ∷ z) (sym (ap wordFound (word-is u scope ∙ ap kindOf e))) h
+
+  any-are : (us : List Variable) → Any us (listedAny scope us)
+  unfolding usable listedAny listedWords anyNames spelled
+  any-are [] = refl
+  any-are (u ∷ us) = any-first u us (find u scope) refl (listedAny scope us) (any-are us)
 
   -- the listed variables are all scalars, and then their scope is theirs, and they are as many
   abbrev AllScalars : List Variable → Option (NamedScalars Γ) → Type 0
@@ -229,13 +269,13 @@ module _
   each-is :
       bodyThen (eachIn (spelled scope) p x y us) body
       ≡ judgementOf
-      (demand (isBound (find y scope) && usable scope x us) (Unbound p)
+      (demand (isBound (find y scope) && (usable scope us && not (names x us))) (Unbound p)
       (typedSequence p (asSequence (find y scope)) (λ υ v. typedIf p (listedScalars scope us) (within v))))
   unfolding eachIn
   each-is =
       ap₂ (λ k u. bodyThen (elim (isBoundIn k && u) as (λ z. Body) [ true ↦ sequenceIn (spelled scope) p x us k | false ↦ stop (Unbound p) ]) body)
-      (word-is y scope) (usable-is scope x us)
-      ∙ go (find y scope) (usable scope x us)
+      (word-is y scope) (ap (λ b. b && not (names x us)) (usable-is scope us))
+      ∙ go (find y scope) (usable scope us && not (names x us))
     where
       last :
           (υ : ValueType) (v : Γ ∋ braces υ) (o : Option (NamedScalars Γ)) → AllScalars scope us o
@@ -260,6 +300,74 @@ module _
       go (found (scalar b) v) true = none-in b
       go (found (braces υ) v) true = last υ v (listedScalars scope us) (scalars-are scope us)
 
+guarded-is :
+    (p : ℕ) {Γ : List ValueType} (v : Γ ∋ bool) (us : Listing Γ) (τ : ValueType) (e : Term (listedTypes us) τ)
+    → guarded p (listedSize us) (wordOf τ) (words e)
+    ≡ judgementOf (demand (ltb (depthOf τ) mostDepth) (WrongType p) (typed (braces τ) (terms.guard v us e)))
+unfolding words
+guarded-is p v us τ e =
+    ap
+    (λ (d : ℕ).
+    elim (ltb d mostDepth) as (λ z. Judgement) [ true ↦ gives (wordOf τ + 2) (3 + (listedSize us + max spreadSize (words e))) | false ↦ refuses (WrongType p) ])
+    (half-is τ)
+    ∙ go (ltb (depthOf τ) mostDepth)
+  where
+    go :
+        (b : Bool)
+        → elim b [ true ↦ gives (wordOf τ + 2) (3 + (listedSize us + max spreadSize (words e))) | false ↦ refuses (WrongType p) ]
+        ≡ judgementOf (demand b (WrongType p) (typed (braces τ) (terms.guard v us e)))
+    go true = refl
+    go false = refl
+
+module _
+    {Γ : List ValueType} (scope : All Name Γ) (p : ℕ) (g : Variable) (us : List Variable) (e : Raw)
+    (inner : (Δ : List ValueType) (names : All Name Δ) → judge (spelled names) e ≡ judgementOf (checking.check names e)) where
+  abbrev guard-within : Γ ∋ bool → NamedListing Γ → Typed Γ
+  guard-within v l =
+      typedThen (checking.check (anyNames l) e)
+      (λ τ t. demand (ltb (depthOf τ) mostDepth) (WrongType p) (typed (braces τ) (terms.guard v (anyPointers l) t)))
+
+  abbrev guard-body : List ℕ → Judgement
+  guard-body w = thenTyped (judge w e) (guarded p (pairsSize w))
+
+  guard-body-is : (v : Γ ∋ bool) (l : NamedListing Γ) → guard-body (spelled (anyNames l)) ≡ judgementOf (guard-within v l)
+  guard-body-is v l =
+      ap₂ (λ z n. thenTyped z (guarded p n)) (inner (listedTypes (anyPointers l)) (anyNames l)) (names-size l)
+      ∙ bind-is (checking.check (anyNames l) e) (guarded p (listedSize (anyPointers l)))
+      (λ τ t. demand (ltb (depthOf τ) mostDepth) (WrongType p) (typed (braces τ) (terms.guard v (anyPointers l) t)))
+      (λ τ t. guarded-is p v (anyPointers l) τ t)
+
+  abbrev bool-if : Bool → Judgement
+  bool-if b = bodyThen (elim b as (λ z. Body) [ true ↦ inside (listedWords (spelled scope) us) | false ↦ stop (WrongType p) ]) guard-body
+
+  guard-is :
+      bodyThen (guardIn (spelled scope) p g us) guard-body
+      ≡ judgementOf
+      (demand (isBound (find g scope) && usable scope us) (Unbound p)
+      (typedIf p (asBool (asScalar (find g scope))) (λ v. typedIf p (listedAny scope us) (guard-within v))))
+  unfolding guardIn
+  guard-is =
+      ap₂ (λ k u. bodyThen (elim (isBoundIn k && u) as (λ z. Body) [ true ↦ boolIn (spelled scope) p us k | false ↦ stop (Unbound p) ]) guard-body)
+      (word-is g scope) (usable-is scope us)
+      ∙ go (find g scope) (usable scope us) refl
+    where
+      last :
+          (v : Γ ∋ bool) (o : Option (NamedListing Γ)) → usable scope us ≡ true → Any scope us o
+          → guard-body (listedWords (spelled scope) us) ≡ judgementOf (typedIf p o (guard-within v))
+      last v none q h = let z : true ≡ false = sym q ∙ h in let y : _≡_ {A = ℕ} 0 1 = cc in absurd (omega arith)
+      last v (some l) q h = ap guard-body (sym h) ∙ guard-body-is v l
+
+      go :
+          (f : Found Γ) (b : Bool) → usable scope us ≡ b
+          → bodyThen (elim (isBoundIn (kindOf f) && b) as (λ z. Body) [ true ↦ boolIn (spelled scope) p us (kindOf f) | false ↦ stop (Unbound p) ]) guard-body
+          ≡ judgementOf
+          (demand (isBound f && b) (Unbound p) (typedIf p (asBool (asScalar f)) (λ v. typedIf p (listedAny scope us) (guard-within v))))
+      go missing b q = refl
+      go (found τ v) false q = refl
+      go (found (scalar base.Int) v) true q = refl
+      go (found (scalar base.Bool) v) true q = last v (listedAny scope us) q (any-are scope us)
+      go (found (braces τ) v) true q = ap bool-if (braces-scalar τ 1 (omega arith))
+
 pub judge-is : {Γ : List ValueType} (scope : All Name Γ) (e : Raw) → judge (spelled scope) e ≡ judgementOf (checking.check scope e)
 unfolding judge checking.check spelled words
 judge-is scope (records.var p x) = ap (λ k. sized (varIn p k)) (word-is x scope) ∙ var-is p (find x scope)
@@ -272,10 +380,14 @@ judge-is {Γ} scope (records.bind p x e₁ e₂) =
     ∙ bind-is (checking.check (_▹_ {τ = υ} x scope) e₂) (bound (wordOf υ) (words t₁)) (λ τ t₂. typed τ (terms.bind t₁ t₂))
     (λ τ t₂. ap (λ c. gives (wordOf τ) (max (words t₁) (bindingSize c + words t₂))) (half-is υ)))
 judge-is scope (records.const p z) = refl
+judge-is scope (records.truth p c) = refl
 judge-is scope (records.iota p x) = ap (λ k. sized (wantIn p 0 2 k)) (word-is x scope) ∙ iota-is p (find x scope)
-judge-is scope (records.plus p x y) = ap₂ (λ k l. sized (plusIn p k l)) (word-is x scope) (word-is y scope) ∙ plus-is p (find x scope) (find y scope)
+judge-is scope (records.operation p o x y) =
+    ap₂ (λ k l. sized (bothIn p (resultWord o) k l)) (word-is x scope) (word-is y scope) ∙ operation-is p o (find x scope) (find y scope)
+judge-is scope (records.negation p x) = ap (λ k. sized (wantIn p 1 1 k)) (word-is x scope) ∙ negation-is p (find x scope)
 judge-is scope (records.sum p x) = ap (λ k. sized (wantIn p 2 0 k)) (word-is x scope) ∙ sum-is p (find x scope)
 judge-is scope (records.each p x y us e) = each-is scope p x y us e (λ Δ names. judge-is names e)
+judge-is scope (records.guard p g us e) = guard-is scope p g us e (λ Δ names. judge-is names e)
 
 -- ---- the inputs
 

@@ -1,4 +1,5 @@
 pub mod Turning
+pub mod Sizes
 pub mod Closing
 pub mod Walking
 pub mod Walks

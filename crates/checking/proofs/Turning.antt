@@ -8,7 +8,7 @@ use Rattle.snesl.specs.declared.refusal.Refusal.the-variants.{WrongType}
 use Rattle.checking.specs.declared.check.Single.{Single}
 use Rattle.checking.specs.declared.check.Single.the-variants.{Word, Refused}
 use Rattle.scopes.specs.declared.scope.Kind.the-variants as kind
-use Rattle.checking.specs.Checks.{wantIn, plusIn}
+use Rattle.checking.specs.Checks.{wantIn, bothIn}
 
 module _ (p wanted result d : ℕ) where
   by-test : {b : Bool} → eqb d wanted ≡ b → elim b [ true ↦ Word result | false ↦ Refused (WrongType p) ] ≡ wantIn p wanted result (kind.Word d)
@@ -20,18 +20,18 @@ module _ (p wanted result d : ℕ) where
   pub wanted-not : (d ≡ wanted → ⊥) → Refused (WrongType p) ≡ wantIn p wanted result (kind.Word d)
   wanted-not n = by-test (ne-eqb d wanted n)
 
-module _ (p a b : ℕ) where
+module _ (p result a b : ℕ) where
   by-tests :
       {m n : Bool} → eqb a 0 ≡ m → eqb b 0 ≡ n
-      → elim (m && n) [ true ↦ Word 0 | false ↦ Refused (WrongType p) ] ≡ plusIn p (kind.Word a) (kind.Word b)
+      → elim (m && n) [ true ↦ Word result | false ↦ Refused (WrongType p) ] ≡ bothIn p result (kind.Word a) (kind.Word b)
   by-tests e f =
-      sym (ap₂ (λ (m n : Bool). elim (m && n) as (λ z. Single) [ true ↦ Word 0 | false ↦ Refused (WrongType p) ]) e f)
+      sym (ap₂ (λ (m n : Bool). elim (m && n) as (λ z. Single) [ true ↦ Word result | false ↦ Refused (WrongType p) ]) e f)
 
-  pub both-ints : a ≡ 0 → b ≡ 0 → Word 0 ≡ plusIn p (kind.Word a) (kind.Word b)
+  pub both-ints : a ≡ 0 → b ≡ 0 → Word result ≡ bothIn p result (kind.Word a) (kind.Word b)
   both-ints e f = by-tests (eq-eqb a 0 e) (eq-eqb b 0 f)
 
-  pub second-none : a ≡ 0 → (b ≡ 0 → ⊥) → Refused (WrongType p) ≡ plusIn p (kind.Word a) (kind.Word b)
+  pub second-none : a ≡ 0 → (b ≡ 0 → ⊥) → Refused (WrongType p) ≡ bothIn p result (kind.Word a) (kind.Word b)
   second-none e n = by-tests (eq-eqb a 0 e) (ne-eqb b 0 n)
 
-  pub first-none : (a ≡ 0 → ⊥) → Refused (WrongType p) ≡ plusIn p (kind.Word a) (kind.Word b)
+  pub first-none : (a ≡ 0 → ⊥) → Refused (WrongType p) ≡ bothIn p result (kind.Word a) (kind.Word b)
   first-none n = by-tests (ne-eqb a 0 n) refl

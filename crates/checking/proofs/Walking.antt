@@ -11,7 +11,7 @@ use Rattle.snesl.specs.declared.refusal.Refusal.{Refusal}
 use Rattle.snesl.specs.declared.refusal.Refusal.the-variants.{NoRecord, OverLimit, TooMany}
 use Rattle.snesl.specs.Limits.{mostListed, mostRecords}
 use Rattle.snesl.specs.Records as records
-use Rattle.snesl.specs.Records.{Raw, bind, each, Scanned, refused, scanned, absent, over, single, letting, eaching, headAt, variableAt, variablesAt, scan, thenScan, tooDeep, counted}
+use Rattle.snesl.specs.Records.{Raw, bind, each, guard, Scanned, refused, scanned, absent, over, single, letting, eaching, guarding, headAt, variableAt, variablesAt, scan, thenScan, tooDeep, counted}
 use Rattle.checking.specs.declared.check.Single.{Single}
 use Rattle.checking.specs.declared.check.Single.the-variants.{Word, Refused}
 use Rattle.checking.specs.declared.check.Turn.{Turn}
@@ -19,9 +19,9 @@ use Rattle.checking.specs.declared.check.Turn.the-variants as turn
 use Rattle.records.specs.declared.head.Shape.{Shape}
 use Rattle.records.specs.Heads.{headOf}
 use Rattle.scopes.specs.Scopes.{scope, wordIn}
-use Rattle.checking.specs.Checks.{refuses, varIn, wantIn, plusIn, sized, judge, leafIn, turnIn}
+use Rattle.checking.specs.Checks.{refuses, varIn, wantIn, bothIn, resultWord, sized, judge, leafIn, turnIn}
 use Rattle.records.proofs.Variables.{length-variables}
-use Rattle.records.proofs.Heads.{Reading, none, beyond, aVar, aLet, aConst, anIota, aPlus, aSum, anEach, reading}
+use Rattle.records.proofs.Heads.{Reading, none, beyond, aVar, aLet, aConst, aTruth, anIota, anOperation, aNegation, aSum, anEach, aGuard, reading}
 
 module _ {e : Raw} {next after : ℕ} where
   never-deep : (k : ℕ) (h : records.Head) → tooDeep k h ≡ scanned e next after → ⊥
@@ -30,6 +30,7 @@ module _ {e : Raw} {next after : ℕ} where
   never-deep k (single f b) q = let z : _≡_ {A = ℕ} 0 1 = cc in omega arith
   never-deep k (letting x) q = let z : _≡_ {A = ℕ} 0 1 = cc in omega arith
   never-deep k (eaching x y us b) q = let z : _≡_ {A = ℕ} 0 1 = cc in omega arith
+  never-deep k (guarding g us b) q = let z : _≡_ {A = ℕ} 0 1 = cc in omega arith
 
   -- an expression that was scanned has a nesting of its own
   pub own-level : (levels : ℕ) (t : List ℕ) (k n : ℕ) → scan levels t k n ≡ scanned e next after → 0 < levels
@@ -65,6 +66,15 @@ pub record Eaches (t : List ℕ) (k levels count : ℕ) (e : Raw) (next after : 
   pub few : j ≤ mostListed
   pub deep : 2 ≤ levels
 
+-- a GU record's body
+pub record Guards (t : List ℕ) (k levels count : ℕ) (e : Raw) (next after : ℕ) (g : Variable) (j : ℕ) : Type 0 where
+  pub body : Raw
+  pub is : e ≡ guard k g (variablesAt t (k + 4) j) body
+  pub read : scan (levels - 1) t (k + (4 + j)) (count + 1) ≡ scanned body next after
+  pub fits : k + (4 + j) ≤ length t
+  pub few : j ≤ mostListed
+  pub deep : 2 ≤ levels
+
 less : (l : ℕ) → l ≡ suc l - 1
 less l = omega arith
 
@@ -78,6 +88,7 @@ module _ (t : List ℕ) (k : ℕ) (w : List ℕ) (count : ℕ) (e : Raw) (next a
   Turned levels (turn.Found m d) = (judge w e ≡ sized (Word d)) × (m ≡ next)
   Turned levels (turn.Let x) = Lets t k levels count e next after x
   Turned levels (turn.Each x y j) = Eaches t k levels count e next after x y j
+  Turned levels (turn.Guard g j) = Guards t k levels count e next after g j
 
   leaf-turned : (levels m : ℕ) (c : Single) → judge w e ≡ sized c → m ≡ next → Turned levels (leafIn m c)
   leaf-turned levels m (Refused r) p q = p
@@ -128,6 +139,22 @@ module _ (t : List ℕ) (k : ℕ) (w : List ℕ) (count : ℕ) (e : Raw) (next a
           deep = two l (own-level l t (k + (5 + j)) (count + 1) p);
         }
 
+    guard-read :
+        (g : Variable) (j : ℕ) → k + (4 + j) ≤ length t → j ≤ mostListed
+        → (s : Scanned) → scan l t (k + (4 + j)) (count + 1) ≡ s
+        → thenScan s (λ e₁ k₁ n₁. scanned (guard k g (variablesAt t (k + 4) j) e₁) k₁ n₁) ≡ scanned e next after
+        → Guards t k (suc l) count e next after g j
+    guard-read g j h f (refused r) p q = let z : _≡_ {A = ℕ} 0 1 = cc in absurd (omega arith)
+    guard-read g j h f (scanned e₁ k₁ n₁) p q =
+        record {
+          body = e₁;
+          is = cc;
+          read = ap (λ z. scan z t (k + (4 + j)) (count + 1)) (sym (less l)) ∙ cc;
+          fits = h;
+          few = f;
+          deep = two l (own-level l t (k + (4 + j)) (count + 1) p);
+        }
+
     turned-by :
         {m : ℕ} {s : Shape} {h : records.Head} → Reading t k m s h
         → elim h [
@@ -140,6 +167,8 @@ module _ (t : List ℕ) (k : ℕ) (w : List ℕ) (count : ℕ) (e : Raw) (next a
               (λ e₁ k₁ n₁. thenScan (scan l t k₁ n₁) (λ e₂ k₂ n₂. scanned (bind k x e₁ e₂) k₂ n₂)))
           | eaching x y us b ↦
               counted k count (thenScan (scan l t (k + b) (count + 1)) (λ e₁ k₁ n₁. scanned (each k x y us e₁) k₁ n₁))
+          | guarding g us b ↦
+              counted k count (thenScan (scan l t (k + b) (count + 1)) (λ e₁ k₁ n₁. scanned (guard k g us e₁) k₁ n₁))
         ]
         ≡ scanned e next after
         → Turned (suc l) (turnIn w k (headOf h))
@@ -156,15 +185,25 @@ module _ (t : List ℕ) (k : ℕ) (w : List ℕ) (count : ℕ) (e : Raw) (next a
     turned-by (anIota _ h) q =
         let r = leaf-read _ 3 q in
         leaf-turned (suc l) (k + 3) (wantIn k 0 2 (wordIn (variableAt t (k + 2) .0) w)) (ap (judge w) (r .0)) (r .1)
-    turned-by (aPlus _ h) q =
+    turned-by (anOperation o _ h) q =
         let r = leaf-read _ 4 q in
-        leaf-turned (suc l) (k + 4) (plusIn k (wordIn (variableAt t (k + 2) .0) w) (wordIn (variableAt t (k + 3) .0) w)) (ap (judge w) (r .0)) (r .1)
+        leaf-turned (suc l) (k + 4) (bothIn k (resultWord o) (wordIn (variableAt t (k + 2) .0) w) (wordIn (variableAt t (k + 3) .0) w))
+        (ap (judge w) (r .0)) (r .1)
+    turned-by (aNegation _ h) q =
+        let r = leaf-read _ 3 q in
+        leaf-turned (suc l) (k + 3) (wantIn k 1 1 (wordIn (variableAt t (k + 2) .0) w)) (ap (judge w) (r .0)) (r .1)
+    turned-by (aTruth _ c _ h) q =
+        let r = leaf-read _ 3 q in
+        (ap (judge w) (r .0), r .1)
     turned-by (aSum _ h) q =
         let r = leaf-read _ 3 q in
         leaf-turned (suc l) (k + 3) (wantIn k 2 0 (wordIn (variableAt t (k + 2) .0) w)) (ap (judge w) (r .0)) (r .1)
     turned-by (anEach _ j _ h f) q =
         subst (λ n. Turned (suc l) (turn.Each (variableAt t (k + 2)) (variableAt t (k + 3)) n)) (sym (length-variables t (k + 5) j))
         (each-read _ _ j h f (scan l t (k + (5 + j)) (count + 1)) refl (counted-in k count _ q))
+    turned-by (aGuard _ j _ h f) q =
+        subst (λ n. Turned (suc l) (turn.Guard (variableAt t (k + 2)) n)) (sym (length-variables t (k + 4) j))
+        (guard-read _ j h f (scan l t (k + (4 + j)) (count + 1)) refl (counted-in k count _ q))
 
   turned : (levels : ℕ) → scan levels t k count ≡ scanned e next after → Turned levels (turnIn w k (headOf (headAt t k)))
   unfolding scan

@@ -4,7 +4,7 @@ use mathlib.Core.Bool.{Bool, true, false, _&&_}
 use mathlib.Core.List.{List, [], _∷_, _++_}
 use mathlib.Core.Path.{_≡_, refl, sym, ap, ap₂, subst, _∙_}
 use native.Mathlib.Omega.{arith}
-use lib.Dec.{leb}
+use lib.Dec.{eqb, leb}
 use lib.ListN.{length, getD, take, drop, List·getD-append}
 use lib.Seq.{drop-drop, take-at, drop-at, getD-drop}
 use Rattle.snesl.specs.declared.code.Variable.{Variable}
@@ -21,13 +21,14 @@ use Rattle.scopes.specs.declared.scope.Kind.{Kind}
 use Rattle.scopes.specs.declared.scope.Kind.the-variants as kind
 use Rattle.records.specs.Heads.{headOf}
 use Rattle.scopes.specs.Scopes.{scope, wordIn, Pushed}
-use Rattle.scopes.specs.UsingLists.{Body, stop, inside, isBoundIn, usableIn, scalarsIn, listedWords, sequenceIn, eachIn, Inside, Stopped, Prepares}
+use Rattle.scopes.specs.UsingLists.{Body, stop, inside, isBoundIn, usableIn, eachUsable, scalarsIn, listedWords, sequenceIn, eachIn, boolIn, guardIn, Inside, Stopped, Prepares}
 use Rattle.environment.specs.Words.{treeSize}
-use Rattle.checking.specs.Checks.{Judgement, refuses, gives, thenTyped, bodyThen, bound, closed, newest, judge, turnIn, judgingOf, boundIn, closedIn, wordsOf, nestingBound, wordsBound, mostPushed, Judgeable, Judges}
+use Rattle.checking.specs.Checks.{Judgement, refuses, gives, thenTyped, bodyThen, bound, closed, guarded, pairsSize, newest, judge, turnIn, judgingOf, boundIn, closedIn}
+use Rattle.checking.specs.Checks.{guardedIn, wordsOf, listedBound, nestingBound, wordsBound, mostPushed, Judgeable, Judges}
 use Rattle.records.proofs.Variables.{length-variables}
 use Rattle.scopes.proofs.Listing.{length-words}
-use Rattle.checking.proofs.Closing.{bound-of, closed-of, bound-few, closed-few}
-use Rattle.checking.proofs.Walking.{own-level, Lets, Eaches, Turned, turned-is}
+use Rattle.checking.proofs.Closing.{bound-of, closed-of, guarded-of, bound-few, closed-few, guarded-few}
+use Rattle.checking.proofs.Walking.{own-level, Lets, Eaches, Guards, Turned, turned-is}
 
 -- ---- the stack
 
@@ -68,7 +69,7 @@ module _ {b : Body} {old new : List ℕ} {sp r : ℕ} (p : Inside b sp old new r
 -- a body's scope is x and the listed variables
 inside-length : (w : List ℕ) (k : ℕ) (x y : Variable) (us : List Variable) (v : List ℕ) → eachIn w k x y us ≡ inside v → length v ≡ 2 * (1 + length us)
 unfolding eachIn
-inside-length w k x y us v e = go (isBoundIn (wordIn (y .0) w) && usableIn w x us) (wordIn (y .0) w) e
+inside-length w k x y us v e = go (isBoundIn (wordIn (y .0) w) && eachUsable w x us) (wordIn (y .0) w) e
   where
     last : (d : ℕ) (b : Bool) → elim b [ true ↦ inside (x .0 ∷ (d - 2) ∷ listedWords w us) | false ↦ stop (WrongType k) ] ≡ inside v → length v ≡ 2 * (1 + length us)
     last d true e =
@@ -80,6 +81,23 @@ inside-length w k x y us v e = go (isBoundIn (wordIn (y .0) w) && usableIn w x u
     go : (b : Bool) (c : Kind) → elim b [ true ↦ sequenceIn w k x us c | false ↦ stop (Unbound k) ] ≡ inside v → length v ≡ 2 * (1 + length us)
     go true kind.Missing e = let z : _≡_ {A = ℕ} 0 1 = cc in absurd (omega arith)
     go true (kind.Word d) e = last d (leb 2 d && scalarsIn w us) e
+    go false c e = let z : _≡_ {A = ℕ} 0 1 = cc in absurd (omega arith)
+
+-- a guard's body has the listed variables alone
+guard-length : (w : List ℕ) (k : ℕ) (g : Variable) (us : List Variable) (v : List ℕ) → guardIn w k g us ≡ inside v → length v ≡ 2 * length us
+unfolding guardIn
+guard-length w k g us v e = go (isBoundIn (wordIn (g .0) w) && usableIn w us) (wordIn (g .0) w) e
+  where
+    last : (b : Bool) → elim b [ true ↦ inside (listedWords w us) | false ↦ stop (WrongType k) ] ≡ inside v → length v ≡ 2 * length us
+    last true e =
+        let q : listedWords w us ≡ v = cc in
+        let n = ap length (sym q) in
+        omega (arith, length-words w us)
+    last false e = let z : _≡_ {A = ℕ} 0 1 = cc in absurd (omega arith)
+
+    go : (b : Bool) (c : Kind) → elim b [ true ↦ boolIn w k us c | false ↦ stop (Unbound k) ] ≡ inside v → length v ≡ 2 * length us
+    go true kind.Missing e = let z : _≡_ {A = ℕ} 0 1 = cc in absurd (omega arith)
+    go true (kind.Word d) e = last (eqb d 1) e
     go false c e = let z : _≡_ {A = ℕ} 0 1 = cc in absurd (omega arith)
 
 -- ---- answers
@@ -273,4 +291,77 @@ module _ {t : List ℕ} {k levels : ℕ} {env : List ℕ} {sp floor : ℕ} (here
                   ∙ (closed-of (g .next) k c j (judge (s .pairs) (eaches g .body))
                   ∙ (ap₂ (λ a i. judgingOf (g .next) (thenTyped (judge (s .pairs) (eaches g .body)) (closed k a i))) of (sym (length-variables t (k + 5) j))
                   ∙ sym (ap (judgingOf (g .next)) (parted g ∙ ap (λ z. bodyThen z (inBody (eaches g .body))) (s .is))))));
+            }
+
+  -- GU: the body in a scope of its own
+  module _ {g : Variable} {j : ℕ} (p : turn.Guard g j ≡ turnIn (scope sp floor env) k (headOf (headAt t k))) where
+    guards : (h : Judgeable t k levels env sp floor) → Guards t k levels (h .count) (h .expression) (h .next) (h .after) g j
+    guards h = of-turn p h
+
+    pub guard-fits : (k + (4 + j) ≤ length t) × (2 ≤ levels) × (2 * j ≤ sp) × (j ≤ mostListed)
+    guard-fits = (guards here .fits, guards here .deep, omega (arith, guards here .deep, guards here .few, here .room), guards here .few)
+
+    abbrev inGuard : Raw → List ℕ → Judgement
+    inGuard e v = thenTyped (judge v e) (guarded k (pairsSize v))
+
+    guard-parted :
+        (h : Judgeable t k levels env sp floor)
+        → judge (scope sp floor env) (h .expression)
+        ≡ bodyThen (guardIn (scope sp floor env) k g (variablesAt t (k + 4) j)) (inGuard (guards h .body))
+    unfolding judge
+    guard-parted h = ap (judge (scope sp floor env)) (guards h .is)
+
+    pub guard-refused :
+        {mid : List ℕ} (f : Refusal) → Stopped (guardIn (scope sp floor env) k g (variablesAt t (k + 4) j)) env mid f
+        → Judges t k levels env sp floor mid (judging.Refused f)
+    guard-refused f s =
+        record {
+          above = ap (drop sp) (s .kept);
+          few = omega arith;
+          answer = λ h. sym (ap (judgingOf (h .next)) (guard-parted h ∙ ap (λ z. bodyThen z (inGuard (guards h .body))) (s .is)));
+        }
+
+    module _
+        {mid : List ℕ} {inner : ℕ} (s : Inside (guardIn (scope sp floor env) k g (variablesAt t (k + 4) j)) sp env mid inner)
+        (l : length mid ≡ length env) where
+      guard-pairs : length (s .pairs) ≡ 2 * j
+      guard-pairs =
+          let n = guard-length (scope sp floor env) k g (variablesAt t (k + 4) j) (s .pairs) (s .is) in
+          omega (arith, n, length-variables t (k + 4) j)
+
+      pub size-asked : (inner ≤ sp) × (sp ≤ length mid) × (sp ≤ inner + 2 * mostListed)
+      size-asked =
+          (omega (arith, s .at), omega (arith, here .order, here .high), omega (arith, s .at, guard-pairs, guards here .few))
+
+      pub guard-body : Judgeable t k levels env sp floor → Judgeable t (k + (4 + j)) (levels - 1) mid inner sp
+      guard-body h =
+          record {
+            count = h .count + 1;
+            expression = guards h .body;
+            next = h .next;
+            after = h .after;
+            read = guards h .read;
+            shallow = omega (arith, h .shallow);
+            room = omega (arith, h .room, s .at, guard-pairs, guards h .few);
+            order = omega (arith, s .at);
+            high = omega (arith, h .order, h .high);
+          }
+
+      module _ {last : List ℕ} {r : Judging} (v : Judges t (k + (4 + j)) (levels - 1) mid inner sp last r) where
+        guard-answer : (h : Judgeable t k levels env sp floor) → r ≡ judgingOf (h .next) (judge (s .pairs) (guards h .body))
+        unfolding guards guard-body
+        guard-answer h = v .answer (guard-body h) ∙ ap (λ z. judgingOf (h .next) (judge z (guards h .body))) (inside-scope s)
+
+        pub guard-judges :
+            {n : ℕ} → n ≡ pairsSize (scope inner sp mid) → n ≤ listedBound → Judges t k levels env sp floor last (guardedIn k n r)
+        guard-judges {n} e h =
+            record {
+              above = from-later inner sp last mid (omega (arith, s .at)) (v .above) ∙ inside-above s;
+              few = omega (arith, guarded-few k n r h (v .few), guards here .deep);
+              answer = λ q.
+                  (let of = e ∙ ap pairsSize (inside-scope s) in
+                  ap (guardedIn k n) (guard-answer q)
+                  ∙ (guarded-of (q .next) k n (judge (s .pairs) (guards q .body))
+                  ∙ (ap (λ z. judgingOf (q .next) (thenTyped (judge (s .pairs) (guards q .body)) (guarded k z))) of
+                  ∙ sym (ap (judgingOf (q .next)) (guard-parted q ∙ ap (λ z. bodyThen z (inGuard (guards q .body))) (s .is))))));
             }

@@ -9,7 +9,8 @@ use Rattle.snesl.specs.declared.refusal.Refusal.{Refusal}
 use Rattle.snesl.specs.declared.refusal.Refusal.the-variants.{NoRecord, OverLimit, Unbound, WrongType}
 use Rattle.snesl.specs.Limits.{mostDepth, mostListed, mostNesting, mostInputs}
 use Rattle.snesl.specs.Records as records
-use Rattle.snesl.specs.Values.{ValueType}
+use Rattle.snesl.specs.declared.code.Operation.{Operation}
+use Rattle.snesl.specs.Values.{ValueType, scalar, resultOf}
 use Rattle.snesl.specs.Checking as checking
 use Rattle.scopes.specs.declared.scope.Kind.{Kind}
 use Rattle.scopes.specs.declared.scope.Kind.the-variants as kind
@@ -29,10 +30,10 @@ use Rattle.checking.specs.declared.check.Opened.{Opened}
 use Rattle.checking.specs.declared.check.Opened.the-variants as opened
 use Rattle.scopes.specs.TypeWords.{wordOf}
 use Rattle.scopes.specs.Scopes.{scope, wordIn}
-use Rattle.scopes.specs.UsingLists.{Body, stop, inside, eachIn}
+use Rattle.scopes.specs.UsingLists.{Body, stop, inside, eachIn, guardIn}
 use Rattle.checking.specs.Types.{told}
 use Rattle.environment.specs.Words.{treeSize}
-use Rattle.environment.specs.Needs.{bindingSize, bodySize, words}
+use Rattle.environment.specs.Needs.{bindingSize, bodySize, spreadSize, words}
 
 -- what the public functions answer of snesl's check
 abbrev pub checkedOf : {Γ : List ValueType} → checking.Typed Γ → Checked
@@ -69,10 +70,13 @@ abbrev pub wantIn : (place wanted result : ℕ) → Kind → Single
 wantIn p wanted result kind.Missing = Refused (Unbound p)
 wantIn p wanted result (kind.Word d) = elim (eqb d wanted) [ true ↦ Word result | false ↦ Refused (WrongType p) ]
 
-abbrev pub plusIn : (place : ℕ) → Kind → Kind → Single
-plusIn p kind.Missing l = Refused (Unbound p)
-plusIn p (kind.Word a) kind.Missing = Refused (Unbound p)
-plusIn p (kind.Word a) (kind.Word b) = elim (eqb a 0 && eqb b 0) [ true ↦ Word 0 | false ↦ Refused (WrongType p) ]
+abbrev pub bothIn : (place result : ℕ) → Kind → Kind → Single
+bothIn p result kind.Missing l = Refused (Unbound p)
+bothIn p result (kind.Word a) kind.Missing = Refused (Unbound p)
+bothIn p result (kind.Word a) (kind.Word b) = elim (eqb a 0 && eqb b 0) [ true ↦ Word result | false ↦ Refused (WrongType p) ]
+
+abbrev pub resultWord : Operation → ℕ
+resultWord o = wordOf (scalar (resultOf o))
 
 -- its walk takes the tree of its result
 abbrev pub sized : Single → Judgement
@@ -95,6 +99,16 @@ bound c n d m = gives d (max n (bindingSize (c / 2) + m))
 abbrev pub closed : (place c listed : ℕ) → (d words : ℕ) → Judgement
 closed p c j d n = elim (ltb (d / 2) mostDepth) [ true ↦ gives (d + 2) (bodySize (c / 2) j + n) | false ↦ refuses (WrongType p) ]
 
+-- a guard whose listed variables take so many words, when its body is done
+abbrev pub guarded : (place size : ℕ) → (d words : ℕ) → Judgement
+guarded p s d n = elim (ltb (d / 2) mostDepth) [ true ↦ gives (d + 2) (3 + (s + max spreadSize n)) | false ↦ refuses (WrongType p) ]
+
+-- the words of a scope's variables, a binding for each
+unfoldable pub pairsSize : List ℕ → ℕ
+pairsSize [] = 0
+pairsSize (x ∷ []) = 0
+pairsSize (x ∷ d ∷ w) = bindingSize (d / 2) + pairsSize w
+
 -- the type of a scope's newest variable
 abbrev pub newest : List ℕ → ℕ
 newest w = getD w 1 0
@@ -103,10 +117,13 @@ unfoldable pub judge : List ℕ → records.Raw → Judgement
 judge w (records.var p x) = sized (varIn p (wordIn (x .0) w))
 judge w (records.bind p x e₁ e₂) = thenTyped (judge w e₁) (λ c n. thenTyped (judge (x .0 ∷ c ∷ w) e₂) (bound c n))
 judge w (records.const p z) = sized (Word 0)
+judge w (records.truth p c) = sized (Word 1)
 judge w (records.iota p x) = sized (wantIn p 0 2 (wordIn (x .0) w))
-judge w (records.plus p x y) = sized (plusIn p (wordIn (x .0) w) (wordIn (y .0) w))
+judge w (records.operation p o x y) = sized (bothIn p (resultWord o) (wordIn (x .0) w) (wordIn (y .0) w))
+judge w (records.negation p x) = sized (wantIn p 1 1 (wordIn (x .0) w))
 judge w (records.sum p x) = sized (wantIn p 2 0 (wordIn (x .0) w))
 judge w (records.each p x y us e) = bodyThen (eachIn w p x y us) (λ v. thenTyped (judge v e) (closed p (newest v) (length us)))
+judge w (records.guard p g us e) = bodyThen (guardIn w p g us) (λ v. thenTyped (judge v e) (guarded p (pairsSize v)))
 
 abbrev pub leafIn : (next : ℕ) → Single → Turn
 leafIn next (Refused r) = turn.Refused r
@@ -119,10 +136,13 @@ turnIn w k head.Over = turn.Refused (OverLimit k)
 turnIn w k (head.Var x) = leafIn (k + 3) (varIn k (wordIn (x .0) w))
 turnIn w k (head.Let x) = turn.Let x
 turnIn w k (head.Const z) = turn.Found (k + 6) 0
+turnIn w k (head.Truth c) = turn.Found (k + 3) 1
 turnIn w k (head.Iota x) = leafIn (k + 3) (wantIn k 0 2 (wordIn (x .0) w))
-turnIn w k (head.Plus x y) = leafIn (k + 4) (plusIn k (wordIn (x .0) w) (wordIn (y .0) w))
+turnIn w k (head.Operation o x y) = leafIn (k + 4) (bothIn k (resultWord o) (wordIn (x .0) w) (wordIn (y .0) w))
+turnIn w k (head.Negation x) = leafIn (k + 3) (wantIn k 1 1 (wordIn (x .0) w))
 turnIn w k (head.Sum x) = leafIn (k + 3) (wantIn k 2 0 (wordIn (x .0) w))
 turnIn w k (head.Each x y j) = turn.Each x y j
+turnIn w k (head.Guard g j) = turn.Guard g j
 
 abbrev pub judgingOf : (next : ℕ) → Judgement → Judging
 judgingOf next (refuses r) = judging.Refused r
@@ -137,13 +157,21 @@ abbrev pub closedIn : (place c listed : ℕ) → Judging → Judging
 closedIn p c j (judging.Refused r) = judging.Refused r
 closedIn p c j (judging.Found next d n) = judgingOf next (closed p c j d n)
 
+abbrev pub guardedIn : (place size : ℕ) → Judging → Judging
+guardedIn p s (judging.Refused r) = judging.Refused r
+guardedIn p s (judging.Found next d n) = judgingOf next (guarded p s d n)
+
 abbrev pub wordsOf : Judging → ℕ
 wordsOf (judging.Refused r) = 0
 wordsOf (judging.Found next d n) = n
 
 -- words that one nesting takes at most, where all that is known of a type is that it is a byte: enough to see that no sum of them is too large
+-- (a guard's listed variables take more than what an EA has before its body)
+abbrev pub listedBound : ℕ
+listedBound = mostListed * bindingSize 255
+
 abbrev pub nestingBound : ℕ
-nestingBound = bodySize 255 mostListed
+nestingBound = 3 + (listedBound + spreadSize)
 
 abbrev pub wordsBound : ℕ
 wordsBound = nestingBound * suc mostNesting

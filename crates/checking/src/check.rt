@@ -8,25 +8,28 @@ use records::head::Head;
 use records::head::head_at;
 use scopes::listed::Prepared;
 use scopes::listed::prepare;
+use scopes::listed::prepare_guard;
 use scopes::scope::Kind;
 use scopes::scope::look;
 use scopes::scope::push;
+use scopes::types::BOOL;
 use scopes::types::BRACES;
 use scopes::types::INT;
 use scopes::types::INTS;
 use scopes::types::word_of;
+use snesl::code::Operation;
 use snesl::code::Variable;
 use snesl::limits::Formula;
 use snesl::refusal::Refusal;
 ghost use mathlib.Core.Path.{_≡_};
-ghost use Prim.Native.Nat.{_*_, _≤_};
+ghost use Prim.Native.Nat.{_+_, _*_, _≤_};
 ghost use lib.ListN.{length};
 ghost use Rattle.snesl.specs.Limits.{mostInputs, mostListed};
 ghost use Rattle.snesl.specs.Records.{headAt, inputsAt, frontOf, readFormula};
 ghost use Rattle.records.specs.Heads.{headOf};
 ghost use Rattle.formula.specs.Reading.{formulaOf};
 ghost use Rattle.scopes.specs.Scopes.{scope};
-ghost use Rattle.checking.specs.Checks.{varIn, wantIn, plusIn, leafIn, turnIn, boundIn, closedIn, wordsOf, wordsBound, Judgeable, Judges, Declares, enteredBy, Enters, judgeFront, checkFront};
+ghost use Rattle.checking.specs.Checks.{varIn, wantIn, bothIn, resultWord, leafIn, turnIn, boundIn, closedIn, guardedIn, pairsSize, listedBound, wordsOf, wordsBound, Judgeable, Judges, Declares, enteredBy, Enters, judgeFront, checkFront};
 
 // What checking answers.
 pub enum Checked {
@@ -52,6 +55,7 @@ enum Turn {
     Found(usize, u8),
     Let(Variable),
     Each(Variable, Variable, usize),
+    Guard(Variable, usize),
 }
 
 // The position behind an expression, its type, and the words of its walk.
@@ -68,6 +72,9 @@ enum Opened {
 
 // The stack of the deepest check: a pair for each input, and for each nesting one for x and one for each listed variable.
 const STACK: usize = 2 * (Formula::INPUTS + Formula::NESTING * (1 + Formula::LISTED));
+
+// The words of the bools that packing spreads over the levels of a listed variable: three for each.
+const SPREAD: usize = 24;
 
 // A variable as an expression.
 fn variable(kind: Kind, k: usize) -> Single
@@ -95,9 +102,20 @@ fn want(kind: Kind, k: usize, wanted: u8, gives: u8) -> Single
     }
 }
 
+// The type of what an operation on two ints gives.
+fn result_of(operation: Operation) -> u8
+    ensures { λ r. ⌜ r ≡ resultWord operation ⌝ }
+{
+    match operation {
+        Operation::Plus => INT,
+        Operation::LessEqual => BOOL,
+        Operation::Equal => BOOL,
+    }
+}
+
 // Two ints: both names before either type.
-fn plus(first: Kind, second: Kind, k: usize) -> Single
-    ensures { λ r. ⌜ r ≡ plusIn k first second ⌝ }
+fn both(first: Kind, second: Kind, k: usize, gives: u8) -> Single
+    ensures { λ r. ⌜ r ≡ bothIn k gives first second ⌝ }
 {
     match first {
         Kind::Missing => Single::Refused(Refusal::Unbound(k)),
@@ -106,7 +124,7 @@ fn plus(first: Kind, second: Kind, k: usize) -> Single
             Kind::Word(b) => {
                 if a == INT {
                     if b == INT {
-                        return Single::Word(INT);
+                        return Single::Word(gives);
                     }
                 }
                 Single::Refused(Refusal::WrongType(k))
@@ -135,13 +153,21 @@ fn step(bytes: &[u8], k: usize, env: &[u8], sp: usize, floor: usize) -> Turn
         Head::Var(x) => leaf(variable(look(env, x, sp, floor), k), k + 3),
         Head::Let(x) => Turn::Let(x),
         Head::Const(_) => Turn::Found(k + 6, INT),
+        Head::Truth(_) => Turn::Found(k + 3, BOOL),
         Head::Iota(x) => leaf(want(look(env, x, sp, floor), k, INT, INTS), k + 3),
-        Head::Plus(x, y) => leaf(
-            plus(look(env, x, sp, floor), look(env, y, sp, floor), k),
+        Head::Operation(operation, x, y) => leaf(
+            both(
+                look(env, x, sp, floor),
+                look(env, y, sp, floor),
+                k,
+                result_of(operation),
+            ),
             k + 4,
         ),
+        Head::Negation(x) => leaf(want(look(env, x, sp, floor), k, BOOL, BOOL), k + 3),
         Head::Sum(x) => leaf(want(look(env, x, sp, floor), k, INTS, INT), k + 3),
         Head::Each(x, y, listed) => Turn::Each(x, y, listed),
+        Head::Guard(g, listed) => Turn::Guard(g, listed),
     }
 }
 
@@ -181,6 +207,39 @@ fn close(body: Judging, k: usize, element: u8, listed: usize) -> Judging
     }
 }
 
+// The words that the listed variables of a guard take, which stand as a scope from sp to its floor: a binding for each.
+fn listed_size(env: &[u8], sp: usize, floor: usize) -> usize
+    requires { ⌜ (sp ≤ floor) × (floor ≤ length (now env)) × (floor ≤ sp + 2 * mostListed) ⌝ }
+    ensures { λ r. ⌜ (r ≡ pairsSize (scope sp floor (now (env .entry)))) × (r ≤ listedBound) ⌝ }
+{
+    let mut size = 0;
+    let mut i = sp;
+    while 2 <= floor - i {
+        size += 3 * (env[i + 1] / BRACES) as usize + 5;
+        i += 2;
+    }
+    size
+}
+
+// A guard at k when its body is done; before the body stood, its listed variables were packed, the bools spread over their levels.
+fn close_guard(body: Judging, k: usize, size: usize) -> Judging
+    requires { ⌜ wordsOf body ≤ wordsBound ⌝ ∗ ⌜ size ≤ listedBound ⌝ }
+    ensures { λ r. ⌜ r ≡ guardedIn k size body ⌝ }
+{
+    match body {
+        Judging::Refused(refusal) => Judging::Refused(refusal),
+        Judging::Found(next, word, words) => {
+            if word / BRACES < Formula::DEPTH {
+                if words < SPREAD {
+                    return Judging::Found(next, word + BRACES, 3 + (size + SPREAD));
+                }
+                return Judging::Found(next, word + BRACES, 3 + (size + words));
+            }
+            Judging::Refused(Refusal::WrongType(k))
+        }
+    }
+}
+
 // The expression at k, in the scope from sp to its floor; below sp the stack is free.
 fn walk(bytes: &[u8], k: usize, levels: usize, env: &mut [u8], sp: usize, floor: usize) -> Judging
     requires { ⌜ Judgeable (now bytes) k levels (now env) sp floor ⌝ }
@@ -203,6 +262,14 @@ fn walk(bytes: &[u8], k: usize, levels: usize, env: &mut [u8], sp: usize, floor:
                 let element = env[inner + 1];
                 let body = walk(bytes, k + (5 + listed), levels - 1, env, inner, sp);
                 close(body, k, element, listed)
+            }
+        },
+        Turn::Guard(g, listed) => match prepare_guard(bytes, k, g, listed, env, sp, floor) {
+            Prepared::Refused(refusal) => Judging::Refused(refusal),
+            Prepared::Scope(inner) => {
+                let size = listed_size(env, inner, sp);
+                let body = walk(bytes, k + (4 + listed), levels - 1, env, inner, sp);
+                close_guard(body, k, size)
             }
         },
     }
