@@ -229,7 +229,7 @@ fn close_guard(body: Judging, k: usize, size: usize) -> Judging
     match body {
         Judging::Refused(refusal) => Judging::Refused(refusal),
         Judging::Found(next, word, words) => {
-            if word / BRACES < Formula::DEPTH {
+            if Formula::DEPTH > word / BRACES {
                 if words < SPREAD {
                     return Judging::Found(next, word + BRACES, 3 + (size + SPREAD));
                 }
