@@ -247,13 +247,25 @@ walk-listed-size-requires t c κs = size-asked (c .before .before .before .befor
     (c .before .before .before .before .before .before .prepare-guard .kept .1 .1 .1 .1 .0)
 
 walk-add-walk-4 : (t : ℕ) → walk-lts.Need-add-walk-4 (walk-callees t) (walk-at t) walk.Post
-walk-add-walk-4 t c = omega (arith, guard-fits (c .before .before .before .before .before .before .before .before .before .before .before .before .before .before .before .before .pre .1) (sym (c .before .before .before .before .before .before .before .before .before .before .g .given .1) ∙ c .before .before .before .before .before .before .before .before .before .before .before .before .step .ensures) .0)
+walk-add-walk-4 t c = omega (
+  arith,
+  guard-fits (c .before .before .before .before .before .before .before .before .before .before .before .before .before .before .before .before .pre .1) (sym
+      (c .before .before .before .before .before .before .before .before .before .before .g .given .1) ∙ c .before .before .before .before .before .before .before .before .before .before .before .before .step .ensures) .0,
+)
 
 walk-add-walk-5 : (t : ℕ) → walk-lts.Need-add-walk-5 (walk-callees t) (walk-at t) walk.Post
-walk-add-walk-5 t c = omega (arith, guard-fits (c .before .before .before .before .before .before .before .before .before .before .before .before .before .before .before .before .pre .1) (sym (c .before .before .before .before .before .before .before .before .before .before .g .given .1) ∙ c .before .before .before .before .before .before .before .before .before .before .before .before .step .ensures) .0)
+walk-add-walk-5 t c = omega (
+  arith,
+  guard-fits (c .before .before .before .before .before .before .before .before .before .before .before .before .before .before .before .before .pre .1) (sym
+      (c .before .before .before .before .before .before .before .before .before .before .g .given .1) ∙ c .before .before .before .before .before .before .before .before .before .before .before .before .step .ensures) .0,
+)
 
 walk-sub-walk-4 : (t : ℕ) → walk-lts.Need-sub-walk-4 (walk-callees t) (walk-at t) walk.Post
-walk-sub-walk-4 t c = omega (arith, guard-fits (c .before .before .before .before .before .before .before .before .before .before .before .before .before .before .before .before .pre .1) (sym (c .before .before .before .before .before .before .before .before .before .before .g .given .1) ∙ c .before .before .before .before .before .before .before .before .before .before .before .before .step .ensures) .1)
+walk-sub-walk-4 t c = omega (
+  arith,
+  guard-fits (c .before .before .before .before .before .before .before .before .before .before .before .before .before .before .before .before .pre .1) (sym
+      (c .before .before .before .before .before .before .before .before .before .before .g .given .1) ∙ c .before .before .before .before .before .before .before .before .before .before .before .before .step .ensures) .1,
+)
 
 walk-walk-requires-4 : (t : ℕ) → walk-lts.Need-walk-requires-4 (walk-callees t) (walk-at t) walk.Post
 walk-walk-requires-4 t c κs = (

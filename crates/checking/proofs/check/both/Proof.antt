@@ -30,7 +30,9 @@ returns-4 : tie.Need-returns-4
 returns-4 c = second-none _ _ _ _ (c .before .if1 .taken) (c .if2 .left) ∙ ap₂ (bothIn (c .before .before .before .before .before .before .before .before .args .k) (c .before .before .before .before .before .before .before .before .args .gives)) (sym (c .before .before .before .before .before .before .first .given .1)) (sym (c .before .before .before .second .given .1))
 
 returns-5 : tie.Need-returns-5
-returns-5 c = first-none (c .before .before .before .before .before .before .before .args .k) (c .before .before .before .before .before .before .before .args .gives) (c .before .before .before .before .before .first .given .0 .0) (c .before .before .second .given .0 .0) (c .if1 .left) ∙ ap₂ (bothIn (c .before .before .before .before .before .before .before .args .k) (c .before .before .before .before .before .before .before .args .gives)) (sym (c .before .before .before .before .before .first .given .1)) (sym (c .before .before .second .given .1))
+returns-5 c = first-none (c .before .before .before .before .before .before .before .args .k) (c .before .before .before .before .before .before .before .args .gives)
+    (c .before .before .before .before .before .first .given .0 .0) (c .before .before .second .given .0 .0) (c .if1 .left) ∙ ap₂ (bothIn (c .before .before .before .before .before .before .before .args .k)
+    (c .before .before .before .before .before .before .before .args .gives)) (sym (c .before .before .before .before .before .first .given .1)) (sym (c .before .before .second .given .1))
 
 pub both-spec : {M : Type 1} → statement M
 both-spec =
