@@ -166,7 +166,9 @@ returns-8 c =
     ∙ (ap (leafIn (c .before .before .before .before .before .before .before .before .before .before .before .args .k + 4))
     (c .before .both .ensures
     ∙ λ i. bothIn (c .before .before .before .before .before .before .before .before .before .before .before .args .k) (c .before .before .result-of .ensures i) (c .before .before .before .before .look3 .ensures i) (c .before .before .before .look4 .ensures i))
-    ∙ ap (turnIn (scope (c .before .before .before .before .before .before .before .before .before .before .before .args .sp) (c .before .before .before .before .before .before .before .before .before .before .before .args .floor) (c .before .before .before .before .before .before .before .before .before .before .before .args .env .now)) (c .before .before .before .before .before .before .before .before .before .before .before .args .k))
+    ∙ ap (turnIn (scope (c .before .before .before .before .before .before .before .before .before .before .before .args .sp)
+    (c .before .before .before .before .before .before .before .before .before .before .before .args .floor) (c .before .before .before .before .before .before .before .before .before .before .before .args .env .now))
+    (c .before .before .before .before .before .before .before .before .before .before .before .args .k))
     (sym (c .before .before .before .before .before .before .operation .given .1) ∙ c .before .before .before .before .before .before .before .before .head-at .ensures))
 
 returns-9 : tie.Need-returns-9
