@@ -39,13 +39,23 @@ same-length : tie.Need-same-length
 same-length c = c .before .before .push .kept .0 ∙ c .before .before .before .before .before .before .push-listed .kept .1 .1 .1 .0
 
 returns : tie.Need-returns
-returns c = each-inside _ _ _ _ _ _ (sym (c .before .before .before .before .before .before .before .before .before .before .before .before .before .before .before .before .before .before .look .ensures) ∙ c .before .before .before .before .before .before .before .before .before .before .before .before .before .before .before .before .word .given .1) (sym (c .before .before .before .before .before .before .before .before .before .before .before .before .before .each-usable .ensures) ∙ c .before .before .before .before .before .before .before .before .before .before .before .before .if1 .taken) (c .before .before .before .before .before .before .before .before .before .before .before .if2 .taken) (sym (c .before .before .before .before .before .before .before .before .before .scalars .ensures) ∙ c .before .before .before .before .before .before .before .before .if3 .taken) (c .before .before .before .before .before .before .push-listed .ensures) (c .before .before .push .ensures)
+returns c = each-inside _ _ _ _ _ _ (sym (c .before .before .before .before .before .before .before .before .before .before .before .before .before .before .before .before .before .before .look .ensures)
+    ∙ c .before .before .before .before .before .before .before .before .before .before .before .before .before .before .before .before .word .given .1) (sym
+    (c .before .before .before .before .before .before .before .before .before .before .before .before .before .each-usable .ensures)
+    ∙ c .before .before .before .before .before .before .before .before .before .before .before .before .if1 .taken) (c .before .before .before .before .before .before .before .before .before .before .before .if2 .taken)
+    (sym (c .before .before .before .before .before .before .before .before .before .scalars .ensures) ∙ c .before .before .before .before .before .before .before .before .if3 .taken)
+    (c .before .before .before .before .before .before .push-listed .ensures) (c .before .before .push .ensures)
 
 same-length-2 : tie.Need-same-length-2
 same-length-2 c = refl
 
 returns-2 : tie.Need-returns-2
-returns-2 c = record { is = each-types _ _ _ _ _ _ (sym (c .before .before .before .before .before .before .before .before .before .before .look .ensures) ∙ c .before .before .before .before .before .before .before .before .word .given .1) (sym (c .before .before .before .before .before .each-usable .ensures) ∙ c .before .before .before .before .if1 .taken) (c .before .before .before .if2 .taken) (sym (c .before .scalars .ensures) ∙ c .if3 .left); kept = refl }
+returns-2 c = record {
+  is = each-types _ _ _ _ _ _ (sym (c .before .before .before .before .before .before .before .before .before .before .look .ensures)
+      ∙ c .before .before .before .before .before .before .before .before .word .given .1) (sym (c .before .before .before .before .before .each-usable .ensures) ∙ c .before .before .before .before .if1 .taken)
+      (c .before .before .before .if2 .taken) (sym (c .before .scalars .ensures) ∙ c .if3 .left);
+  kept = refl;
+}
 
 same-length-3 : tie.Need-same-length-3
 same-length-3 c = refl

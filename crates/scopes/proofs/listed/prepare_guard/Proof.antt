@@ -30,7 +30,9 @@ same-length : tie.Need-same-length
 same-length c = c .before .before .push-listed .kept .1 .1 .1 .0
 
 returns : tie.Need-returns
-returns c = guard-inside _ _ _ _ _ (sym (c .before .before .before .before .before .before .before .before .before .before .before .look .ensures) ∙ c .before .before .before .before .before .before .before .before .before .word .given .1) (sym (c .before .before .before .before .before .before .usable .ensures) ∙ c .before .before .before .before .before .if1 .taken) (c .before .before .before .before .if2 .taken) (c .before .before .push-listed .ensures)
+returns c = guard-inside _ _ _ _ _ (sym (c .before .before .before .before .before .before .before .before .before .before .before .look .ensures)
+    ∙ c .before .before .before .before .before .before .before .before .before .word .given .1) (sym (c .before .before .before .before .before .before .usable .ensures)
+    ∙ c .before .before .before .before .before .if1 .taken) (c .before .before .before .before .if2 .taken) (c .before .before .push-listed .ensures)
 
 same-length-2 : tie.Need-same-length-2
 same-length-2 c = refl
