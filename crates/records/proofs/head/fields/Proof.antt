@@ -54,7 +54,8 @@ cast-t26 c = omega (arith, c .shared-slice-known6 .given (c .before .before .bef
 
 operation-of-requires : tie.Need-operation-of-requires
 operation-of-requires c κs =
-    let o = (let r = c .match .rest in at-rest (c .before .before .before .args .bytes .now) (c .before .before .before .args .k) (c .before .before .before .args .mark) (c .before .before .before .pre .0) (c .before .before .before .pre .1) (r .0 .0 .0 .0 .0 .0 .0 .0 .1) (r .0 .0 .0 .0 .0 .0 .0 .1) (r .0 .0 .0 .0 .0 .0 .1) (r .0 .0 .0 .0 .0 .1) (r .0 .0 .0 .0 .1) (r .0 .0 .0 .1) (r .0 .0 .1) (r .0 .1) (r .1)) in
+    let o = (let r = c .match .rest in at-rest (c .before .before .before .args .bytes .now) (c .before .before .before .args .k) (c .before .before .before .args .mark) (c .before .before .before .pre .0)
+    (c .before .before .before .pre .1) (r .0 .0 .0 .0 .0 .0 .0 .0 .1) (r .0 .0 .0 .0 .0 .0 .0 .1) (r .0 .0 .0 .0 .0 .0 .1) (r .0 .0 .0 .0 .0 .1) (r .0 .0 .0 .0 .1) (r .0 .0 .0 .1) (r .0 .0 .1) (r .0 .1) (r .1)) in
     (o .0, o .1)
 
 add-t28 : tie.Need-add-t28
@@ -62,7 +63,9 @@ add-t28 c = omega (arith, three (c .before .before .before .before .args .bytes 
 
 shared-slice-read-t30 : tie.Need-shared-slice-read-t30
 shared-slice-read-t30 c =
-    let o = (let r = c .before .before .match .rest in at-rest (c .before .before .before .before .before .args .bytes .now) (c .before .before .before .before .before .args .k) (c .before .before .before .before .before .args .mark) (c .before .before .before .before .before .pre .0) (c .before .before .before .before .before .pre .1) (r .0 .0 .0 .0 .0 .0 .0 .0 .1) (r .0 .0 .0 .0 .0 .0 .0 .1) (r .0 .0 .0 .0 .0 .0 .1) (r .0 .0 .0 .0 .0 .1) (r .0 .0 .0 .0 .1) (r .0 .0 .0 .1) (r .0 .0 .1) (r .0 .1) (r .1)) in
+    let o = (let r = c .before .before .match .rest in at-rest (c .before .before .before .before .before .args .bytes .now) (c .before .before .before .before .before .args .k)
+    (c .before .before .before .before .before .args .mark) (c .before .before .before .before .before .pre .0) (c .before .before .before .before .before .pre .1) (r .0 .0 .0 .0 .0 .0 .0 .0 .1)
+    (r .0 .0 .0 .0 .0 .0 .0 .1) (r .0 .0 .0 .0 .0 .0 .1) (r .0 .0 .0 .0 .0 .1) (r .0 .0 .0 .0 .1) (r .0 .0 .0 .1) (r .0 .0 .1) (r .0 .1) (r .1)) in
     omega (arith, o .3)
 
 returns : tie.Need-returns
@@ -96,7 +99,9 @@ returns-9 c = at-mark (c .before .before .before .before .args .bytes .now) (c .
 
 returns-10 : tie.Need-returns-10
 returns-10 c =
-    let o = (let r = c .before .before .match .rest in at-rest (c .before .before .before .before .before .args .bytes .now) (c .before .before .before .before .before .args .k) (c .before .before .before .before .before .args .mark) (c .before .before .before .before .before .pre .0) (c .before .before .before .before .before .pre .1) (r .0 .0 .0 .0 .0 .0 .0 .0 .1) (r .0 .0 .0 .0 .0 .0 .0 .1) (r .0 .0 .0 .0 .0 .0 .1) (r .0 .0 .0 .0 .0 .1) (r .0 .0 .0 .0 .1) (r .0 .0 .0 .1) (r .0 .0 .1) (r .0 .1) (r .1)) in
+    let o = (let r = c .before .before .match .rest in at-rest (c .before .before .before .before .before .args .bytes .now) (c .before .before .before .before .before .args .k)
+    (c .before .before .before .before .before .args .mark) (c .before .before .before .before .before .pre .0) (c .before .before .before .before .before .pre .1) (r .0 .0 .0 .0 .0 .0 .0 .0 .1)
+    (r .0 .0 .0 .0 .0 .0 .0 .1) (r .0 .0 .0 .0 .0 .0 .1) (r .0 .0 .0 .0 .0 .1) (r .0 .0 .0 .0 .1) (r .0 .0 .0 .1) (r .0 .0 .1) (r .0 .1) (r .1)) in
     at-operates (c .before .before .before .before .before .args .bytes .now) (c .before .before .before .before .before .args .k) (c .before .before .before .before .before .args .mark) (c .before .before .before .before .before .pre .0) (c .before .before .before .before .before .pre .1) o _ (c .before .operation-of .ensures)
 
 pub fields-spec : {M : Type 1} → statement M

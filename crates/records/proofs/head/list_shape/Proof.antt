@@ -46,7 +46,12 @@ add-variables-ok-2 : tie.Need-add-variables-ok-2
 add-variables-ok-2 c = omega (arith, c .before .before .before .before .before .before .before .before .before .pre)
 
 add-variables-ok-3 : tie.Need-add-variables-ok-3
-add-variables-ok-3 c = omega (arith, leb-true (c .before .before .before .before .before .before .before .before .before .args .k + (3 + c .before .before .before .before .before .before .before .before .before .args .count)) (length (c .before .before .before .before .before .before .before .before .before .args .bytes .now)) (sym (c .before .before .before .before .before .before .before .has-bytes .ensures) ∙ c .before .before .before .before .before .before .if1 .taken))
+add-variables-ok-3 c = omega (
+  arith,
+  leb-true (c .before .before .before .before .before .before .before .before .before .args .k +
+      (3 + c .before .before .before .before .before .before .before .before .before .args .count)) (length (c .before .before .before .before .before .before .before .before .before .args .bytes .now)) (sym
+      (c .before .before .before .before .before .before .before .has-bytes .ensures) ∙ c .before .before .before .before .before .before .if1 .taken),
+)
 
 variables-ok-requires-2 : tie.Need-variables-ok-requires-2
 variables-ok-requires-2 c κs =
