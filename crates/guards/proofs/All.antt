@@ -77,7 +77,7 @@ pub record First {Γ : List ValueType} (names : All Name Γ) (t : List ℕ) (at 
   pub lists : listedAny names (variablesAt t (at + 1) (left - 1)) ≡ some others
   pub is : (variableAt t at, (type, pointer)) ∷ others ≡ ls
 
-first-of : {Γ : List ValueType} (u : Variable) (f : Found Γ) (o : Option (NamedListing Γ)) (ls : NamedListing Γ) → anyFirst u f o ≡ some ls
+pub first-of : {Γ : List ValueType} (u : Variable) (f : Found Γ) (o : Option (NamedListing Γ)) (ls : NamedListing Γ) → anyFirst u f o ≡ some ls
     → (τ : ValueType) × (x : Γ ∋ τ) × (l : NamedListing Γ) × (f ≡ found τ x) × (o ≡ some l) × ((u, (τ, x)) ∷ l ≡ ls)
 first-of u missing o ls e = never (cc)
 first-of u (found τ x) none ls e = never (cc)
@@ -91,13 +91,13 @@ first names t at left ls e h =
     (ap (listedAny names) (sym (first-variables t at left h)) ∙ e) in
     record { type = f .0; pointer = f .1; others = f .2; finds = f .3; lists = f .4; is = f .5 }
 
-none-listed : {Γ : List ValueType} → (names : All Name Γ) (t : List ℕ) (at left : ℕ) (ls : NamedListing Γ) → listedAny names (variablesAt t at left) ≡ some ls → left ≡ 0 → [] ≡ ls
+pub none-listed : {Γ : List ValueType} → (names : All Name Γ) (t : List ℕ) (at left : ℕ) (ls : NamedListing Γ) → listedAny names (variablesAt t at left) ≡ some ls → left ≡ 0 → [] ≡ ls
 unfolding listedAny variablesAt
 none-listed names t at zero ls e z = cc
 none-listed names t at (suc l) ls e z = absurd (omega arith)
 
 -- the entries of listed variables
-length-entries : {Γ : List ValueType} → (ls : NamedListing Γ) (σ : Store) (δ : All IdTree Γ) (s : ℕ)
+pub length-entries : {Γ : List ValueType} → (ls : NamedListing Γ) (σ : Store) (δ : All IdTree Γ) (s : ℕ)
     → length (spelled (anyNames ls) (places σ (packTrees (anyPointers ls) δ s))) ≡ listedSize (anyPointers ls)
 unfolding spelled anyNames places packTrees listedSize
 length-entries [] σ δ s = refl

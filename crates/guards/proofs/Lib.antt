@@ -7,3 +7,6 @@ pub mod Surveys
 pub mod Items
 pub mod Ones
 pub mod All
+pub mod Asking
+pub mod Naming
+pub mod Entering

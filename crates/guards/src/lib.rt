@@ -9,7 +9,11 @@ ghost use Rattle.snesl.specs.Machine.{State};
 ghost use Rattle.sink.specs.Sinks.{Sink};
 ghost use Rattle.snesl.specs.Records.{byteAt};
 ghost use Rattle.guards.specs.Lists.{Chosen, Enters, Lists, AllBinds};
+ghost use Rattle.environment.specs.Needs.{listedSize};
+ghost use Rattle.snesl.specs.Checking.{anyPointers};
+ghost use Rattle.guards.specs.Entering.{Naming, Asks, Answers, Guard, GuardEnters};
 ghost use Rattle.guards.specs.Packs.{Puts, Placed, Packs, Ends, Levels, Opened};
+use bodies::Entered;
 use environment::find;
 use environment::put_name;
 use leaves::make;
@@ -139,13 +143,7 @@ fn pack_level(
 }
 
 // Where a listing is wanted, the line that opens the WithCtrl over a packing: it is surveyed first, under no units, so that nothing is executed.
-fn survey_items(
-    p: Packing,
-    env: &mut [u32],
-    buf: &mut [i32],
-    state: &mut [usize],
-    text: &mut [u8],
-)
+fn survey_items(p: Packing, env: &mut [u32], buf: &mut [i32], state: &mut [usize], text: &mut [u8])
     requires { ⌜ ((d : ℕ) × (t : Tree ℕ d) × (b : ℕ) × (c : Base) × (m : State) × (k : Sink) × Packs p t b c m k (now env) (now buf) (now state) (now text)) ⌝ }
     ensures { λ _. ⌜ ((d : ℕ) (t : Tree ℕ d) (b : ℕ) (c : Base) (m : State) (k : Sink) → Packs p t b c m k (now (env .entry)) (now (buf .entry)) (now (state .entry)) (now (text .entry)) → Opened p t b m k (now (env .entry)) (now (env .exit)) (now (buf .entry)) (now (buf .exit)) (now (state .exit)) (now (text .exit))) ⌝ }
 {
@@ -282,4 +280,85 @@ fn pack_listed(
         }
     }
     Packed::Whole
+}
+
+// How many words the entries of the variables take that are listed behind byte `at`, where their count stands.
+fn listed_words(bytes: &[u8], at: usize, sp: usize, env: &[u32]) -> usize
+    requires { ⌜ Naming (now bytes) (at + 1) (byteAt (now bytes) at) sp (now env) ⌝ }
+    ensures { λ r. ⌜ ((g : Naming (now (bytes .entry)) (at + 1) (byteAt (now (bytes .entry)) at) sp (now (env .entry))) → r ≡ listedSize (anyPointers (g .list))) ⌝ }
+{
+    let mut left = bytes[at] as usize;
+    let mut k = at + 1;
+    let mut words = 0;
+    while 0 < left {
+        let p = find(env, sp, Variable(bytes[k]));
+        words += 5 + 3 * env[p + 1] as usize;
+        left -= 1;
+        k += 1;
+    }
+    words
+}
+
+// The flags of the bools whose place stands at `bools`, a segment of one unit for a T and an empty one for an F, with their place just below sp; and the units counted.
+fn count_true(
+    bools: usize,
+    n: usize,
+    sp: usize,
+    env: &mut [u32],
+    buf: &mut [i32],
+    state: &mut [usize],
+    text: &mut [u8],
+) -> Executed
+    requires { ⌜ ((b : ℕ) × (m : State) × (k : Sink) × Asks bools sp b m k (now env) (now buf) (now state) (now text)) ⌝ }
+    ensures { λ r. ⌜ ((b : ℕ) (m : State) (k : Sink) → Asks bools sp b m k (now (env .entry)) (now (buf .entry)) (now (state .entry)) (now (text .entry)) → Answers b sp m k n (now (env .entry)) (now (env .exit)) (now (buf .entry)) (now (buf .exit)) (now (state .exit)) (now (text .exit)) r) ⌝ }
+{
+    let f = sp - 3;
+    let asked = Operands {
+        first: bools,
+        second: bools,
+    };
+    let t = Transducer::B2u(StreamId(env[bools] as usize));
+    match put(t, asked, f, n, env, buf, state, text) {
+        Executed::Made(_) => {
+            let flags = Operands {
+                first: f,
+                second: f,
+            };
+            let u = Transducer::Usum(StreamId(env[f] as usize));
+            make(u, flags, n, env, buf, state, text)
+        }
+        Executed::Stopped(r) => Executed::Stopped(r),
+    }
+}
+
+// All that stands before the body of the guard at k: its flags, which are the outermost of the result, their units counted, and each listed variable packed.
+pub fn enter_guard(
+    bytes: &[u8],
+    k: usize,
+    n: usize,
+    sp: usize,
+    env: &mut [u32],
+    buf: &mut [i32],
+    state: &mut [usize],
+    text: &mut [u8],
+) -> Entered
+    requires { ⌜ Guard (now bytes) k sp (now env) (now buf) (now state) (now text) ⌝ }
+    ensures { λ r. ⌜ ((g : Guard (now (bytes .entry)) k sp (now (env .entry)) (now (buf .entry)) (now (state .entry)) (now (text .entry))) → GuardEnters g n (now (env .exit)) (now (buf .exit)) (now (state .exit)) (now (text .exit)) r) ⌝ }
+{
+    let bools = find(env, sp, Variable(bytes[k + 2])) + 2;
+    let base = sp - 3 - listed_words(bytes, k + 3, sp, env);
+    match count_true(bools, n, sp, env, buf, state, text) {
+        Executed::Made(units) => {
+            let q = Guarding {
+                sp: sp,
+                bools: bools,
+                base: base,
+            };
+            match pack_listed(bytes, k + 3, q, n, env, buf, state, text) {
+                Packed::Whole => Entered::Body(base, units),
+                Packed::Stopped(r) => Entered::Stopped(r),
+            }
+        }
+        Executed::Stopped(r) => Entered::Stopped(r),
+    }
 }

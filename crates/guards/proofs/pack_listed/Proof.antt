@@ -111,4 +111,3 @@ pack-listed-spec =
     same-length-7
     same-length-8
     returns-2)
-

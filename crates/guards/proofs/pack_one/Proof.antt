@@ -107,4 +107,3 @@ pack-one-spec =
     same-length-7
     same-length-8
     returns-2)
-
