@@ -8,9 +8,9 @@ use Rattle.laws.proofs.Never.{never}
 use Rattle.snesl.specs.declared.code.Variable.{Variable}
 use Rattle.snesl.specs.declared.code.Base.{Base}
 use Rattle.snesl.specs.declared.code.Base.the-variants as base
-use Rattle.snesl.specs.Values.{ValueType, scalar, braces, int}
+use Rattle.snesl.specs.Values.{ValueType, scalar, braces, int, bool}
 use Rattle.snesl.specs.Terms.{_∋_, here, All, ∅, _▹_, lookup}
-use Rattle.snesl.specs.Checking.{Name, same, Found, missing, found, later, find, AnyScalar, noScalar, aScalar, asScalar, asInt, asInts, Sequence, noSequence, sequence, asSequence}
+use Rattle.snesl.specs.Checking.{Name, same, Found, missing, found, later, find, AnyScalar, noScalar, aScalar, asScalar, asInt, asBool, asInts, Sequence, noSequence, sequence, asSequence}
 use Rattle.rules.specs.Names.{Env, nothing, named, Maps, newest, older, envOf}
 use Rattle.rules.specs.Typing.{typesOf}
 
@@ -91,6 +91,12 @@ module _ {P : ValueType → Type 0} {A : Type 0} {f : (τ : ValueType) → P τ 
   looks-int {v = v} (looks-one {τ = scalar base.Int} {v = w} h) q = let p : w ≡ v = cc in subst (λ u. Maps (envOf f scope ρ) x (f int (lookup u ρ))) p h
   looks-int (looks-one {τ = scalar base.Bool} h) q = never (cc)
   looks-int (looks-one {τ = braces τ} h) q = never (cc)
+
+  pub looks-bool : {g : Found Γ} {v : Γ ∋ bool} → Looks f scope ρ x g → asBool (asScalar g) ≡ some v → Maps (envOf f scope ρ) x (f bool (lookup v ρ))
+  looks-bool looks-none q = never (cc)
+  looks-bool (looks-one {τ = scalar base.Int} h) q = never (cc)
+  looks-bool {v = v} (looks-one {τ = scalar base.Bool} {v = w} h) q = let p : w ≡ v = cc in subst (λ u. Maps (envOf f scope ρ) x (f bool (lookup u ρ))) p h
+  looks-bool (looks-one {τ = braces τ} h) q = never (cc)
 
   pub as-sequence : {g : Found Γ} → Looks f scope ρ x g → LooksAtSequence f scope ρ x (asSequence g)
   as-sequence looks-none = looks-no

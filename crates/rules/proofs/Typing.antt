@@ -13,18 +13,19 @@ use Rattle.laws.proofs.Never.{never}
 use Rattle.laws.proofs.Tests.{both-true}
 use Rattle.snesl.specs.declared.code.Base.{Base}
 use Rattle.snesl.specs.declared.code.Base.the-variants as base
+use Rattle.snesl.specs.declared.code.Operation.{Operation}
 use Rattle.snesl.specs.declared.code.Variable.{Variable}
 use Rattle.snesl.specs.declared.refusal.Refusal.{Refusal}
 use Rattle.snesl.specs.declared.refusal.Refusal.the-variants.{Unbound, WrongType}
 use Rattle.snesl.specs.Limits.{mostDepth}
-use Rattle.snesl.specs.Values.{ValueType, scalar, braces, int, depthOf, each-none, each-more}
+use Rattle.snesl.specs.Values.{ValueType, scalar, braces, int, bool, depthOf, resultOf, each-none, each-more}
 use Rattle.snesl.specs.Terms as terms
 use Rattle.snesl.specs.Terms.{_∋_, Term, anyType, listedTypes, All, ∅, _▹_}
 use Rattle.snesl.specs.Records as raw
 use Rattle.snesl.specs.Records.{Raw}
-use Rattle.snesl.specs.Checking.{Name, same, Found, missing, found, find, isBound, AnyScalar, noScalar, aScalar, asScalar, asInt, asInts, Sequence, noSequence, sequence, asSequence, names, usable, NamedScalars, listedFirst, listedScalars, listedNames, pointers, Typed, refused, typed, demand, typedIf, typedSequence, typedThen, check}
+use Rattle.snesl.specs.Checking.{Name, same, Found, missing, found, find, isBound, AnyScalar, noScalar, aScalar, asScalar, asInt, asBool, asInts, Sequence, noSequence, sequence, asSequence, names, usable, NamedScalars, listedFirst, listedScalars, listedNames, pointers, NamedListing, anyFirst, listedAny, anyPointers, anyNames, Typed, refused, typed, demand, typedIf, typedSequence, typedThen, check}
 use Rattle.rules.specs.Names.{Env, nothing, named, Maps, maps-none, maps-more, Listed, listed-none, listed-more}
-use Rattle.rules.specs.Typing.{BuiltIn, Calls, calls-const, calls-iota, calls-plus, calls-sum, takes-const, takes-iota, takes-plus, takes-sum, Unlisted, Once, once-none, once-more, IsScalar, is-scalar, Types, types-var, types-let, types-call, types-each, typesOf}
+use Rattle.rules.specs.Typing.{BuiltIn, Calls, calls-const, calls-truth, calls-iota, calls-operation, calls-negation, calls-sum, takes-const, takes-truth, takes-iota, takes-operation, takes-negation, takes-sum, Unlisted, Once, once-none, once-more, IsScalar, is-scalar, AnyType, Types, types-var, types-let, types-call, types-each, types-guard, typesOf}
 use Rattle.rules.proofs.Names.{same-true, same-false, maps-once, Finds, finds-none, finds-one, finding}
 
 -- A rule's premises from its conclusion, for each expression.
@@ -36,6 +37,19 @@ not-let = elim [ ]
 
 pub not-each : {p : ℕ} {x y : Variable} {us : List Variable} {e : Raw} {φ : BuiltIn} {xs : List Variable} → Calls (raw.each p x y us e) φ xs → ⊥
 not-each = elim [ ]
+
+pub not-guard : {p : ℕ} {g : Variable} {us : List Variable} {e : Raw} {φ : BuiltIn} {xs : List Variable} → Calls (raw.guard p g us e) φ xs → ⊥
+not-guard = elim [ ]
+
+record OfGuard (Γ : Env ValueType) (g : Variable) (us : List Variable) (e : Raw) (τ : ValueType) : Type 0 where
+  body : ValueType
+  inside : Env ValueType
+  guard-is : Maps Γ g bool
+  listed : Listed AnyType Γ us inside
+  once : Once us
+  body-is : Types inside e body
+  deep : suc (depthOf body) ≤ mostDepth
+  type-is : braces body ≡ τ
 
 record OfEach (Γ : Env ValueType) (x y : Variable) (us : List Variable) (e : Raw) (τ : ValueType) : Type 0 where
   item : ValueType
@@ -61,11 +75,21 @@ module _ {Γ : Env ValueType} {p : ℕ} where
   of-const : {z : ℤ} {τ : ValueType} → Types Γ (raw.const p z) τ → int ≡ τ
   of-const (types-call calls-const takes-const m) = refl
 
+  of-truth : {c : Bool} {τ : ValueType} → Types Γ (raw.truth p c) τ → bool ≡ τ
+  of-truth (types-call calls-truth takes-truth m) = refl
+
   of-iota : {x : Variable} {τ : ValueType} → Types Γ (raw.iota p x) τ → Maps Γ x int × (braces int ≡ τ)
   of-iota (types-call calls-iota takes-iota (maps-more h m)) = (h, refl)
 
-  of-plus : {x y : Variable} {τ : ValueType} → Types Γ (raw.plus p x y) τ → Maps Γ x int × Maps Γ y int × (int ≡ τ)
-  of-plus (types-call calls-plus takes-plus (maps-more h (maps-more k m))) = (h, k, refl)
+  of-operation : {o : Operation} {x y : Variable} {τ : ValueType} → Types Γ (raw.operation p o x y) τ → Maps Γ x int × Maps Γ y int × (scalar (resultOf o) ≡ τ)
+  of-operation (types-call calls-operation (takes-operation q) (maps-more h (maps-more k m))) = (h, k, sym q)
+
+  of-negation : {x : Variable} {τ : ValueType} → Types Γ (raw.negation p x) τ → Maps Γ x bool × (bool ≡ τ)
+  of-negation (types-call calls-negation takes-negation (maps-more h m)) = (h, refl)
+
+  of-guard : {g : Variable} {us : List Variable} {e : Raw} {τ : ValueType} → Types Γ (raw.guard p g us e) τ → OfGuard Γ g us e τ
+  of-guard (types-guard {Δ = Δ} {τ = τ} h l o b m) = record { body = τ; inside = Δ; guard-is = h; listed = l; once = o; body-is = b; deep = m; type-is = refl }
+  of-guard (types-call c t m) = absurd (not-guard c)
 
   of-sum : {x : Variable} {τ : ValueType} → Types Γ (raw.sum p x) τ → Maps Γ x (braces int) × (int ≡ τ)
   of-sum (types-call calls-sum takes-sum (maps-more h m)) = (h, refl)
@@ -93,7 +117,9 @@ types-once {Γ} {τ = τ} (types-let {x = x} {e₂ = e₂} h₁ h₂) k =
     types-once h₂ (subst (λ n. Types (named x n Γ) e₂ τ) (sym (types-once h₁ k₁)) k₂)
 types-once (types-call calls-const takes-const m) k = of-const k
 types-once (types-call calls-iota takes-iota m) k = of-iota k .1
-types-once (types-call calls-plus takes-plus m) k = of-plus k .2
+types-once (types-call calls-truth takes-truth m) k = of-truth k
+types-once (types-call calls-operation (takes-operation q) m) k = q ∙ of-operation k .2
+types-once (types-call calls-negation takes-negation m) k = of-negation k .1
 types-once (types-call calls-sum takes-sum m) k = of-sum k .1
 types-once {Γ} (types-each {Δ = Δ} {υ = c} {x = x} {e = e} h l a o b m) k =
     let r = of-each k in
@@ -101,6 +127,9 @@ types-once {Γ} (types-each {Δ = Δ} {υ = c} {x = x} {e = e} h l a o b m) k =
     let q = listed-once l (r .listed) in
     let pq : named x c Δ ≡ named x (r .item) (r .inside) = λ i. named x (p i) (q i) in
     ap braces (types-once b (subst (λ Γ. Types Γ e (r .body)) (sym pq) (r .body-is))) ∙ r .type-is
+types-once (types-guard {e = e} h l o b m) k =
+    let r = of-guard k in
+    ap braces (types-once b (subst (λ Γ. Types Γ e (r .body)) (sym (listed-once l (r .listed))) (r .body-is))) ∙ r .type-is
 
 -- ---- what checking asks of a name
 
@@ -130,6 +159,18 @@ module _ {Γ : List ValueType} {scope : All Name Γ} {x : Variable} where
   no-int (finds-one {τ = scalar base.Int} h) q m = never (cc)
   no-int (finds-one {τ = scalar base.Bool} h) q m = let z : scalar base.Bool ≡ int = maps-once h m in never (cc)
   no-int (finds-one {τ = braces τ} h) q m = let z : braces τ ≡ int = maps-once h m in never (cc)
+
+  a-bool : {f : Found Γ} {v : Γ ∋ bool} → Finds scope x f → asBool (asScalar f) ≡ some v → Maps (typesOf scope) x bool
+  a-bool (finds-none h) q = never (cc)
+  a-bool (finds-one {τ = scalar base.Int} h) q = never (cc)
+  a-bool (finds-one {τ = scalar base.Bool} h) q = h
+  a-bool (finds-one {τ = braces τ} h) q = never (cc)
+
+  no-bool : {f : Found Γ} → Finds scope x f → asBool (asScalar f) ≡ none → Maps (typesOf scope) x bool → ⊥
+  no-bool (finds-none h) q m = h bool m
+  no-bool (finds-one {τ = scalar base.Int} h) q m = let z : int ≡ bool = maps-once h m in never (cc)
+  no-bool (finds-one {τ = scalar base.Bool} h) q m = never (cc)
+  no-bool (finds-one {τ = braces τ} h) q m = let z : braces τ ≡ bool = maps-once h m in never (cc)
 
   a-sequence : {f : Found Γ} {c : ValueType} {v : Γ ∋ braces c} → Finds scope x f → asSequence f ≡ sequence c v → Maps (typesOf scope) x (braces c)
   a-sequence (finds-none h) q = never (cc)
@@ -175,37 +216,60 @@ names-true u (v ∷ us) e (each-more n h) = go (same u v) refl e (names-true u u
     go true q r below = n (same-true u v q)
     go false q r below = below r h
 
-module _ {Γ : List ValueType} (scope : All Name Γ) (x : Variable) where
-  usable-true : (us : List Variable) → usable scope x us ≡ true → Unlisted x us × Once us
+module _ {Γ : List ValueType} (scope : All Name Γ) where
+  usable-true : (us : List Variable) → usable scope us ≡ true → Once us
   unfolding usable
-  usable-true [] e = (each-none, once-none)
-  usable-true (u ∷ us) e = go (isBound (find u scope)) (same x u) refl (names u us) refl e (usable-true us)
+  usable-true [] e = once-none
+  usable-true (u ∷ us) e = go (isBound (find u scope)) (names u us) refl e (usable-true us)
     where
-      go : (b c : Bool) → same x u ≡ c → (τ : Bool) → names u us ≡ τ
-          → (b && (not c && (not τ && usable scope x us))) ≡ true
-          → (usable scope x us ≡ true → Unlisted x us × Once us)
-          → Unlisted x (u ∷ us) × Once (u ∷ us)
-      go false c qc τ qd r below = never (cc)
-      go true true qc τ qd r below = never (cc)
-      go true false qc true qd r below = never (cc)
-      go true false qc false qd r below =
-          let (a, o) = below r in
-          (each-more (same-false x u qc) a, once-more (names-false u us qd) o)
+      go : (b d : Bool) → names u us ≡ d → (b && (not d && usable scope us)) ≡ true → (usable scope us ≡ true → Once us) → Once (u ∷ us)
+      go false d qd r below = never (cc)
+      go true true qd r below = never (cc)
+      go true false qd r below = once-more (names-false u us qd) (below r)
 
-  usable-false : (us : List Variable) {Δ : Env ValueType} → usable scope x us ≡ false → Listed IsScalar (typesOf scope) us Δ → Unlisted x us → Once us → ⊥
+  usable-false : {Must : ValueType → Type 0} (us : List Variable) {Δ : Env ValueType} → usable scope us ≡ false → Listed Must (typesOf scope) us Δ → Once us → ⊥
   unfolding usable
-  usable-false [] e l a o = never (cc)
-  usable-false (u ∷ us) e (listed-more {Δ = Δ} h m l) (each-more n a) (once-more k o) =
-      go (isBound (find u scope)) refl (same x u) refl (names u us) refl e (usable-false us)
+  usable-false [] e l o = never (cc)
+  usable-false {Must} (u ∷ us) e (listed-more {Δ = Δ} h m l) (once-more k o) = go (isBound (find u scope)) refl (names u us) refl e (λ r. usable-false us r l o)
     where
-      go : (b : Bool) → isBound (find u scope) ≡ b → (c : Bool) → same x u ≡ c → (τ : Bool) → names u us ≡ τ
-          → (b && (not c && (not τ && usable scope x us))) ≡ false
-          → (usable scope x us ≡ false → Listed IsScalar (typesOf scope) us Δ → Unlisted x us → Once us → ⊥)
-          → ⊥
-      go false qb c qc τ qd r below = unbound-name (finding scope u) qb h
-      go true qb true qc τ qd r below = n (same-true x u qc)
-      go true qb false qc true qd r below = names-true u us qd k
-      go true qb false qc false qd r below = below r l a o
+      go : (b : Bool) → isBound (find u scope) ≡ b → (d : Bool) → names u us ≡ d → (b && (not d && usable scope us)) ≡ false → (usable scope us ≡ false → ⊥) → ⊥
+      go false qb d qd r below = unbound-name (finding scope u) qb h
+      go true qb true qd r below = names-true u us qd k
+      go true qb false qd r below = below r
+
+not-false : (b : Bool) → not b ≡ false → b ≡ true
+not-false true q = refl
+not-false false q = never (cc)
+
+not-true : (b : Bool) → not b ≡ true → b ≡ false
+not-true true q = never (cc)
+not-true false q = refl
+
+module _ {Γ : List ValueType} (scope : All Name Γ) where
+  all-any : (us : List Variable) {ls : NamedListing Γ} → listedAny scope us ≡ some ls → Listed AnyType (typesOf scope) us (typesOf (anyNames ls))
+  unfolding listedAny anyNames typesOf
+  all-any [] {ls} e = let q : [] ≡ ls = cc in subst (λ l. Listed AnyType (typesOf scope) [] (typesOf (anyNames l))) q listed-none
+  all-any (u ∷ us) {ls} e = go (find u scope) (finding scope u) (listedAny scope us) refl e (λ l q. all-any us q)
+    where
+      go : (o : Found Γ) → Finds scope u o → (r : Option (NamedListing Γ)) → listedAny scope us ≡ r
+          → anyFirst u o r ≡ some ls
+          → ((ls : NamedListing Γ) → listedAny scope us ≡ some ls → Listed AnyType (typesOf scope) us (typesOf (anyNames ls)))
+          → Listed AnyType (typesOf scope) (u ∷ us) (typesOf (anyNames ls))
+      go missing h r qr q below = never (cc)
+      go (found τ v) h none qr q below = never (cc)
+      go (found τ v) (finds-one h) (some l) qr q below =
+          let s : (u, (τ, v)) ∷ l ≡ ls = cc in
+          subst (λ l. Listed AnyType (typesOf scope) (u ∷ us) (typesOf (anyNames l))) s (listed-more h tt (below l qr))
+
+  not-any : (us : List Variable) {Δ : Env ValueType} → listedAny scope us ≡ none → Listed AnyType (typesOf scope) us Δ → ⊥
+  unfolding listedAny
+  not-any [] e l = never (cc)
+  not-any (u ∷ us) e (listed-more {a = a} {Δ = Δ} h m l) = go (find u scope) (finding scope u) (listedAny scope us) refl e (λ r. not-any us r l)
+    where
+      go : (o : Found Γ) → Finds scope u o → (r : Option (NamedListing Γ)) → listedAny scope us ≡ r → anyFirst u o r ≡ none → (listedAny scope us ≡ none → ⊥) → ⊥
+      go missing (finds-none n) r qr q below = n a h
+      go (found τ v) f none qr q below = below qr
+      go (found τ v) f (some l′) qr q below = never (cc)
 
 module _ {Γ : List ValueType} (scope : All Name Γ) where
   all-scalars : (us : List Variable) {ls : NamedScalars Γ} → listedScalars scope us ≡ some ls → Listed IsScalar (typesOf scope) us (typesOf (listedNames ls))
@@ -247,14 +311,18 @@ pub data Resolved : (Γ : List ValueType) → All Name Γ → Raw → (τ : Valu
       → Resolved Γ scope e₁ c t₁
       → Resolved (c ∷ Γ) (x ▹ scope) e₂ τ t₂
       → Resolved Γ scope (raw.bind p x e₁ e₂) τ (terms.bind t₁ t₂)
-  resolved-const : {Γ : List ValueType} {scope : All Name Γ} {p : ℕ} {z : ℤ} → Resolved Γ scope (raw.const p z) int (terms.const z)
+  resolved-const : {Γ : List ValueType} {scope : All Name Γ} {p : ℕ} {z : ℤ} → Resolved Γ scope (raw.const p z) int (terms.const base.Int z)
+  resolved-truth : {Γ : List ValueType} {scope : All Name Γ} {p : ℕ} {c : Bool} → Resolved Γ scope (raw.truth p c) bool (terms.const base.Bool c)
   resolved-iota : {Γ : List ValueType} {scope : All Name Γ} {p : ℕ} {x : Variable} {v : Γ ∋ int}
       → asInt (asScalar (find x scope)) ≡ some v
       → Resolved Γ scope (raw.iota p x) (braces int) (terms.iota v)
-  resolved-plus : {Γ : List ValueType} {scope : All Name Γ} {p : ℕ} {x y : Variable} {v w : Γ ∋ int}
+  resolved-negation : {Γ : List ValueType} {scope : All Name Γ} {p : ℕ} {x : Variable} {v : Γ ∋ bool}
+      → asBool (asScalar (find x scope)) ≡ some v
+      → Resolved Γ scope (raw.negation p x) bool (terms.negation v)
+  resolved-operation : {Γ : List ValueType} {scope : All Name Γ} {p : ℕ} {o : Operation} {x y : Variable} {v w : Γ ∋ int}
       → asInt (asScalar (find x scope)) ≡ some v
       → asInt (asScalar (find y scope)) ≡ some w
-      → Resolved Γ scope (raw.plus p x y) int (terms.plus v w)
+      → Resolved Γ scope (raw.operation p o x y) (scalar (resultOf o)) (terms.operation o v w)
   resolved-sum : {Γ : List ValueType} {scope : All Name Γ} {p : ℕ} {x : Variable} {v : Γ ∋ braces int}
       → asInts (asSequence (find x scope)) ≡ some v
       → Resolved Γ scope (raw.sum p x) int (terms.sum v)
@@ -264,6 +332,12 @@ pub data Resolved : (Γ : List ValueType) → All Name Γ → Raw → (τ : Valu
       → listedScalars scope us ≡ some ls
       → Resolved (c ∷ listedTypes (anyType (pointers ls))) (x ▹ listedNames ls) e τ t
       → Resolved Γ scope (raw.each p x y us e) (braces τ) (terms.each v (pointers ls) t)
+  resolved-guard : {Γ : List ValueType} {scope : All Name Γ} {p : ℕ} {τ : ValueType} {g : Variable} {us : List Variable} {e : Raw} {v : Γ ∋ bool}
+      {ls : NamedListing Γ} {t : Term (listedTypes (anyPointers ls)) τ}
+      → asBool (asScalar (find g scope)) ≡ some v
+      → listedAny scope us ≡ some ls
+      → Resolved (listedTypes (anyPointers ls)) (anyNames ls) e τ t
+      → Resolved Γ scope (raw.guard p g us e) (braces τ) (terms.guard v (anyPointers ls) t)
 
 -- ---- what checking answers, beside what the rules have
 
@@ -334,16 +408,30 @@ module _ {Γ : List ValueType} (scope : All Name Γ) (p : ℕ) where
       (λ b. if-asked p (asInt (asScalar (find x scope))) (λ v. typed (braces int) (terms.iota v)) (λ q τ k. no-int f q (of-iota k .0))
       (λ v q. passed (types-call calls-iota takes-iota (maps-more (an-int f q) maps-none)) (resolved-iota q)))
 
-  checking-plus : (x y : Variable) → Checked scope (raw.plus p x y) (check scope (raw.plus p x y))
+  checking-truth : (c : Bool) → Checked scope (raw.truth p c) (check scope (raw.truth p c))
   unfolding check
-  checking-plus x y =
+  checking-truth c = passed (types-call calls-truth takes-truth maps-none) resolved-truth
+
+  checking-negation : (x : Variable) → Checked scope (raw.negation p x) (check scope (raw.negation p x))
+  unfolding check
+  checking-negation x =
+      let f = finding scope x in
+      names-asked p (isBound (find x scope)) _ (λ q τ k. unbound-name f q (of-negation k .0))
+      (λ b. if-asked p (asBool (asScalar (find x scope))) (λ v. typed bool (terms.negation v)) (λ q τ k. no-bool f q (of-negation k .0))
+      (λ v q. passed (types-call calls-negation takes-negation (maps-more (a-bool f q) maps-none)) (resolved-negation q)))
+
+  checking-operation : (o : Operation) (x y : Variable) → Checked scope (raw.operation p o x y) (check scope (raw.operation p o x y))
+  unfolding check
+  checking-operation o x y =
       let f = finding scope x in
       let g = finding scope y in
+      let τ = scalar (resultOf o) in
       names-asked p (isBound (find x scope) && isBound (find y scope)) _
-      (λ q τ k. ⊎-elim (λ r. unbound-name f r (of-plus k .0)) (λ r. unbound-name g r (of-plus k .1)) (either-false _ _ q))
-      (λ b. if-asked p (asInt (asScalar (find x scope))) (λ v. typedIf p (asInt (asScalar (find y scope))) (λ w. typed int (terms.plus v w))) (λ q τ k. no-int f q (of-plus k .0))
-      (λ v q. if-asked p (asInt (asScalar (find y scope))) (λ w. typed int (terms.plus v w)) (λ r τ k. no-int g r (of-plus k .1))
-      (λ w r. passed (types-call calls-plus takes-plus (maps-more (an-int f q) (maps-more (an-int g r) maps-none))) (resolved-plus q r))))
+      (λ q τ k. ⊎-elim (λ r. unbound-name f r (of-operation k .0)) (λ r. unbound-name g r (of-operation k .1)) (either-false _ _ q))
+      (λ b. if-asked p (asInt (asScalar (find x scope))) (λ v. typedIf p (asInt (asScalar (find y scope))) (λ w. typed τ (terms.operation o v w)))
+      (λ q τ k. no-int f q (of-operation k .0))
+      (λ v q. if-asked p (asInt (asScalar (find y scope))) (λ w. typed τ (terms.operation o v w)) (λ r τ k. no-int g r (of-operation k .1))
+      (λ w r. passed (types-call calls-operation (takes-operation refl) (maps-more (an-int f q) (maps-more (an-int g r) maps-none))) (resolved-operation q r))))
 
   checking-sum : (x : Variable) → Checked scope (raw.sum p x) (check scope (raw.sum p x))
   unfolding check
@@ -386,11 +474,14 @@ module _ {Γ : List ValueType} (scope : All Name Γ) (p : ℕ) where
       λ c v ls τ t. demand (ltb (depthOf τ) mostDepth) (WrongType p) (typed (braces τ) (terms.each v (pointers ls) t)) in
       let inside : (c : ValueType) → Γ ∋ braces c → NamedScalars Γ → Typed Γ =
       λ c v ls. typedThen (check (_▹_ {τ = c} x (listedNames ls)) e) (shut c v ls) in
-      names-asked p (isBound (find y scope) && usable scope x us) _
+      names-asked p (isBound (find y scope) && (usable scope us && not (names x us))) _
       (λ q τ k. let r = of-each k in
-      ⊎-elim (λ z. unbound-name f z (r .sequence-is)) (λ z. usable-false scope x us z (r .listed) (r .apart) (r .once)) (either-false _ _ q))
+      ⊎-elim (λ z. unbound-name f z (r .sequence-is))
+      (λ z. ⊎-elim (λ w. usable-false scope us w (r .listed) (r .once)) (λ w. names-true x us (not-false (names x us) w) (r .apart)) (either-false (usable scope us) _ z)) (either-false _ _ q))
       (λ named-well.
-      let (a, o) = usable-true scope x us (both-true (isBound (find y scope)) _ named-well .1) in
+      let (fine, other) = both-true (usable scope us) _ (both-true (isBound (find y scope)) _ named-well .1) in
+      let o = usable-true scope us fine in
+      let a = names-false x us (not-true (names x us) other) in
       sequence-asked p (asSequence (find y scope)) (λ c v. typedIf p (listedScalars scope us) (inside c v)) (λ q τ k. no-sequence f q (of-each k .sequence-is))
       (λ c v qv.
       let h = a-sequence f qv in
@@ -403,14 +494,43 @@ module _ {Γ : List ValueType} (scope : All Name Γ) (p : ℕ) where
       (λ q b j. let (b′, k′, z) = body-typed h l (of-each j) in omega (arith, ltb-false (depthOf τ) mostDepth q, ap depthOf (types-once k′ k), z))
       (λ q. passed (types-each h l a o k (ltb-true (depthOf τ) mostDepth q)) (resolved-each qv ql w))))))
 
+  checking-guard : (g : Variable) (us : List Variable) (e : Raw)
+      → ((ls : NamedListing Γ) → Checked (anyNames ls) e (check (anyNames ls) e))
+      → Checked scope (raw.guard p g us e) (check scope (raw.guard p g us e))
+  unfolding check typesOf
+  checking-guard g us e body =
+      let f = finding scope g in
+      let shut : Γ ∋ bool → (ls : NamedListing Γ) → (τ : ValueType) → Term (listedTypes (anyPointers ls)) τ → Typed Γ =
+      λ v ls τ t. demand (ltb (depthOf τ) mostDepth) (WrongType p) (typed (braces τ) (terms.guard v (anyPointers ls) t)) in
+      let inside : Γ ∋ bool → NamedListing Γ → Typed Γ = λ v ls. typedThen (check (anyNames ls) e) (shut v ls) in
+      let body-typed : (τ : ValueType) (Δ : Env ValueType) → Listed AnyType (typesOf scope) us Δ → OfGuard (typesOf scope) g us e τ → (b : ValueType) × Types Δ e b × (suc (depthOf b) ≤ mostDepth) =
+      λ τ Δ l r. (r .body, subst (λ Γ. Types Γ e (r .body)) (sym (listed-once l (r .listed))) (r .body-is), r .deep) in
+      names-asked p (isBound (find g scope) && usable scope us) _
+      (λ q τ k. let r = of-guard k in ⊎-elim (λ z. unbound-name f z (r .guard-is)) (λ z. usable-false scope us z (r .listed) (r .once)) (either-false _ _ q))
+      (λ named-well.
+      let o = usable-true scope us (both-true (isBound (find g scope)) _ named-well .1) in
+      if-asked p (asBool (asScalar (find g scope))) (λ v. typedIf p (listedAny scope us) (inside v)) (λ q τ k. no-bool f q (of-guard k .guard-is))
+      (λ v qv.
+      if-asked p (listedAny scope us) (inside v) (λ q τ k. not-any scope us q (of-guard k .listed))
+      (λ ls ql.
+      let l = all-any scope us ql in
+      part-asked (shut v ls) (body ls) (λ n τ k. let (b, t, z) = body-typed τ _ l (of-guard k) in n b t)
+      (λ τ t k w.
+      type-asked p (ltb (depthOf τ) mostDepth) _
+      (λ q b j. let (b′, k′, z) = body-typed b _ l (of-guard j) in omega (arith, ltb-false (depthOf τ) mostDepth q, ap depthOf (types-once k′ k), z))
+      (λ q. passed (types-guard (a-bool f qv) l o k (ltb-true (depthOf τ) mostDepth q)) (resolved-guard qv ql w))))))
+
 pub checking : {Γ : List ValueType} (scope : All Name Γ) (e : Raw) → Checked scope e (check scope e)
 checking scope (raw.var p x) = checking-var scope p x
 checking scope (raw.bind p x e₁ e₂) = checking-let scope p x e₁ e₂ (checking scope e₁) (λ c. checking (_▹_ {τ = c} x scope) e₂)
 checking scope (raw.const p z) = checking-const scope p z
 checking scope (raw.iota p x) = checking-iota scope p x
-checking scope (raw.plus p x y) = checking-plus scope p x y
+checking scope (raw.truth p c) = checking-truth scope p c
+checking scope (raw.operation p o x y) = checking-operation scope p o x y
+checking scope (raw.negation p x) = checking-negation scope p x
 checking scope (raw.sum p x) = checking-sum scope p x
 checking scope (raw.each p x y us e) = checking-each scope p x y us e (λ c ls. checking (_▹_ {τ = c} x (listedNames ls)) e)
+checking scope (raw.guard p g us e) = checking-guard scope p g us e (λ ls. checking (anyNames ls) e)
 
 -- ---- the theorems
 

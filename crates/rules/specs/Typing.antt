@@ -1,37 +1,45 @@
 -- The typing rules (002, 1.1.2) over names. A formula's raw tree (snesl, specs/Records.antt) is the paper's expression with the offset of each record.
 use Prim.Native.Nat.{ℕ, suc, _≤_}
+use mathlib.Core.Bool.{Bool}
 use mathlib.Core.List.{List, [], _∷_}
 use mathlib.Core.Path.{_≡_}
 use lib.IntN.{ℤ}
 use Rattle.snesl.specs.declared.code.Base.{Base}
+use Rattle.snesl.specs.declared.code.Operation.{Operation}
 use Rattle.snesl.specs.declared.code.Variable.{Variable}
 use Rattle.snesl.specs.Limits.{mostDepth}
-use Rattle.snesl.specs.Values.{ValueType, scalar, braces, int, depthOf, Each}
+use Rattle.snesl.specs.Values.{ValueType, scalar, braces, int, bool, depthOf, resultOf, Each}
 use Rattle.snesl.specs.Terms.{All, ∅, _▹_}
 use Rattle.snesl.specs.Records as raw
 use Rattle.snesl.specs.Records.{Raw, Input}
 use Rattle.snesl.specs.Checking.{Name, inputType}
 use Rattle.rules.specs.Names.{Env, nothing, named, Maps, MapsAll, Listed}
 
--- φ ::= constn | iota | plus, and 01's sum
+-- φ ::= constn | iota | plus, and 01's sum; of 001 the constants T and F, <=, == and not. A scalar operation on two ints is +, <= or ==.
 pub data BuiltIn : Type 0 where
   const : ℤ → BuiltIn
+  truth : Bool → BuiltIn
   iota : BuiltIn
-  plus : BuiltIn
+  operation : Operation → BuiltIn
+  negation : BuiltIn
   sum : BuiltIn
 
 -- which expressions are φ(x1, .., xk)
 pub data Calls : Raw → BuiltIn → List Variable → Type 0 where
   calls-const : {p : ℕ} {z : ℤ} → Calls (raw.const p z) (const z) []
+  calls-truth : {p : ℕ} {c : Bool} → Calls (raw.truth p c) (truth c) []
   calls-iota : {p : ℕ} {x : Variable} → Calls (raw.iota p x) iota (x ∷ [])
-  calls-plus : {p : ℕ} {x y : Variable} → Calls (raw.plus p x y) plus (x ∷ y ∷ [])
+  calls-operation : {p : ℕ} {o : Operation} {x y : Variable} → Calls (raw.operation p o x y) (operation o) (x ∷ y ∷ [])
+  calls-negation : {p : ℕ} {x : Variable} → Calls (raw.negation p x) negation (x ∷ [])
   calls-sum : {p : ℕ} {x : Variable} → Calls (raw.sum p x) sum (x ∷ [])
 
 -- φ : (τ1, .., τk) → τ
 pub data Takes : BuiltIn → List ValueType → ValueType → Type 0 where
   takes-const : {z : ℤ} → Takes (const z) [] int
+  takes-truth : {c : Bool} → Takes (truth c) [] bool
   takes-iota : Takes iota (int ∷ []) (braces int)
-  takes-plus : Takes plus (int ∷ int ∷ []) int
+  takes-operation : {o : Operation} {τ : ValueType} → τ ≡ scalar (resultOf o) → Takes (operation o) (int ∷ int ∷ []) τ
+  takes-negation : Takes negation (bool ∷ []) bool
   takes-sum : Takes sum (braces int ∷ []) int
 
 -- x is not in the list
@@ -47,7 +55,11 @@ pub data Once : List Variable → Type 0 where
 pub data IsScalar : ValueType → Type 0 where
   is-scalar : {b : Base} → IsScalar (scalar b)
 
--- Γ ⊢ e : τ. A comprehension's body sees x and the listed variables and nothing else. 01 adds that x is not listed, that no variable is listed twice, and
+-- a guard lists variables of whatever type
+abbrev pub AnyType : ValueType → Type 0
+AnyType τ = Unit
+
+-- Γ ⊢ e : τ. A comprehension's body sees x and the listed variables and nothing else, a guard's (001's restricted comprehension) the listed ones. 01 adds that x is not listed, that no variable is listed twice, and
 -- that no depth is above its limit.
 pub data Types : Env ValueType → Raw → ValueType → Type 0 where
   types-var : {Γ : Env ValueType} {p : ℕ} {τ : ValueType} {x : Variable} → Maps Γ x τ → Types Γ (raw.var p x) τ
@@ -68,6 +80,13 @@ pub data Types : Env ValueType → Raw → ValueType → Type 0 where
       → Types (named x υ Δ) e τ
       → suc (depthOf τ) ≤ mostDepth
       → Types Γ (raw.each p x y us e) (braces τ)
+  types-guard : {Γ Δ : Env ValueType} {p : ℕ} {τ : ValueType} {g : Variable} {us : List Variable} {e : Raw}
+      → Maps Γ g bool
+      → Listed AnyType Γ us Δ
+      → Once us
+      → Types Δ e τ
+      → suc (depthOf τ) ≤ mostDepth
+      → Types Γ (raw.guard p g us e) (braces τ)
 
 -- a formula's inputs, first one first, added to Γ: 01 asks that each has a name of its own
 pub data Declares : Env ValueType → List Input → Env ValueType → Type 0 where

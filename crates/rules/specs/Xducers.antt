@@ -12,9 +12,9 @@ use Rattle.snesl.specs.declared.code.Operation.{Operation}
 use Rattle.snesl.specs.declared.code.Operation.the-variants.{Plus, LessEqual, Equal}
 use Rattle.snesl.specs.declared.code.Transducer.{Transducer}
 use Rattle.snesl.specs.declared.code.Transducer.the-variants.{Const, ConstBool, ToFlags, B2u, Usum, MapTwo, MapOneNot, ScanPlus, Distr, SumPlus, Pack, UPack}
-use Rattle.snesl.specs.Values.{Element, inRange}
+use Rattle.snesl.specs.Values.{Element, inRange, equalZ}
 use Rattle.snesl.specs.Streams.{Stream, ints, bools, flags, units, bare, dataOf}
-use Rattle.snesl.specs.Transducers.{equalZ, signature}
+use Rattle.snesl.specs.Transducers.{signature}
 use Rattle.snesl.specs.Translation.{id}
 
 -- ψ, without the ids of what it is applied to

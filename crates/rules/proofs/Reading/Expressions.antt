@@ -8,16 +8,18 @@ use borrow.Author.Tests.{ltb-true, lt-ltb}
 use lib.Dec.{ltb}
 use lib.ListN.{length, length-append, length-map}
 use Rattle.laws.proofs.Never.{never}
+use Rattle.snesl.specs.declared.code.Operation.{Operation}
+use Rattle.snesl.specs.declared.code.Operation.the-variants.{Plus, LessEqual, Equal}
 use Rattle.snesl.specs.declared.code.Variable.{Variable}
 use Rattle.snesl.specs.declared.refusal.Refusal.the-variants.{NoRecord, OverLimit, TooMany}
-use Rattle.snesl.specs.Notation.{LT, EA}
+use Rattle.snesl.specs.Notation.{LT, EA, GU}
 use Rattle.snesl.specs.Limits.{mostRecords, mostListed}
 use Rattle.snesl.specs.Values.{Each}
 use Rattle.snesl.specs.Records as raw
-use Rattle.snesl.specs.Records.{Raw, Head, absent, over, single, letting, eaching, headAt, Scanned, scanned, thenScan, tooDeep, counted, scan}
-use Rattle.rules.specs.Grammar.{Names, Bytes, Spells, spells-var, spells-let, spells-const, spells-iota, spells-plus, spells-sum, spells-each}
+use Rattle.snesl.specs.Records.{Raw, Head, absent, over, single, letting, eaching, guarding, headAt, Scanned, scanned, thenScan, tooDeep, counted, scan}
+use Rattle.rules.specs.Grammar.{Names, Bytes, truthRecord, operationRecord, Spells, spells-var, spells-let, spells-const, spells-truth, spells-iota, spells-operation, spells-negation, spells-sum, spells-each, spells-guard}
 use Rattle.rules.proofs.Reading.Places.{At, at-first, at-rest, at-both}
-use Rattle.rules.proofs.Reading.Heads.{letters, var-there, let-there, const-there, iota-there, plus-there, sum-there, each-there, Heads, heads-absent, heads-over, heads-var, heads-let, heads-const, heads-iota, heads-plus, heads-sum, heads-each, heading}
+use Rattle.rules.proofs.Reading.Heads.{letters, var-there, let-there, const-there, truth-there, iota-there, operation-there, negation-there, sum-there, each-there, guard-there, Heads, heads-absent, heads-over, heads-var, heads-let, heads-const, heads-truth, heads-iota, heads-operation, heads-negation, heads-sum, heads-each, heads-guard, heading}
 
 -- what `scan` does with the record at k
 abbrev scanHead : (levels : ℕ) → List ℕ → (k n : ℕ) → Head → Scanned
@@ -31,6 +33,7 @@ scanHead levels t k n h =
           (thenScan (scan levels t (k + 3) (n + 1))
           (λ e₁ k₁ n₁. thenScan (scan levels t k₁ n₁) (λ e₂ k₂ n₂. scanned (raw.bind k x e₁ e₂) k₂ n₂)))
       | eaching x y us b ↦ counted k n (thenScan (scan levels t (k + b) (n + 1)) (λ e k₁ n₁. scanned (raw.each k x y us e) k₁ n₁))
+      | guarding g us b ↦ counted k n (thenScan (scan levels t (k + b) (n + 1)) (λ e k₁ n₁. scanned (raw.guard k g us e) k₁ n₁))
     ]
 
 scan-at : (levels : ℕ) (t : List ℕ) (k n : ℕ) → scan (suc levels) t k n ≡ scanHead levels t k n (headAt t k)
@@ -45,6 +48,15 @@ counts k n s h = rw (lt-ltb n mostRecords h, counted)
 
 moved : {s : Scanned} {e : Raw} {k k′ n n′ : ℕ} → s ≡ scanned e k n → k ≡ k′ → n ≡ n′ → s ≡ scanned e k′ n′
 moved {e = e} q p r = q ∙ (λ i. scanned e (p i) (r i))
+
+pub truth-length : (c : Bool) → length (truthRecord c) ≡ 3
+truth-length false = refl
+truth-length true = refl
+
+pub operation-length : (o : Operation) (x y : ℕ) → length (operationRecord o x y) ≡ 4
+operation-length Plus x y = refl
+operation-length LessEqual x y = refl
+operation-length Equal x y = refl
 
 -- ---- from bytes
 
@@ -69,6 +81,13 @@ module _ (t : List ℕ) where
       → scan (suc l) t k n ≡ scanned (raw.each k x y us e) k₁ n₁
   each-scans l k n {x} {y} {us} h few p = scan-head l t k n h ∙ counts k n _ few ∙ ap (λ s. thenScan s (λ e k₁ n₁. scanned (raw.each k x y us e) k₁ n₁)) p
 
+  guard-scans : (l k n : ℕ) {g : Variable} {us : List Variable} {b : ℕ} {e : Raw} {k₁ n₁ : ℕ}
+      → headAt t k ≡ guarding g us b
+      → n < mostRecords
+      → scan l t (k + b) (n + 1) ≡ scanned e k₁ n₁
+      → scan (suc l) t k n ≡ scanned (raw.guard k g us e) k₁ n₁
+  guard-scans l k n {g} {us} h few p = scan-head l t k n h ∙ counts k n _ few ∙ ap (λ s. thenScan s (λ e k₁ n₁. scanned (raw.guard k g us e) k₁ n₁)) p
+
   pub spells-scans : {l k : ℕ} {bs : List ℕ} {e : Raw} {r : ℕ} → Spells l k bs e r → (n : ℕ) → At t k bs → n + r ≤ mostRecords → scan l t k n ≡ scanned e (k + length bs) (n + r)
   spells-scans (spells-var {l = l} {k = k} q nx) n a few =
       moved (single-scans l k n (var-there (subst (At t k) q a) nx) few) (ap (λ bs. k + length bs) (sym q)) refl
@@ -84,8 +103,19 @@ module _ (t : List ℕ) where
       moved (single-scans l k n (const-there (subst (At t k) q a) z) few) (ap (λ bs. k + length bs) (sym q)) refl
   spells-scans (spells-iota {l = l} {k = k} q nx) n a few =
       moved (single-scans l k n (iota-there (subst (At t k) q a) nx) few) (ap (λ bs. k + length bs) (sym q)) refl
-  spells-scans (spells-plus {l = l} {k = k} q nx ny) n a few =
-      moved (single-scans l k n (plus-there (subst (At t k) q a) nx ny) few) (ap (λ bs. k + length bs) (sym q)) refl
+  spells-scans (spells-truth {l = l} {k = k} {c = c} q) n a few =
+      moved (single-scans l k n (truth-there c (subst (At t k) q a)) few) (ap (λ m. k + m) (sym (truth-length c) ∙ ap length (sym q))) refl
+  spells-scans (spells-operation {l = l} {k = k} {o = o} {x = x} {y = y} q nx ny) n a few =
+      moved (single-scans l k n (operation-there o (subst (At t k) q a) nx ny) few) (ap (λ m. k + m) (sym (operation-length o (x .0) (y .0)) ∙ ap length (sym q))) refl
+  spells-scans (spells-negation {l = l} {k = k} q nx) n a few =
+      moved (single-scans l k n (negation-there (subst (At t k) q a) nx) few) (ap (λ bs. k + length bs) (sym q)) refl
+  spells-scans (spells-guard {l = l} {k = k} {bs₁ = bs₁} {g = g} {us = us} q ng ns short h r) n a few =
+      let head = GU (g .0) (letters us) in
+      let all = subst (At t k) q a in
+      let long : length head ≡ 4 + length us = omega (arith, length-map us (λ u. u .0)) in
+      let rest = subst (λ j. At t (k + j) bs₁) long (at-rest head bs₁ all) in
+      moved (guard-scans l k n (guard-there (at-first head bs₁ all) ng ns short) (omega arith) (spells-scans h (n + 1) rest (omega arith)))
+      (omega (arith, ap length q, length-append head bs₁, long)) (omega arith)
   spells-scans (spells-sum {l = l} {k = k} q nx) n a few =
       moved (single-scans l k n (sum-there (subst (At t k) q a) nx) few) (ap (λ bs. k + length bs) (sym q)) refl
   spells-scans (spells-each {l = l} {k = k} {bs₁ = bs₁} {x = x} {y = y} {us = us} q nx ny ns short h r) n a few =
@@ -128,6 +158,7 @@ too-deep k over q = never (cc)
 too-deep k (single f b) q = never (cc)
 too-deep k (letting x) q = never (cc)
 too-deep k (eaching x y us b) q = never (cc)
+too-deep k (guarding g us b) q = never (cc)
 
 scan-zero : (t : List ℕ) (k n : ℕ) → scan zero t k n ≡ tooDeep k (headAt t k)
 unfolding scan
@@ -179,6 +210,23 @@ module _ {t : List ℕ} {k n : ℕ} where
         few = r .few;
       }
 
+  read-guard : (l : ℕ) {g : Variable} {us : List Variable} {e : Raw} {k₁ n₁ : ℕ} → At t k (GU (g .0) (letters us)) → Names g → Each Names us → length us ≤ mostListed
+      → Read t l (k + (4 + length us)) (n + 1) e k₁ n₁
+      → Read t (suc l) k n (raw.guard k g us e) k₁ n₁
+  read-guard l {g} {us} a ng ns short r =
+      let bs = r .bytes in
+      let head = GU (g .0) (letters us) in
+      let long : length head ≡ 4 + length us = omega (arith, length-map us (λ u. u .0)) in
+      record {
+        bytes = head ++ bs;
+        records = 1 + r .records;
+        stand = at-both head bs a (subst (λ j. At t (k + j) bs) (sym long) (r .stand));
+        spells = spells-guard refl ng ns short (r .spells) refl;
+        ends = omega (arith, r .ends, length-append head bs, long);
+        total = omega (arith, r .total);
+        few = r .few;
+      }
+
 -- what is read at every place
 record Reads (t : List ℕ) (levels : ℕ) : Type 0 where
   reads : (k n : ℕ) {e : Raw} {next m : ℕ} → scan levels t k n ≡ scanned e next m → Read t levels k n e next m
@@ -197,7 +245,13 @@ module _ {t : List ℕ} {l k n : ℕ} (below : Reads t l) {e : Raw} {next m : �
   read-head (heads-var a nx) q = read-single l _ a refl (spells-var refl nx) q
   read-head (heads-const a z) q = read-single l _ a refl (spells-const refl z) q
   read-head (heads-iota a nx) q = read-single l _ a refl (spells-iota refl nx) q
-  read-head (heads-plus a nx ny) q = read-single l _ a refl (spells-plus refl nx ny) q
+  read-head (heads-truth {c = c} a) q = read-single l _ a (truth-length c) (spells-truth refl) q
+  read-head (heads-operation {o = o} {x = x} {y = y} a nx ny) q = read-single l _ a (operation-length o (x .0) (y .0)) (spells-operation refl nx ny) q
+  read-head (heads-negation a nx) q = read-single l _ a refl (spells-negation refl nx) q
+  read-head (heads-guard {us = us} a ng ns short) q =
+      let (few, r) = uncounted k n _ q in
+      let (e₁, k₁, n₁, p, s) = after (scan l t (k + (4 + length us)) (n + 1)) _ r in
+      renamed s (read-guard l a ng ns short (below .reads (k + (4 + length us)) (n + 1) p))
   read-head (heads-sum a nx) q = read-single l _ a refl (spells-sum refl nx) q
   read-head (heads-let {x = x} a nx) q =
       let (few, r) = uncounted k n _ q in

@@ -3,20 +3,23 @@ use Prim.Native.Nat.{ℕ, zero, suc, _+_, _*_, _-_, _≤_, _<_}
 use native.Mathlib.Omega.{arith}
 use mathlib.Core.Bool.{Bool, true, false, _&&_}
 use mathlib.Core.List.{List, [], _∷_, _++_, map}
+use mathlib.Core.Option.{some, none}
 use mathlib.Core.Path.{_≡_, refl, sym, ap, _∙_, subst}
 use borrow.Author.Tests.{le-leb, leb-true, eqb-true}
 use lib.Dec.{eqb, leb}
 use lib.IntN.{ℤ}
 use lib.ListN.{length, getD, length-map}
 use Rattle.laws.proofs.Tests.{both-true}
+use Rattle.snesl.specs.declared.code.Operation.{Operation}
+use Rattle.snesl.specs.declared.code.Operation.the-variants.{Plus, LessEqual, Equal}
 use Rattle.snesl.specs.declared.code.Variable.{Variable}
 use Rattle.snesl.specs.Ascii.{ascii}
-use Rattle.snesl.specs.Notation.{VR, LT, IO, PL, SM, EA}
+use Rattle.snesl.specs.Notation.{VR, LT, KB, IO, PL, LE, EQ, NO, SM, EA, GU}
 use Rattle.snesl.specs.Limits.{mostListed, lastVariable}
 use Rattle.snesl.specs.Values.{Each, each-none, each-more}
 use Rattle.snesl.specs.Records as raw
-use Rattle.snesl.specs.Records.{Head, absent, over, single, letting, eaching, whole, eachHead, headAt, byteAt, markAt, variableAt, variablesAt, variablesOk, signed, intAt, markVR, markLT, markKN, markIO, markPL, markSM, markEA}
-use Rattle.rules.specs.Grammar.{Names, Bytes}
+use Rattle.snesl.specs.Records.{Head, absent, over, single, letting, eaching, guarding, whole, eachHead, guardHead, truthHead, operationOf, operationHead, headAt, byteAt, markAt, variableAt, variablesAt, variablesOk, signed, intAt, markVR, markLT, markKN, markKB, markIO, markPL, markLE, markEQ, markNO, markSM, markEA, markGU}
+use Rattle.rules.specs.Grammar.{Names, Bytes, truthRecord, operationRecord}
 use Rattle.rules.proofs.Reading.Places.{At, at-fits, at-byte, at-none, at-rest, at-both, at-one, at-more}
 
 -- ---- from bytes to the record
@@ -57,21 +60,68 @@ module _ (t : List ℕ) (k : ℕ) where
   unfolding headAt
   head-KN q = let by : (m : ℕ) → eqb (markAt t k) m ≡ eqb markKN m = λ m. ap (λ n. eqb n m) q in rw (by markVR, by markLT, by markKN, headAt)
 
+  head-KB : markAt t k ≡ markKB → headAt t k ≡ truthHead t k
+  unfolding headAt
+  head-KB q =
+      let by : (m : ℕ) → eqb (markAt t k) m ≡ eqb markKB m = λ m. ap (λ n. eqb n m) q in
+      rw (by markVR, by markLT, by markKN, by markKB, headAt)
+
   head-IO : markAt t k ≡ markIO → headAt t k ≡ whole t k 3 (variablesOk t (k + 2) 1) (single (raw.iota k (variableAt t (k + 2))) 3)
   unfolding headAt
-  head-IO q = let by : (m : ℕ) → eqb (markAt t k) m ≡ eqb markIO m = λ m. ap (λ n. eqb n m) q in rw (by markVR, by markLT, by markKN, by markIO, headAt)
+  head-IO q =
+      let by : (m : ℕ) → eqb (markAt t k) m ≡ eqb markIO m = λ m. ap (λ n. eqb n m) q in
+      rw (by markVR, by markLT, by markKN, by markKB, by markIO, headAt)
 
-  head-PL : markAt t k ≡ markPL → headAt t k ≡ whole t k 4 (variablesOk t (k + 2) 2) (single (raw.plus k (variableAt t (k + 2)) (variableAt t (k + 3))) 4)
+  head-NO : markAt t k ≡ markNO → headAt t k ≡ whole t k 3 (variablesOk t (k + 2) 1) (single (raw.negation k (variableAt t (k + 2))) 3)
   unfolding headAt
-  head-PL q = let by : (m : ℕ) → eqb (markAt t k) m ≡ eqb markPL m = λ m. ap (λ n. eqb n m) q in rw (by markVR, by markLT, by markKN, by markIO, by markPL, headAt)
+  head-NO q =
+      let by : (m : ℕ) → eqb (markAt t k) m ≡ eqb markNO m = λ m. ap (λ n. eqb n m) q in
+      rw (by markVR, by markLT, by markKN, by markKB, by markIO, by markNO, headAt)
 
   head-SM : markAt t k ≡ markSM → headAt t k ≡ whole t k 3 (variablesOk t (k + 2) 1) (single (raw.sum k (variableAt t (k + 2))) 3)
   unfolding headAt
-  head-SM q = let by : (m : ℕ) → eqb (markAt t k) m ≡ eqb markSM m = λ m. ap (λ n. eqb n m) q in rw (by markVR, by markLT, by markKN, by markIO, by markPL, by markSM, headAt)
+  head-SM q =
+      let by : (m : ℕ) → eqb (markAt t k) m ≡ eqb markSM m = λ m. ap (λ n. eqb n m) q in
+      rw (by markVR, by markLT, by markKN, by markKB, by markIO, by markNO, by markSM, headAt)
 
   head-EA : markAt t k ≡ markEA → headAt t k ≡ eachHead t k
   unfolding headAt
-  head-EA q = let by : (m : ℕ) → eqb (markAt t k) m ≡ eqb markEA m = λ m. ap (λ n. eqb n m) q in rw (by markVR, by markLT, by markKN, by markIO, by markPL, by markSM, by markEA, headAt)
+  head-EA q =
+      let by : (m : ℕ) → eqb (markAt t k) m ≡ eqb markEA m = λ m. ap (λ n. eqb n m) q in
+      rw (by markVR, by markLT, by markKN, by markKB, by markIO, by markNO, by markSM, by markEA, headAt)
+
+  head-GU : markAt t k ≡ markGU → headAt t k ≡ guardHead t k
+  unfolding headAt
+  head-GU q =
+      let by : (m : ℕ) → eqb (markAt t k) m ≡ eqb markGU m = λ m. ap (λ n. eqb n m) q in
+      rw (by markVR, by markLT, by markKN, by markKB, by markIO, by markNO, by markSM, by markEA, by markGU, headAt)
+
+  head-PL : markAt t k ≡ markPL → headAt t k ≡ whole t k 4 (variablesOk t (k + 2) 2) (single (raw.operation k Plus (variableAt t (k + 2)) (variableAt t (k + 3))) 4)
+  unfolding headAt
+  head-PL q =
+      let by : (m : ℕ) → eqb (markAt t k) m ≡ eqb markPL m = λ m. ap (λ n. eqb n m) q in
+      rw (by markVR, by markLT, by markKN, by markKB, by markIO, by markNO, by markSM, by markEA, by markGU, headAt) (ap (λ m. operationHead t k (operationOf m)) q)
+
+  head-LE : markAt t k ≡ markLE → headAt t k ≡ whole t k 4 (variablesOk t (k + 2) 2) (single (raw.operation k LessEqual (variableAt t (k + 2)) (variableAt t (k + 3))) 4)
+  unfolding headAt
+  head-LE q =
+      let by : (m : ℕ) → eqb (markAt t k) m ≡ eqb markLE m = λ m. ap (λ n. eqb n m) q in
+      rw (by markVR, by markLT, by markKN, by markKB, by markIO, by markNO, by markSM, by markEA, by markGU, headAt) (ap (λ m. operationHead t k (operationOf m)) q)
+
+  head-EQ : markAt t k ≡ markEQ → headAt t k ≡ whole t k 4 (variablesOk t (k + 2) 2) (single (raw.operation k Equal (variableAt t (k + 2)) (variableAt t (k + 3))) 4)
+  unfolding headAt
+  head-EQ q =
+      let by : (m : ℕ) → eqb (markAt t k) m ≡ eqb markEQ m = λ m. ap (λ n. eqb n m) q in
+      rw (by markVR, by markLT, by markKN, by markKB, by markIO, by markNO, by markSM, by markEA, by markGU, headAt) (ap (λ m. operationHead t k (operationOf m)) q)
+
+  -- an operation on two ints, read
+  two-read : (o : Operation) (x y : Variable) → byteAt t (k + 2) ≡ x .0 → byteAt t (k + 3) ≡ y .0 → k + 4 ≤ length t → Names x → Names y
+      → whole t k 4 (variablesOk t (k + 2) 2) (single (raw.operation k o (variableAt t (k + 2)) (variableAt t (k + 3))) 4) ≡ single (raw.operation k o x y) 4
+  two-read o x y b c fits n m =
+      let three : suc (k + 2) ≡ k + 3 = omega arith in
+      let v = variable-there t (k + 2) x b in
+      let w = variable-there t (k + 3) y c in
+      whole-there t k 4 _ _ fits (two-variables t (k + 2) x y b (ap (λ i. getD t i 0) three ∙ c) n m) ∙ (λ i. single (raw.operation k o (v i) (w i)) 4)
 
 module _ {t : List ℕ} {k : ℕ} where
   pub var-there : {x : Variable} → At t k (VR (x .0)) → Names x → headAt t k ≡ single (raw.var k x) 3
@@ -94,16 +144,22 @@ module _ {t : List ℕ} {k : ℕ} where
       let b = at-byte a 2 in
       head-SM t k (mark-there a) ∙ whole-there t k 3 _ _ (at-fits a) (one-variable t (k + 2) x b n) ∙ ap (λ v. single (raw.sum k v) 3) (variable-there t (k + 2) x b)
 
-  pub plus-there : {x y : Variable} → At t k (PL (x .0) (y .0)) → Names x → Names y → headAt t k ≡ single (raw.plus k x y) 4
-  plus-there {x} {y} a n m =
+  pub negation-there : {x : Variable} → At t k (NO (x .0)) → Names x → headAt t k ≡ single (raw.negation k x) 3
+  negation-there {x} a n =
       let b = at-byte a 2 in
-      let c = at-byte a 3 in
-      let three : suc (k + 2) ≡ k + 3 = omega arith in
-      let v = variable-there t (k + 2) x b in
-      let w = variable-there t (k + 3) y c in
-      head-PL t k (mark-there a)
-      ∙ whole-there t k 4 _ _ (at-fits a) (two-variables t (k + 2) x y b (ap (λ i. getD t i 0) three ∙ c) n m)
-      ∙ (λ i. single (raw.plus k (v i) (w i)) 4)
+      head-NO t k (mark-there a) ∙ whole-there t k 3 _ _ (at-fits a) (one-variable t (k + 2) x b n) ∙ ap (λ v. single (raw.negation k v) 3) (variable-there t (k + 2) x b)
+
+  pub truth-there : (c : Bool) → At t k (truthRecord c) → headAt t k ≡ single (raw.truth k c) 3
+  truth-there false a = let b : byteAt t (k + 2) ≡ 0 = at-byte a 2 in head-KB t k (mark-there a) ∙ rw (b, truthHead) (whole-there t k 3 true _ (at-fits a) refl)
+  truth-there true a =
+      let b : byteAt t (k + 2) ≡ 1 = at-byte a 2 in
+      let by : (m : ℕ) → eqb (byteAt t (k + 2)) m ≡ eqb 1 m = λ m. ap (λ n. eqb n m) b in
+      head-KB t k (mark-there a) ∙ rw (by 0, by 1, truthHead) (whole-there t k 3 true _ (at-fits a) refl)
+
+  pub operation-there : (o : Operation) {x y : Variable} → At t k (operationRecord o (x .0) (y .0)) → Names x → Names y → headAt t k ≡ single (raw.operation k o x y) 4
+  operation-there Plus {x} {y} a n m = head-PL t k (mark-there a) ∙ two-read t k Plus x y (at-byte a 2) (at-byte a 3) (at-fits a) n m
+  operation-there LessEqual {x} {y} a n m = head-LE t k (mark-there a) ∙ two-read t k LessEqual x y (at-byte a 2) (at-byte a 3) (at-fits a) n m
+  operation-there Equal {x} {y} a n m = head-EQ t k (mark-there a) ∙ two-read t k Equal x y (at-byte a 2) (at-byte a 3) (at-fits a) n m
 
   pub const-there : {a b c d : ℕ} {z : ℤ} → At t k (ascii "KN" ++ a ∷ b ∷ c ∷ d ∷ []) → z ≡ signed (a + b * 256 + c * 65536 + d * 16777216) → headAt t k ≡ single (raw.const k z) 6
   const-there {a} {b} {c} {d} {z} h q =
@@ -165,6 +221,25 @@ module _ {t : List ℕ} {k : ℕ} where
       (whole-there t k (5 + length us) _ _ all fine
       ∙ (λ i. eaching (v i) (w i) (vs i) (5 + length us)))
 
+  pub guard-there : {g : Variable} {us : List Variable} → At t k (GU (g .0) (letters us)) → Names g → Each Names us → length us ≤ mostListed
+      → headAt t k ≡ guarding g us (4 + length us)
+  guard-there {g} {us} a n ns few =
+      let fits = at-fits a in
+      let count : length (letters us) ≡ length us = length-map us (λ u. u .0) in
+      let fourth : k + 4 ≤ length t = omega arith in
+      let all : k + (4 + length us) ≤ length t = omega arith in
+      let b = at-byte a 2 in
+      let j : byteAt t (k + 3) ≡ length us = at-byte a 3 ∙ count in
+      let rest = at-rest (ascii "GU" ++ g .0 ∷ length (letters us) ∷ []) (letters us) a in
+      let v = variable-there t (k + 2) g b in
+      let vs = variables-there t us (k + 4) rest in
+      let fine : (variablesOk t (k + 2) 1 && leb (length us) mostListed && variablesOk t (k + 4) (length us)) ≡ true =
+      rw (one-variable t (k + 2) g b n, le-leb (length us) mostListed few, variables-fine t us (k + 4) rest ns) in
+      head-GU t k (mark-there a)
+      ∙ rw (le-leb (k + 4) (length t) fourth, j, guardHead)
+      (whole-there t k (4 + length us) _ _ all fine
+      ∙ (λ i. guarding (v i) (vs i) (4 + length us)))
+
 -- ---- from the record to its bytes
 
 -- the record that `headAt` tells of, with the bytes that it stands in
@@ -175,10 +250,14 @@ pub data Heads (t : List ℕ) (k : ℕ) : Head → Type 0 where
   heads-let : {x : Variable} → At t k (LT (x .0)) → Names x → Heads t k (letting x)
   heads-const : {a b c d : ℕ} {z : ℤ} → At t k (ascii "KN" ++ a ∷ b ∷ c ∷ d ∷ []) → z ≡ signed (a + b * 256 + c * 65536 + d * 16777216) → Heads t k (single (raw.const k z) 6)
   heads-iota : {x : Variable} → At t k (IO (x .0)) → Names x → Heads t k (single (raw.iota k x) 3)
-  heads-plus : {x y : Variable} → At t k (PL (x .0) (y .0)) → Names x → Names y → Heads t k (single (raw.plus k x y) 4)
+  heads-truth : {c : Bool} → At t k (truthRecord c) → Heads t k (single (raw.truth k c) 3)
+  heads-operation : {o : Operation} {x y : Variable} → At t k (operationRecord o (x .0) (y .0)) → Names x → Names y → Heads t k (single (raw.operation k o x y) 4)
+  heads-negation : {x : Variable} → At t k (NO (x .0)) → Names x → Heads t k (single (raw.negation k x) 3)
   heads-sum : {x : Variable} → At t k (SM (x .0)) → Names x → Heads t k (single (raw.sum k x) 3)
   heads-each : {x y : Variable} {us : List Variable} → At t k (EA (x .0) (y .0) (letters us)) → Names x → Names y → Each Names us → length us ≤ mostListed
       → Heads t k (eaching x y us (5 + length us))
+  heads-guard : {g : Variable} {us : List Variable} → At t k (GU (g .0) (letters us)) → Names g → Each Names us → length us ≤ mostListed
+      → Heads t k (guarding g us (4 + length us))
 
 byte-small : {t : List ℕ} → Bytes t → (k : ℕ) → getD t k 0 < 256
 byte-small each-none k = omega arith
@@ -288,6 +367,48 @@ module _ (t : List ℕ) (small : Bytes t) (k : ℕ) where
           subst (λ n. Heads t k (eaching (variableAt t (k + 2)) (variableAt t (k + 3)) us (5 + n))) long
           (heads-each spelt n p (names-at t (k + 5) j fine) (omega (arith, leb-true j mostListed few, long)))
 
+  heading-guard : At t k (71 ∷ 85 ∷ []) → Heads t k (guardHead t k)
+  heading-guard m =
+      let j = byteAt t (k + 3) in
+      by-test (leb (k + 4) (length t)) _ _
+      (λ four.
+      entire (4 + j) (variablesOk t (k + 2) 1 && leb j mostListed && variablesOk t (k + 4) j) (guarding (variableAt t (k + 2)) (variablesAt t (k + 4) j) (4 + j))
+      (λ fits ok. made j refl fits ok))
+      heads-absent
+    where
+      made : (j : ℕ) → byteAt t (k + 3) ≡ j → k + (4 + j) ≤ length t
+          → (variablesOk t (k + 2) 1 && leb j mostListed && variablesOk t (k + 4) j) ≡ true
+          → Heads t k (guarding (variableAt t (k + 2)) (variablesAt t (k + 4) j) (4 + j))
+      made j e fits ok =
+          let us = variablesAt t (k + 4) j in
+          let (ahead, fine) = both-true (variablesOk t (k + 2) 1 && leb j mostListed) (variablesOk t (k + 4) j) ok in
+          let (one, few) = both-true (variablesOk t (k + 2) 1) (leb j mostListed) ahead in
+          let long = length-variables t (k + 4) j in
+          let count : byteAt t (k + 3) ≡ length (letters us) = e ∙ sym long ∙ sym (length-map us (λ u. u .0)) in
+          let all = at-both _ (letters us) (with-two (omega arith) m) (letters-at t (k + 4) j (omega arith)) in
+          let spelt : At t k (GU (byteAt t (k + 2)) (letters us)) = subst (λ c. At t k (71 ∷ 85 ∷ byteAt t (k + 2) ∷ c ∷ letters us)) count all in
+          subst (λ n. Heads t k (guarding (variableAt t (k + 2)) us (4 + n))) long
+          (heads-guard spelt (one-name t (k + 2) one) (names-at t (k + 4) j fine) (omega (arith, leb-true j mostListed few, long)))
+
+  heading-truth : At t k (75 ∷ 66 ∷ []) → Heads t k (truthHead t k)
+  heading-truth m =
+      by-test (eqb (byteAt t (k + 2)) 0) _ _ (λ q. entire 3 true _ (λ fits ok. heads-truth {c = false} (subst (λ b. At t k (75 ∷ 66 ∷ b ∷ [])) (eqb-true _ _ q) (with-one fits m))))
+      (by-test (eqb (byteAt t (k + 2)) 1) _ _ (λ q. entire 3 true _ (λ fits ok. heads-truth {c = true} (subst (λ b. At t k (75 ∷ 66 ∷ b ∷ [])) (eqb-true _ _ q) (with-one fits m))))
+      heads-absent)
+
+  heading-operation : Heads t k (operationHead t k (operationOf (markAt t k)))
+  heading-operation = go (eqb (markAt t k) markPL) refl (eqb (markAt t k) markLE) refl (eqb (markAt t k) markEQ) refl
+    where
+      two : (o : Operation) → (k + 4 ≤ length t → At t k (operationRecord o (byteAt t (k + 2)) (byteAt t (k + 3)))) → Heads t k (operationHead t k (some o))
+      two o f = entire 4 _ _ (λ fits ok. let (n, p) = two-names t k ok in heads-operation (f fits) n p)
+
+      go : (x : Bool) → eqb (markAt t k) markPL ≡ x → (y : Bool) → eqb (markAt t k) markLE ≡ y → (z : Bool) → eqb (markAt t k) markEQ ≡ z
+          → Heads t k (operationHead t k (elim x [ true ↦ some Plus | false ↦ elim y [ true ↦ some LessEqual | false ↦ elim z [ true ↦ some Equal | false ↦ none ] ] ]))
+      go true p y q z r = two Plus (λ fits. with-two fits (mark-bytes t k 80 76 markPL small refl (omega arith) (omega arith) (eqb-true _ _ p)))
+      go false p true q z r = two LessEqual (λ fits. with-two fits (mark-bytes t k 76 69 markLE small refl (omega arith) (omega arith) (eqb-true _ _ q)))
+      go false p false q true r = two Equal (λ fits. with-two fits (mark-bytes t k 69 81 markEQ small refl (omega arith) (omega arith) (eqb-true _ _ r)))
+      go false p false q false r = heads-absent
+
   pub heading : Heads t k (headAt t k)
   unfolding headAt
   heading =
@@ -296,8 +417,10 @@ module _ (t : List ℕ) (small : Bytes t) (k : ℕ) where
       by-test (eqb m markVR) _ _ (λ q. entire 3 _ _ (λ fits ok. heads-var (with-one fits (mark-bytes t k 86 82 markVR small refl (omega arith) (omega arith) (is markVR q))) (one-name t (k + 2) ok)))
       (by-test (eqb m markLT) _ _ (λ q. entire 3 _ _ (λ fits ok. heads-let (with-one fits (mark-bytes t k 76 84 markLT small refl (omega arith) (omega arith) (is markLT q))) (one-name t (k + 2) ok)))
       (by-test (eqb m markKN) _ _ (λ q. entire 6 true _ (λ fits ok. heads-const (with-four fits (mark-bytes t k 75 78 markKN small refl (omega arith) (omega arith) (is markKN q))) const-number))
+      (by-test (eqb m markKB) _ _ (λ q. heading-truth (mark-bytes t k 75 66 markKB small refl (omega arith) (omega arith) (is markKB q)))
       (by-test (eqb m markIO) _ _ (λ q. entire 3 _ _ (λ fits ok. heads-iota (with-one fits (mark-bytes t k 73 79 markIO small refl (omega arith) (omega arith) (is markIO q))) (one-name t (k + 2) ok)))
-      (by-test (eqb m markPL) _ _ (λ q. entire 4 _ _ (λ fits ok. let (n, p) = two-names t k ok in heads-plus (with-two fits (mark-bytes t k 80 76 markPL small refl (omega arith) (omega arith) (is markPL q))) n p))
+      (by-test (eqb m markNO) _ _ (λ q. entire 3 _ _ (λ fits ok. heads-negation (with-one fits (mark-bytes t k 78 79 markNO small refl (omega arith) (omega arith) (is markNO q))) (one-name t (k + 2) ok)))
       (by-test (eqb m markSM) _ _ (λ q. entire 3 _ _ (λ fits ok. heads-sum (with-one fits (mark-bytes t k 83 77 markSM small refl (omega arith) (omega arith) (is markSM q))) (one-name t (k + 2) ok)))
       (by-test (eqb m markEA) _ _ (λ q. heading-each (mark-bytes t k 69 65 markEA small refl (omega arith) (omega arith) (is markEA q)))
-      heads-absent))))))
+      (by-test (eqb m markGU) _ _ (λ q. heading-guard (mark-bytes t k 71 85 markGU small refl (omega arith) (omega arith) (is markGU q)))
+      heading-operation))))))))

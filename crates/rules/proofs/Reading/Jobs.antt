@@ -14,13 +14,15 @@ use Rattle.laws.proofs.Never.{never}
 use Rattle.laws.proofs.Tests.{both-true}
 use Rattle.snesl.specs.declared.code.Base.{Base}
 use Rattle.snesl.specs.declared.code.Base.the-variants as base
+use Rattle.snesl.specs.declared.code.Operation.{Operation}
+use Rattle.snesl.specs.declared.code.Operation.the-variants.{Plus, LessEqual, Equal}
 use Rattle.snesl.specs.declared.refusal.Refusal.the-variants.{NoRecord, OverLimit, TooMany}
 use Rattle.snesl.specs.Ascii.{ascii}
 use Rattle.snesl.specs.Notation.{IN, IB}
 use Rattle.snesl.specs.Limits.{mostBytes, mostInputs, mostNesting, mostDepth, lastVariable}
 use Rattle.snesl.specs.Records.{Raw, byteAt, markAt, markIN, markIB, markVA, inputBase, Input, Declared, declared, inputFirst, inputAt, inputOk, inputsAt, Span, Texts, texts, spanFirst, spanAt, textsAt, Front, front, expressionAfter, inputsThen, frontOf, formulaEnd, readFormula, JobRead, job, textsThen, jobEnd, readJob}
 use Rattle.snesl.proofs.Formed.{FrontRead, formula-read, job-read}
-use Rattle.rules.specs.Grammar.{Names, Bytes, inputRecord, Spells, spells-var, spells-let, spells-const, spells-iota, spells-plus, spells-sum, spells-each, SpellsInputs, inputs-none, inputs-more, SpellsTexts, texts-none, texts-more, SpellsFront, SpellsJob}
+use Rattle.rules.specs.Grammar.{Names, Bytes, inputRecord, truthRecord, operationRecord, Spells, spells-var, spells-let, spells-const, spells-truth, spells-iota, spells-operation, spells-negation, spells-sum, spells-each, spells-guard, SpellsInputs, inputs-none, inputs-more, SpellsTexts, texts-none, texts-more, SpellsFront, SpellsJob}
 use Rattle.rules.proofs.Reading.Places.{At, at-fits, at-byte, at-none, at-first, at-rest, at-both}
 use Rattle.rules.proofs.Reading.Heads.{mark-there, mark-bytes, with-two}
 use Rattle.rules.proofs.Reading.Expressions.{spells-scans, scans-spell}
@@ -30,13 +32,25 @@ use Rattle.rules.proofs.Reading.Expressions.{spells-scans, scans-spell}
 no-input-there : {t : List ℕ} {k a b : ℕ} {cs : List ℕ} → At t k (a ∷ b ∷ cs) → inputBase (a * 256 + b) ≡ none → inputBase (markAt t k) ≡ none
 no-input-there h q = ap inputBase (mark-there h) ∙ q
 
+truth-there : {t : List ℕ} {k : ℕ} (c : Bool) → At t k (truthRecord c) → inputBase (markAt t k) ≡ none
+truth-there false a = no-input-there a refl
+truth-there true a = no-input-there a refl
+
+operation-there : {t : List ℕ} {k : ℕ} (o : Operation) (x y : ℕ) → At t k (operationRecord o x y) → inputBase (markAt t k) ≡ none
+operation-there Plus x y a = no-input-there a refl
+operation-there LessEqual x y a = no-input-there a refl
+operation-there Equal x y a = no-input-there a refl
+
 -- an expression starts with no input
 expression-there : {t : List ℕ} {l k r : ℕ} {bs : List ℕ} {e : Raw} → Spells l k bs e r → At t k bs → inputBase (markAt t k) ≡ none
 expression-there {t} {k = k} (spells-var q n) a = no-input-there (subst (At t k) q a) refl
 expression-there {t} {k = k} (spells-let q n h₁ h₂ c) a = no-input-there (subst (At t k) q a) refl
 expression-there {t} {k = k} (spells-const q n) a = no-input-there (subst (At t k) q a) refl
 expression-there {t} {k = k} (spells-iota q n) a = no-input-there (subst (At t k) q a) refl
-expression-there {t} {k = k} (spells-plus q n m) a = no-input-there (subst (At t k) q a) refl
+expression-there {t} {k = k} (spells-truth {c = c} q) a = truth-there c (subst (At t k) q a)
+expression-there {t} {k = k} (spells-operation {o = o} {x = x} {y = y} q n m) a = operation-there o (x .0) (y .0) (subst (At t k) q a)
+expression-there {t} {k = k} (spells-negation q n) a = no-input-there (subst (At t k) q a) refl
+expression-there {t} {k = k} (spells-guard q n ns s h c) a = no-input-there (subst (At t k) q a) refl
 expression-there {t} {k = k} (spells-sum q n) a = no-input-there (subst (At t k) q a) refl
 expression-there {t} {k = k} (spells-each q n m ns s h c) a = no-input-there (subst (At t k) q a) refl
 
