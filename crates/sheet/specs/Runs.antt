@@ -59,7 +59,7 @@ abbrev pub smallWords : ℕ
 smallWords = 512
 
 abbrev pub middleWords : ℕ
-middleWords = 2048
+middleWords = 4096
 
 -- ---- a run that went through
 

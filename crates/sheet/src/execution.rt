@@ -21,17 +21,21 @@ ghost use Rattle.leaves.specs.Places.{mostWords};
 ghost use Rattle.inputs.specs.Supply.{Counted};
 ghost use Rattle.sheet.specs.Runs.{told, Admitted, needOf, smallWords, middleWords, execution, Performs, spoiledFrom};
 
-// The most words that an input's binding takes, and those that a nesting of the walk takes.
+// The most words that an input's binding takes, those that a nesting of the walk takes, and those that the innermost guard takes while it packs.
 const INPUT_WORDS: usize = 29;
 
-const NESTING_WORDS: usize = 69;
+const NESTING_WORDS: usize = 235;
+
+const PACKING_WORDS: usize = 24;
 
 // The stacks of words that a run may lend itself: the largest is that of the deepest walk over the most inputs.
 const SMALL: usize = 512;
 
-const MIDDLE: usize = 2048;
+const MIDDLE: usize = 4096;
 
-const LARGEST: usize = NESTING_WORDS * (Formula::NESTING + 1) + INPUT_WORDS * Formula::INPUTS;
+const LARGEST: usize = NESTING_WORDS * (Formula::NESTING + 1)
+    + PACKING_WORDS
+    + INPUT_WORDS * Formula::INPUTS;
 
 // With a value the buffer holds the streams; with a refusal it holds whatever was left there. The walk only runs, so nothing is written to the text.
 fn perform(
