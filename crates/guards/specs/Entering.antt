@@ -13,14 +13,15 @@ use Rattle.snesl.specs.declared.code.Transducer.the-variants.{B2u, Usum}
 use Rattle.snesl.specs.declared.refusal.Refusal.{Refusal}
 use Rattle.snesl.specs.Limits.{mostBytes, mostListed, mostDepth}
 use Rattle.snesl.specs.Values.{ValueType, bool, depthOf}
-use Rattle.snesl.specs.Terms.{_∋_, Term, Listing, listedTypes, All, lookup}
-use Rattle.snesl.specs.Trees.{IdTree, root, order}
+use Rattle.snesl.specs.Terms as terms
+use Rattle.snesl.specs.Terms.{_∋_, Term, listedTypes, All}
+use Rattle.snesl.specs.Trees.{IdTree, order}
 use Rattle.snesl.specs.Streams.{flags, units, Store, _!_}
-use Rattle.snesl.specs.Programs.{Program, define, _⨾_, dv, fv, among, ascending}
+use Rattle.snesl.specs.Programs.{Program, define, dv, fv, among, ascending}
 use Rattle.snesl.specs.Machine.{State}
 use Rattle.snesl.specs.Records.{byteAt, variableAt, variablesAt}
 use Rattle.snesl.specs.Checking.{Name, find, found, NamedListing, listedAny, anyPointers, anyNames}
-use Rattle.snesl.specs.Translation.{id, packsSize, packTrees, packCodes, controlled, tree, code}
+use Rattle.snesl.specs.Translation.{id, packsSize, packTrees, tree, code}
 use Rattle.snesl.specs.Formed.{Formed}
 use Rattle.environment.specs.Words.{PlaceTree, placeWords, spelled}
 use Rattle.environment.specs.Needs.{listedSize, spreadSize, words}
@@ -103,17 +104,8 @@ pub record Guard (t : List ℕ) (k sp : ℕ) (env : List ℕ) (buf : List ℤ) (
   pub few : length (scene .machine .store) + 25 * (length t - k) ≤ mostStreams
 
 -- its code
-abbrev pub guardCode : {Γ : List ValueType} {τ : ValueType} → Γ ∋ bool → (us : Listing Γ) → Term (listedTypes us) τ → All IdTree Γ → ℕ → Program
-guardCode g us e δ s =
-    define (B2u (id (root (lookup g δ))))
-    (define (Usum (id s))
-    (packCodes (root (lookup g δ)) us δ (s + 2)
-    ⨾ controlled (s + 1) (s + (2 + packsSize us))
-    (code e (packTrees us δ (s + 2)) (s + (2 + packsSize us)))
-    (tree e (packTrees us δ (s + 2)) (s + (2 + packsSize us)))))
-
 abbrev pub wholeCode : {t : List ℕ} {k sp : ℕ} {env : List ℕ} {buf : List ℤ} {state text : List ℕ} → Guard t k sp env buf state text → Program
-wholeCode g = guardCode (g .pointer) (anyPointers (g .list)) (g .body) (g .scene .trees) (length (g .scene .machine .store))
+wholeCode g = code (terms.guard (g .pointer) (anyPointers (g .list)) (g .body)) (g .scene .trees) (length (g .scene .machine .store))
 
 -- the trees of the body's environment
 abbrev pub innerTrees : {t : List ℕ} {k sp : ℕ} {env : List ℕ} {buf : List ℤ} {state text : List ℕ} → (g : Guard t k sp env buf state text) → All IdTree (listedTypes (anyPointers (g .list)))
