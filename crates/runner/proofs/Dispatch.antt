@@ -1,5 +1,6 @@
 -- The walk's arms: for each route of a record, what its arm needs follows from what the walk was given, and what the arm answers is the walk's answer.
 use Prim.Native.Nat.{ℕ, suc, _+_, _-_, _≤_, _<_}
+use mathlib.Core.Bool.{Bool}
 use mathlib.Core.List.{List, _∷_, _++_}
 use mathlib.Core.Logic.{_⊎_, inl, inr}
 use mathlib.Core.Path.{_≡_, refl, sym, _∙_, ap, subst}
@@ -10,8 +11,10 @@ use lib.ListN.{length, drop}
 use Rattle.laws.proofs.Never.{never}
 use Rattle.snesl.specs.declared.code.Variable.{Variable}
 use Rattle.snesl.specs.Limits.{mostDepth, mostListed}
-use Rattle.snesl.specs.declared.code.Operation.the-variants.{Plus}
-use Rattle.snesl.specs.Values.{ValueType, int, depthOf}
+use Rattle.snesl.specs.declared.code.Base.{Base}
+use Rattle.snesl.specs.declared.code.Base.the-variants as base
+use Rattle.snesl.specs.declared.code.Operation.{Operation}
+use Rattle.snesl.specs.Values.{ValueType, scalar, int, depthOf, resultOf}
 use Rattle.snesl.specs.Terms as terms
 use Rattle.snesl.specs.Terms.{Term, anyType, listedTypes, _▹_, lookup}
 use Rattle.snesl.specs.declared.code.Transducer.{Transducer}
@@ -22,14 +25,14 @@ use Rattle.snesl.specs.Records.{byteAt, variableAt, variablesAt, eaching, headA
 use Rattle.snesl.specs.Checking.{find, listedNames, pointers}
 use Rattle.snesl.specs.Translation.{id, code, tree}
 use Rattle.snesl.specs.Formed.{Formed}
-use Rattle.snesl.proofs.Views.{by-var, by-const, by-iota, by-plus, by-sum, by-bind, by-each, not-absent, not-over}
+use Rattle.snesl.proofs.Views.{by-var, by-const, by-truth, by-iota, by-operation, by-negation, by-sum, by-bind, by-each, not-absent, not-over}
 use Rattle.environment.specs.Words.{treeWords, treeSize, Sought}
 use Rattle.environment.specs.Needs.{words}
 use Rattle.sink.specs.Sinks.{feed}
 use Rattle.steps.specs.Holding.{mostStreams}
 use Rattle.steps.proofs.Walking.{walked-done}
 use Rattle.leaves.specs.Scenes.{Runs}
-use Rattle.leaves.specs.Arms.{Named, named-const, named-plus, named-sum, Sole, Counting}
+use Rattle.leaves.specs.Arms.{Named, named-const, named-truth, named-operation, named-negation, named-sum, Sole, Counting}
 use Rattle.bodies.specs.Bodies.{Each}
 use Rattle.leaves.specs.declared.Form.{Form}
 use Rattle.leaves.specs.declared.Form.the-variants as form
@@ -47,7 +50,7 @@ use Rattle.bodies.proofs.Lists.{length-listed}
 use Rattle.records.proofs.Variables.{length-variables}
 use Rattle.runner.specs.declared.Route.the-variants as route
 use Rattle.runner.specs.Walks.{routed, Ready, Binding}
-use Rattle.runner.proofs.Reading.{found-int, found-sequence, found-ints}
+use Rattle.runner.proofs.Reading.{found-int, found-bool, found-sequence, found-ints}
 use Rattle.runner.proofs.Measures.{spans}
 
 -- ---- a route comes from its heads alone
@@ -59,10 +62,13 @@ module _ (k : ℕ) where
   named-head (head.Var y) e = cc
   named-head (head.Let y) e = never (cc)
   named-head (head.Const z) e = never (cc)
+  named-head (head.Truth c) e = never (cc)
   named-head (head.Iota y) e = never (cc)
-  named-head (head.Plus y z) e = never (cc)
+  named-head (head.Operation o y z) e = never (cc)
+  named-head (head.Negation y) e = never (cc)
   named-head (head.Sum y) e = never (cc)
   named-head (head.Each y z j) e = never (cc)
+  named-head (head.Guard y j) e = never (cc)
 
   iota-head : {x : Variable} (h : Head) → route.Iota x ≡ routed k h → head.Iota x ≡ h
   iota-head head.Absent e = never (cc)
@@ -70,10 +76,13 @@ module _ (k : ℕ) where
   iota-head (head.Var y) e = never (cc)
   iota-head (head.Let y) e = never (cc)
   iota-head (head.Const z) e = never (cc)
+  iota-head (head.Truth c) e = never (cc)
   iota-head (head.Iota y) e = cc
-  iota-head (head.Plus y z) e = never (cc)
+  iota-head (head.Operation o y z) e = never (cc)
+  iota-head (head.Negation y) e = never (cc)
   iota-head (head.Sum y) e = never (cc)
   iota-head (head.Each y z j) e = never (cc)
+  iota-head (head.Guard y j) e = never (cc)
 
   let-head : (h : Head) → route.Let ≡ routed k h → (x : Variable) × (head.Let x ≡ h)
   let-head head.Absent e = never (cc)
@@ -81,10 +90,13 @@ module _ (k : ℕ) where
   let-head (head.Var y) e = never (cc)
   let-head (head.Let y) e = (y, refl)
   let-head (head.Const z) e = never (cc)
+  let-head (head.Truth c) e = never (cc)
   let-head (head.Iota y) e = never (cc)
-  let-head (head.Plus y z) e = never (cc)
+  let-head (head.Operation o y z) e = never (cc)
+  let-head (head.Negation y) e = never (cc)
   let-head (head.Sum y) e = never (cc)
   let-head (head.Each y z j) e = never (cc)
+  let-head (head.Guard y j) e = never (cc)
 
   each-head : (h : Head) → route.Each ≡ routed k h → (x : Variable) × (y : Variable) × (j : ℕ) × (head.Each x y j ≡ h)
   each-head head.Absent e = never (cc)
@@ -92,10 +104,13 @@ module _ (k : ℕ) where
   each-head (head.Var y) e = never (cc)
   each-head (head.Let y) e = never (cc)
   each-head (head.Const z) e = never (cc)
+  each-head (head.Truth c) e = never (cc)
   each-head (head.Iota y) e = never (cc)
-  each-head (head.Plus y z) e = never (cc)
+  each-head (head.Operation o y z) e = never (cc)
+  each-head (head.Negation y) e = never (cc)
   each-head (head.Sum y) e = never (cc)
   each-head (head.Each y z j) e = (y, z, j, refl)
+  each-head (head.Guard y j) e = never (cc)
 
   no-head : (h : Head) → route.Missing ≡ routed k h → (head.Absent ≡ h) ⊎ (head.Over ≡ h)
   no-head head.Absent e = inl refl
@@ -103,30 +118,52 @@ module _ (k : ℕ) where
   no-head (head.Var y) e = never (cc)
   no-head (head.Let y) e = never (cc)
   no-head (head.Const z) e = never (cc)
+  no-head (head.Truth c) e = never (cc)
   no-head (head.Iota y) e = never (cc)
-  no-head (head.Plus y z) e = never (cc)
+  no-head (head.Operation o y z) e = never (cc)
+  no-head (head.Negation y) e = never (cc)
   no-head (head.Sum y) e = never (cc)
   no-head (head.Each y z j) e = never (cc)
+  no-head (head.Guard y j) e = never (cc)
+
+  pub guard-head : (h : Head) → route.Guard ≡ routed k h → (x : Variable) × (j : ℕ) × (head.Guard x j ≡ h)
+  guard-head head.Absent e = never (cc)
+  guard-head head.Over e = never (cc)
+  guard-head (head.Var y) e = never (cc)
+  guard-head (head.Let y) e = never (cc)
+  guard-head (head.Const z) e = never (cc)
+  guard-head (head.Truth c) e = never (cc)
+  guard-head (head.Iota y) e = never (cc)
+  guard-head (head.Operation o y z) e = never (cc)
+  guard-head (head.Negation y) e = never (cc)
+  guard-head (head.Sum y) e = never (cc)
+  guard-head (head.Each y z j) e = never (cc)
+  guard-head (head.Guard y j) e = (y, j, refl)
 
   -- a form, by the head that it comes from
   single-head : {X : Type 0} {f : Form} {i : ℕ} (h : Head) → route.Single f i ≡ routed k h
       → ((z : ℤ) → head.Const z ≡ h → form.Const z ≡ f → k + 6 ≡ i → X)
-      → ((x y : Variable) → head.Plus x y ≡ h → form.Plus x y ≡ f → k + 4 ≡ i → X)
+      → ((c : Bool) → head.Truth c ≡ h → form.Truth c ≡ f → k + 3 ≡ i → X)
+      → ((o : Operation) (x y : Variable) → head.Operation o x y ≡ h → form.Operation o x y ≡ f → k + 4 ≡ i → X)
+      → ((x : Variable) → head.Negation x ≡ h → form.Negation x ≡ f → k + 3 ≡ i → X)
       → ((x : Variable) → head.Sum x ≡ h → form.Sum x ≡ f → k + 3 ≡ i → X)
       → X
-  single-head head.Absent e a b c = never (cc)
-  single-head head.Over e a b c = never (cc)
-  single-head (head.Var y) e a b c = never (cc)
-  single-head (head.Let y) e a b c = never (cc)
-  single-head (head.Const z) e a b c = a z refl (cc) (cc)
-  single-head (head.Iota y) e a b c = never (cc)
-  single-head (head.Plus y z) e a b c = b y z refl (cc) (cc)
-  single-head (head.Sum y) e a b c = c y refl (cc) (cc)
-  single-head (head.Each y z j) e a b c = never (cc)
+  single-head head.Absent e a b c d s = never (cc)
+  single-head head.Over e a b c d s = never (cc)
+  single-head (head.Var y) e a b c d s = never (cc)
+  single-head (head.Let y) e a b c d s = never (cc)
+  single-head (head.Const z) e a b c d s = a z refl (cc) (cc)
+  single-head (head.Truth z) e a b c d s = b z refl (cc) (cc)
+  single-head (head.Iota y) e a b c d s = never (cc)
+  single-head (head.Operation o y z) e a b c d s = c o y z refl (cc) (cc)
+  single-head (head.Negation y) e a b c d s = d y refl (cc) (cc)
+  single-head (head.Sum y) e a b c d s = s y refl (cc) (cc)
+  single-head (head.Each y z j) e a b c d s = never (cc)
+  single-head (head.Guard y j) e a b c d s = never (cc)
 
 module _ {t : List ℕ} {k sp : ℕ} {env : List ℕ} {buf : List ℤ} {state text : List ℕ} (g : Ready t k sp env buf state text) where
   pub room-behind : k ≤ 65536
-  room-behind = omega (arith, g .short, spans (g .formed) .some-bytes, spans (g .formed) .within)
+  room-behind = let b = spans (g .formed) (g .scene .shallow) in omega (arith, g .short, b .some-bytes, b .within)
 
   enough : k + 3 ≤ length t → length (g .scene .machine .store) + 4 ≤ mostStreams
   enough h = omega (arith, g .few)
@@ -167,11 +204,12 @@ module _ {t : List ℕ} {k sp : ℕ} {env : List ℕ} {buf : List ℤ} {state te
     pub runs : (n : ℕ) {env′ : List ℕ} {buf′ : List ℤ} {state′ text′ : List ℕ} {r : Walked} → Runs (sole .scene) (sole .term) n i env′ buf′ state′ text′ r
         → Runs (g .scene) e n next env′ buf′ state′ text′ r
 
-  sole-of : {f : Form} (e : Term (g .scene .context) int) (t₁ : Transducer) → Named (g .scene .names) (g .scene .trees) f t₁ → ((s : ℕ) → code e (g .scene .trees) s ≡ define t₁ done)
-      → ((s : ℕ) → tree e (g .scene .trees) s ≡ leaf s) → 3 ≤ sp → length (g .scene .machine .store) + 1 ≤ mostStreams → (i : ℕ) → SoleAt f i e i
-  sole-of e t₁ m c u low few i =
+  sole-of : {f : Form} {b : Base} (e : Term (g .scene .context) (scalar b)) (t₁ : Transducer) → Named (g .scene .names) (g .scene .trees) f b t₁
+      → ((s : ℕ) → code e (g .scene .trees) s ≡ define t₁ done) → ((s : ℕ) → tree e (g .scene .trees) s ≡ leaf s)
+      → 3 ≤ sp → length (g .scene .machine .store) + 1 ≤ mostStreams → (i : ℕ) → SoleAt f i e i
+  sole-of {b = b} e t₁ m c u low few i =
       record {
-        sole = record { scene = g .scene; term = e; transducer = t₁; named = m; code-is = c; tree-is = u; low = low; few = few };
+        sole = record { scene = g .scene; base = b; term = e; transducer = t₁; named = m; code-is = c; tree-is = u; low = low; few = few };
         runs = λ n w. w;
       }
 
@@ -179,15 +217,31 @@ module _ {t : List ℕ} {k sp : ℕ} {env : List ℕ} {buf : List ℤ} {state te
   unfolding code tree words
   const-at z e =
       by-const (λ τ e next. words e ≤ sp → SoleAt (form.Const z) (k + 6) e next) (g .formed) (told t k (head.Const z) e .0)
-      (λ w. sole-of (terms.const z) (transducer.Const z) named-const (λ s. refl) (λ s. refl) w (omega (arith, g .few, told t k (head.Const z) e .1)) (k + 6)) (g .space)
+      (λ w. sole-of (terms.const base.Int z) (transducer.Const z) named-const (λ s. refl) (λ s. refl) w (omega (arith, g .few, told t k (head.Const z) e .1)) (k + 6)) (g .space)
 
-  plus-at : (x y : Variable) → head.Plus x y ≡ headOf (headAt t k) → SoleAt (form.Plus x y) (k + 4) (g .term) (g .next)
+  truth-at : (c : Bool) → head.Truth c ≡ headOf (headAt t k) → SoleAt (form.Truth c) (k + 3) (g .term) (g .next)
   unfolding code tree words
-  plus-at x y e =
-      by-plus (λ τ e next. words e ≤ sp → SoleAt (form.Plus x y) (k + 4) e next) (g .formed) (told t k (head.Plus x y) e .0)
+  truth-at c e =
+      by-truth (λ τ e next. words e ≤ sp → SoleAt (form.Truth c) (k + 3) e next) (g .formed) (told t k (head.Truth c) e .0)
+      (λ w. sole-of (terms.const base.Bool c) (transducer.ConstBool c) named-truth (λ s. refl) (λ s. refl) w (omega (arith, g .few, told t k (head.Truth c) e .1)) (k + 3)) (g .space)
+
+  operation-at : (o : Operation) (x y : Variable) → head.Operation o x y ≡ headOf (headAt t k) → SoleAt (form.Operation o x y) (k + 4) (g .term) (g .next)
+  unfolding code tree words
+  operation-at o x y e =
+      by-operation (λ τ e next. words e ≤ sp → SoleAt (form.Operation o x y) (k + 4) e next) (g .formed) (told t k (head.Operation o x y) e .0)
       (λ v w p q r.
-      sole-of (terms.plus v w) (transducer.MapTwo Plus (id (root (lookup v (g .scene .trees)))) (id (root (lookup w (g .scene .trees))))) (named-plus (found-int _ p) (found-int _ q)) (λ s. refl) (λ s. refl) r
-      (omega (arith, g .few, told t k (head.Plus x y) e .1)) (k + 4))
+      sole-of (terms.operation o v w) (transducer.MapTwo o (id (root (lookup v (g .scene .trees)))) (id (root (lookup w (g .scene .trees)))))
+      (named-operation (found-int _ p) (found-int _ q)) (λ s. refl) (λ s. refl) r
+      (omega (arith, g .few, told t k (head.Operation o x y) e .1)) (k + 4))
+      (g .space)
+
+  negation-at : (x : Variable) → head.Negation x ≡ headOf (headAt t k) → SoleAt (form.Negation x) (k + 3) (g .term) (g .next)
+  unfolding code tree words
+  negation-at x e =
+      by-negation (λ τ e next. words e ≤ sp → SoleAt (form.Negation x) (k + 3) e next) (g .formed) (told t k (head.Negation x) e .0)
+      (λ v p r.
+      sole-of (terms.negation v) (transducer.MapOneNot (id (root (lookup v (g .scene .trees))))) (named-negation (found-bool _ p)) (λ s. refl) (λ s. refl) r
+      (omega (arith, g .few, told t k (head.Negation x) e .1)) (k + 3))
       (g .space)
 
   sum-at : (x : Variable) → head.Sum x ≡ headOf (headAt t k) → SoleAt (form.Sum x) (k + 3) (g .term) (g .next)
@@ -202,9 +256,14 @@ module _ {t : List ℕ} {k sp : ℕ} {env : List ℕ} {buf : List ℤ} {state te
   pub sole-at : {f : Form} {i : ℕ} → route.Single f i ≡ routed k (headOf (headAt t k)) → SoleAt f i (g .term) (g .next)
   sole-at {f} {i} h =
       single-head k (headOf (headAt t k)) h
-      (λ z e q j. subst (λ u. SoleAt u i (g .term) (g .next)) q (subst (λ u. SoleAt (form.Const z) u (g .term) (g .next)) j (const-at z e)))
-      (λ x y e q j. subst (λ u. SoleAt u i (g .term) (g .next)) q (subst (λ u. SoleAt (form.Plus x y) u (g .term) (g .next)) j (plus-at x y e)))
-      (λ x e q j. subst (λ u. SoleAt u i (g .term) (g .next)) q (subst (λ u. SoleAt (form.Sum x) u (g .term) (g .next)) j (sum-at x e)))
+      (λ z e q j. moved q j (const-at z e))
+      (λ c e q j. moved q j (truth-at c e))
+      (λ o x y e q j. moved q j (operation-at o x y e))
+      (λ x e q j. moved q j (negation-at x e))
+      (λ x e q j. moved q j (sum-at x e))
+    where
+      moved : {f₁ : Form} {i₁ : ℕ} → f₁ ≡ f → i₁ ≡ i → SoleAt f₁ i₁ (g .term) (g .next) → SoleAt f i (g .term) (g .next)
+      moved {f₁} q j s = subst (λ u. SoleAt u i (g .term) (g .next)) q (subst (λ u. SoleAt f₁ u (g .term) (g .next)) j s)
 
   -- ---- iota
 

@@ -68,7 +68,7 @@ module _ {t : List ℕ} {k sp : ℕ} {env : List ℕ} {buf : List ℤ} {state te
   tree₁ = tree (g .bound) (g .scene .trees) (length (g .scene .machine .store))
 
   pub let-bytes : (k + 3 < length t) × (length t ≤ 65536)
-  let-bytes = (omega (arith, spans (g .first) .some-bytes, spans (g .first) .within), g .short)
+  let-bytes = (omega (arith, spans (g .first) (g .scene .shallow) .some-bytes, spans (g .first) (g .scene .shallow) .within), g .short)
 
   module _ (n : ℕ) where
     both-code : walked (length buf) n (code (terms.bind (g .bound) (g .body)) (g .scene .trees) start) (g .scene .machine)
@@ -94,7 +94,7 @@ module _ {t : List ℕ} {k sp : ℕ} {env : List ℕ} {buf : List ℤ} {state te
 
         pub second-later : (k + 3 < i) × (i ≤ length t)
         second-later =
-            (omega (arith, first-next, spans (g .first) .some-bytes), omega (arith, first-next, spans (g .first) .within))
+            (omega (arith, first-next, spans (g .first) (g .scene .shallow) .some-bytes), omega (arith, first-next, spans (g .first) (g .scene .shallow) .within))
 
         pub first-shallow : depthOf (g .type₁) ≤ 8
         first-shallow = shallow-type (g .first) (g .scene .shallow)
@@ -160,10 +160,10 @@ module _ {t : List ℕ} {k sp : ℕ} {env : List ℕ} {buf : List ℤ} {state te
           pub second-formed : Formed t (g .levels) i (g .type₁ ∷ g .scene .context) (variableAt t (k + 2) ▹ g .scene .names) (g .type) (g .body) (g .next)
           second-formed = subst (λ a. Formed t (g .levels) a (g .type₁ ∷ g .scene .context) (x ▹ g .scene .names) (g .type) (g .body) (g .next)) (sym first-next) (g .second)
 
-          pub second-few : length (first-end .after .store) + 2 * (length t - i) ≤ mostStreams
+          pub second-few : length (first-end .after .store) + 25 * (length t - i) ≤ mostStreams
           second-few =
-              let s = spans (g .first) in
-              let z = spans (g .second) in
+              let s = spans (g .first) (g .scene .shallow) in
+              let z = spans (g .second) (shallow-more (shallow-type (g .first) (g .scene .shallow)) (g .scene .shallow)) in
               omega (arith, first-next, number, s .sized, s .within, s .some-bytes, z .within, z .some-bytes, g .few)
 
           pub second-shaped : Shaped (first-end .after .store) (g .type₁ ∷ g .scene .context) (tree (g .bound) (g .scene .trees) (length (g .scene .machine .store)) ▹ g .scene .trees)

@@ -5,3 +5,4 @@ pub mod Dispatch
 pub mod Surveys
 pub mod Lets
 pub mod Comprehensions
+pub mod Guards

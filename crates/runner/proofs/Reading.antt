@@ -1,18 +1,24 @@
--- What was found where an int, a sequence or a sequence of ints was.
+-- What was found where an int, a bool, a sequence or a sequence of ints was.
 use mathlib.Core.List.{List}
 use mathlib.Core.Option.{some}
 use mathlib.Core.Path.{_≡_, ap}
 use Rattle.laws.proofs.Never.{never}
 use Rattle.snesl.specs.declared.code.Base.the-variants as base
-use Rattle.snesl.specs.Values.{ValueType, scalar, braces, int}
+use Rattle.snesl.specs.Values.{ValueType, scalar, braces, int, bool}
 use Rattle.snesl.specs.Terms.{_∋_}
-use Rattle.snesl.specs.Checking.{Found, missing, found, asScalar, asInt, asInts, Sequence, noSequence, sequence, asSequence}
+use Rattle.snesl.specs.Checking.{Found, missing, found, asScalar, asInt, asBool, asInts, Sequence, noSequence, sequence, asSequence}
 
 pub found-int : {Γ : List ValueType} {v : Γ ∋ int} → (f : Found Γ) → asInt (asScalar f) ≡ some v → f ≡ found int v
 found-int missing e = never (cc)
 found-int (found (scalar base.Int) x) e = cc
 found-int (found (scalar base.Bool) x) e = never (cc)
 found-int (found (braces τ) x) e = never (cc)
+
+pub found-bool : {Γ : List ValueType} {v : Γ ∋ bool} → (f : Found Γ) → asBool (asScalar f) ≡ some v → f ≡ found bool v
+found-bool missing e = never (cc)
+found-bool (found (scalar base.Int) x) e = never (cc)
+found-bool (found (scalar base.Bool) x) e = cc
+found-bool (found (braces τ) x) e = never (cc)
 
 abbrev foundIn : {Γ : List ValueType} → Sequence Γ → Found Γ
 foundIn noSequence = missing

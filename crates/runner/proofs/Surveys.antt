@@ -22,7 +22,6 @@ use Rattle.snesl.specs.Transducers.{signature, carried, empty}
 use Rattle.snesl.specs.Programs.{Program, done, define, withCtrl, dv, fv, among, ascending}
 use Rattle.snesl.specs.Machine.{State, went, stopped, skipped, skip}
 use Rattle.snesl.specs.Ids.{idsOf, Below}
-use Rattle.snesl.specs.Records.{byteAt}
 use Rattle.snesl.specs.Translation.{size, code, tree}
 use Rattle.snesl.proofs.Compiled.Freshness.{count-code, of-leaf, of-node, of-ids}
 use Rattle.environment.specs.Words.{treeWords, treeSize}
@@ -44,7 +43,8 @@ use Rattle.leaves.specs.declared.Walked.{Walked}
 use Rattle.leaves.specs.declared.Walked.the-variants as walked-as
 use Rattle.leaves.proofs.Making.{held-told}
 use Rattle.leaves.proofs.Running.{Through, through, halted}
-use Rattle.runner.specs.Walks.{Ready, Over, Opened}
+use Rattle.runner.specs.Walks.{Ready, Over, openedBy, Opened}
+use Rattle.runner.specs.declared.Body.{Body}
 use Rattle.runner.proofs.Measures.{words-hold}
 use Rattle.runner.proofs.Lifting.{behind}
 
@@ -118,7 +118,7 @@ module _ {k : Sink} {text state : List ℕ} (s : Sunk k text state) where
 
 -- ---- the survey
 
-module _ {t : List ℕ} {k sp : ℕ} {env : List ℕ} {buf : List ℤ} {state text : List ℕ} (g : Over t k sp env buf state text) where
+module _ {t : List ℕ} {β : Body} {env : List ℕ} {buf : List ℤ} {state text : List ℕ} (g : Over t β env buf state text) where
   abbrev start : ℕ
   start = length (g .ready .scene .machine .store)
 
@@ -129,14 +129,11 @@ module _ {t : List ℕ} {k sp : ℕ} {env : List ℕ} {buf : List ℤ} {state te
         sunk =
             subst (λ j. Sunk j text state)
             (not-told (g .ready .scene .sunk) f (ascending (among (order (tree (g .ready .term) (g .ready .scene .trees) start)) (dv start (code (g .ready .term) (g .ready .scene .trees) start))))
-            (start - 1 - byteAt t (k + 4)) (ascending (fv start (code (g .ready .term) (g .ready .scene .trees) start))))
+            (β .control) (ascending (fv start (code (g .ready .term) (g .ready .scene .trees) start))))
             (g .ready .scene .sunk);
         kept = refl;
         words = refl;
       }
-
-  pub control-some : 1 + byteAt t (k + 4) ≤ getD state 0 0
-  control-some = omega (arith, g .made, next-id (g .ready .scene .held))
 
   module _ (list : getD state 4 0 ≡ 1) {state₁ : List ℕ} (b : (text : List ℕ) (j : Sink) → Sunk j text state → Tells (surveyed (getD state 0 0) j) text state₁ state) where
     begun : Sunk (surveyed start (g .ready .scene .sink)) text state₁
@@ -148,7 +145,7 @@ module _ {t : List ℕ} {k sp : ℕ} {env : List ℕ} {buf : List ℤ} {state te
     pub begun-sunk : Sunk (surveyed (length (g .ready .scene .machine .store)) (g .ready .scene .sink)) text state₁
     begun-sunk = begun
 
-    abbrev pub survey-ready : Ready t (k + 5 + byteAt t (k + 4)) sp env buf state₁ text
+    abbrev pub survey-ready : Ready t (β .at) (β .inner) env buf state₁ text
     survey-ready =
         record {
           scene =
@@ -202,7 +199,7 @@ module _ {t : List ℕ} {k sp : ℕ} {env : List ℕ} {buf : List ℤ} {state te
         pub shallow : d ≤ 8
         shallow = omega (arith, depth-is, g .shallow)
 
-        pub tree-fits : treeSize d ≤ sp
+        pub tree-fits : treeSize d ≤ (β .inner)
         tree-fits = omega (arith, depth-is, words-hold (g .ready .term), g .ready .space)
 
         abbrev after-survey : Sink
@@ -220,7 +217,7 @@ module _ {t : List ℕ} {k sp : ℕ} {env : List ℕ} {buf : List ℤ} {state te
         abbrev placing : Placing
         placing = record { place = place (end .after .store); named = λ i. refl }
 
-        abbrev opening-here : length env₁ ≡ length env → Opening env₁ (sp - (3 * depthOf (g .ready .type) + 3)) (depthOf (g .ready .type)) after-survey text₂ state₂
+        abbrev opening-here : length env₁ ≡ length env → Opening env₁ ((β .inner) - (3 * depthOf (g .ready .type) + 3)) (depthOf (g .ready .type)) after-survey text₂ state₂
         opening-here l =
             record {
               sunk = end .left .sunk;
@@ -228,17 +225,17 @@ module _ {t : List ℕ} {k sp : ℕ} {env : List ℕ} {buf : List ℤ} {state te
               tree = the-tree;
               placing = placing;
               words =
-                  front-is env₁ (sp - treeSize (depthOf (g .ready .type))) (treeSize (depthOf (g .ready .type))) (treeWords (mapTree (place (end .after .store)) the-tree)) (drop sp env) (end .left .words)
+                  front-is env₁ ((β .inner) - treeSize (depthOf (g .ready .type))) (treeSize (depthOf (g .ready .type))) (treeWords (mapTree (place (end .after .store)) the-tree)) (drop (β .inner) env) (end .left .words)
                   (length-tree (mapTree (place (end .after .store)) the-tree));
               within = omega (arith, l, words-hold (g .ready .term), g .ready .space, g .ready .scene .within);
               shallow = omega (arith, g .shallow);
             }
 
-        pub open-ready : length env₁ ≡ length env → (j : Sink) × Opening env₁ (sp - (3 * d + 3)) d j text₂ state₂
-        open-ready l = (after-survey, subst (λ i. Opening env₁ (sp - (3 * i + 3)) i after-survey text₂ state₂) (sym depth-is) (opening-here l))
+        pub open-ready : length env₁ ≡ length env → (j : Sink) × Opening env₁ ((β .inner) - (3 * d + 3)) d j text₂ state₂
+        open-ready l = (after-survey, subst (λ i. Opening env₁ ((β .inner) - (3 * i + 3)) i after-survey text₂ state₂) (sym depth-is) (opening-here l))
 
-        module _ (l : length env₁ ≡ length env) {c : ℕ} (c-is : c ≡ getD state 0 0 - 1 - byteAt t (k + 4)) {state₃ text₃ : List ℕ}
-            (o : (j : Sink) (h : Opening env₁ (sp - (3 * d + 3)) d j text₂ state₂) → Opens j (h .tree) c text₃ state₃ state₂) where
+        module _ (l : length env₁ ≡ length env) {state₃ text₃ : List ℕ}
+            (o : (j : Sink) (h : Opening env₁ ((β .inner) - (3 * d + 3)) d j text₂ state₂) → Opens j (h .tree) (β .control) text₃ state₃ state₂) where
           room-same : room (end .after .store) ≡ room (g .ready .scene .machine .store)
           room-same = ap (λ m. room (m .store)) (sym skipped-to) ∙ ap length (skipped-contents body (g .ready .scene .machine))
 
@@ -249,13 +246,13 @@ module _ {t : List ℕ} {k sp : ℕ} {env : List ℕ} {buf : List ℤ} {state te
               ∙ (ap length (gr .store)
               ∙ (length-append (g .ready .scene .machine .store) (gr .streams) ∙ omega (arith, gr .number, count-code (g .ready .term) (g .ready .scene .trees) start)))
 
-          opens-so : Opens after-survey the-tree c text₃ state₃ state₂
+          opens-so : Opens after-survey the-tree (β .control) text₃ state₃ state₂
           opens-so = go d depth-is o
             where
-              go : (i : ℕ) → i ≡ depthOf (g .ready .type) → ((j : Sink) (h : Opening env₁ (sp - (3 * i + 3)) i j text₂ state₂) → Opens j (h .tree) c text₃ state₃ state₂)
-                  → Opens after-survey (tree (g .ready .term) (g .ready .scene .trees) start) c text₃ state₃ state₂
+              go : (i : ℕ) → i ≡ depthOf (g .ready .type) → ((j : Sink) (h : Opening env₁ ((β .inner) - (3 * i + 3)) i j text₂ state₂) → Opens j (h .tree) (β .control) text₃ state₃ state₂)
+                  → Opens after-survey (tree (g .ready .term) (g .ready .scene .trees) start) (β .control) text₃ state₃ state₂
               go i q f =
-                  subst (λ x. ((j : Sink) (h : Opening env₁ (sp - (3 * x + 3)) x j text₂ state₂) → Opens j (h .tree) c text₃ state₃ state₂) → Opens after-survey (tree (g .ready .term) (g .ready .scene .trees) start) c text₃ state₃ state₂)
+                  subst (λ x. ((j : Sink) (h : Opening env₁ ((β .inner) - (3 * x + 3)) x j text₂ state₂) → Opens j (h .tree) (β .control) text₃ state₃ state₂) → Opens after-survey (tree (g .ready .term) (g .ready .scene .trees) start) (β .control) text₃ state₃ state₂)
                   (sym q) (λ f′. f′ after-survey (opening-here l)) f
 
           machine-words : take 4 state₃ ≡ counters (g .ready .scene .machine)
@@ -287,14 +284,12 @@ module _ {t : List ℕ} {k sp : ℕ} {env : List ℕ} {buf : List ℤ} {state te
                     };
                 sunk = subst (λ j. Sunk j text₃ state₃) sink-is (opens-so .sunk);
                 kept = subst (λ q. drop q buf₁ ≡ drop q buf) room-same (end .left .kept);
-                words = behind the-tree (end .after) sp sp env env₁ env₁ (end .left .words) (omega (arith, words-hold (g .ready .term), g .ready .space));
+                words = behind the-tree (end .after) (β .inner) (β .inner) env env₁ env₁ (end .left .words) (omega (arith, words-hold (g .ready .term), g .ready .space));
               }
             where
-              sink-is : opening after-survey the-tree c (getD state₂ 0 0)
-                  ≡ opened (ascending (among (order (tree (g .ready .term) (g .ready .scene .trees) start)) (dv start body))) (start - 1 - byteAt t (k + 4)) (ascending (fv start body)) (g .ready .scene .sink)
+              sink-is : opening after-survey the-tree (β .control) (getD state₂ 0 0)
+                  ≡ openedBy g
               sink-is =
-                  ap (λ n. opening after-survey the-tree c n) next-is
-                  ∙ (opening-is (g .ready .term) (g .ready .scene .trees) start below (g .ready .scene .sink) roomy c (lists (g .ready .scene .sunk) list)
+                  ap (λ n. opening after-survey the-tree (β .control) n) next-is
+                  ∙ opening-is (g .ready .term) (g .ready .scene .trees) start below (g .ready .scene .sink) roomy (β .control) (lists (g .ready .scene .sunk) list)
                   (g .ready .scene .sunk .plain (lists (g .ready .scene .sunk) list))
-                  ∙ ap (λ n. opened (ascending (among (order (tree (g .ready .term) (g .ready .scene .trees) start)) (dv start body))) n (ascending (fv start body)) (g .ready .scene .sink))
-                  (c-is ∙ ap (λ n. n - 1 - byteAt t (k + 4)) (next-id (g .ready .scene .held))))
