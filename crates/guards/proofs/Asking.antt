@@ -1,9 +1,9 @@
 -- A guard's flags, with their place below sp, and their units: its first two instructions.
-use Prim.Native.Nat.{ℕ, suc, _+_, _-_, _≤_, _<_}
+use Prim.Native.Nat.{ℕ, _+_, _-_, _≤_}
 use mathlib.Core.Bool.{Bool}
 use mathlib.Core.List.{List, [], _∷_, _++_, append-assoc}
 use mathlib.Core.Option.{some}
-use mathlib.Core.Path.{_≡_, refl, sym, _∙_, ap, subst}
+use mathlib.Core.Path.{_≡_, sym, _∙_, ap, subst}
 use native.Mathlib.Omega.{arith}
 use lib.IntN.{ℤ}
 use lib.ListN.{length, getD, length-append}
@@ -13,7 +13,7 @@ use Rattle.snesl.specs.declared.code.Base.the-variants as base
 use Rattle.snesl.specs.declared.code.Kind.the-variants.{Flags}
 use Rattle.snesl.specs.declared.code.Transducer.the-variants.{B2u, Usum}
 use Rattle.snesl.specs.declared.refusal.Refusal.{Refusal}
-use Rattle.snesl.specs.Streams.{Stream, flags, units, len, _!_}
+use Rattle.snesl.specs.Streams.{flags, units, len, _!_}
 use Rattle.snesl.specs.Programs.{Program, define}
 use Rattle.snesl.specs.Machine.{State, onward}
 use Rattle.snesl.specs.Translation.{id}

@@ -1,5 +1,5 @@
 -- What stands before a guard's body, step by step: its flags and their units, and the listed variables' entries.
-use Prim.Native.Nat.{ℕ, suc, _+_, _*_, _-_, _≤_, _<_, max}
+use Prim.Native.Nat.{ℕ, _+_, _*_, _-_, _≤_}
 use mathlib.Core.List.{List, [], _∷_, _++_, append-assoc}
 use mathlib.Core.Option.{some}
 use mathlib.Core.Path.{_≡_, refl, sym, _∙_, ap, subst}
@@ -7,7 +7,7 @@ use native.Mathlib.Omega.{arith}
 use lib.IntN.{ℤ}
 use lib.ListN.{length, drop, length-append}
 use Rattle.laws.proofs.Never.{never}
-use Rattle.laws.specs.Parts.{part, written}
+use Rattle.laws.specs.Parts.{written}
 use Rattle.snesl.specs.declared.code.Kind.the-variants.{Bools}
 use Rattle.snesl.specs.declared.code.Transducer.the-variants.{B2u, Usum}
 use Rattle.snesl.specs.declared.refusal.Refusal.{Refusal}

@@ -8,7 +8,7 @@ use lib.ListN.{length, getD}
 use Rattle.snesl.specs.declared.code.Variable.{Variable}
 use Rattle.snesl.specs.Values.{ValueType, depthOf}
 use Rattle.snesl.specs.Terms.{All, listedTypes, lookup}
-use Rattle.snesl.specs.Records.{variableAt, variablesAt}
+use Rattle.snesl.specs.Records.{variableAt}
 use Rattle.snesl.specs.Checking.{Name, find, NamedListing, listedAny, anyPointers}
 use Rattle.snesl.specs.Translation.{packSize, packsSize}
 use Rattle.environment.specs.Words.{Sought, Entry}
