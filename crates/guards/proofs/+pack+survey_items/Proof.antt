@@ -97,22 +97,67 @@ pack-sub-t22 : (t : ℕ) → pack-lts.Need-sub-t22 (pack-callees t) (pack-at t) 
 pack-sub-t22 t c = omega (arith, low-three (c .before .before .before .before .before .before .before .before .pre .1) (c .before .before .before .if1 .left) .1)
 
 pack-pack-level-requires : (t : ℕ) → pack-lts.Need-pack-level-requires (pack-callees t) (pack-at t) pack.Post
-pack-pack-level-requires t c κs = node-ready (c .before .before .before .before .before .before .before .before .before .before .before .before .pre .1) (c .before .before .before .before .before .before .before .if1 .left)
+pack-pack-level-requires t c κs = node-ready (c .before .before .before .before .before .before .before .before .before .before .before .before .pre .1) (c .before .before .before .before .before
+    .before .before .if1 .left)
 
 pack-enum-known-units : (t : ℕ) → pack-lts.Need-enum-known-units (pack-callees t) (pack-at t) pack.Post
 pack-enum-known-units t c = search needs
 
 pack-survey-items-requires : (t : ℕ) → pack-lts.Need-survey-items-requires (pack-callees t) (pack-at t) pack.Post
-pack-survey-items-requires t c κs = (omega (arith, c .before .before .before .before .before .before .before .before .before .before .before .before .before .before .before .before .before .before .before .before .before .before .before .before .before .before .before .pre .0, low-three (c .before .before .before .before .before .before .before .before .before .before .before .before .before .before .before .before .before .before .before .before .before .before .before .before .before .before .before .pre .1) (c .before .before .before .before .before .before .before .before .before .before .before .before .before .before .before .before .before .before .before .before .before .before .if1 .left) .0), items-ready (c .before .before .before .before .before .before .before .before .before .before .before .before .before .before .pack-level .ensures) (c .before .before .before .before .before .before .before .before .before .before .before .before .before .before .before .before .before .before .before .before .before .before .if1 .left) (c .before .before .before .before .before .units .given .1) (c .before .before .before .before .before .before .before .before .before .before .before .before .before .before .before .before .before .before .before .before .before .before .before .before .before .before .before .pre .1))
+pack-survey-items-requires t c κs = (
+  omega (
+    arith,
+    c .before .before .before .before .before .before .before .before .before .before .before .before .before .before .before .before .before .before
+        .before .before .before .before .before .before .before .before .before .pre .0,
+    low-three (c .before .before .before .before .before .before .before .before .before .before .before .before
+        .before .before .before .before .before .before .before .before .before .before .before .before .before .before .before .pre .1) (c .before .before .before .before .before .before .before .before
+        .before .before .before .before .before .before .before .before .before .before .before .before .before .before .if1 .left) .0,
+  ),
+  items-ready (c .before .before .before .before .before .before
+      .before .before .before .before .before .before .before .before .pack-level .ensures) (c .before .before .before .before .before .before .before .before .before .before .before .before .before
+      .before .before .before .before .before .before .before .before .before .if1 .left) (c .before .before .before .before .before .units .given .1) (c .before .before .before .before .before .before
+      .before .before .before .before .before .before .before .before .before .before .before .before .before .before .before .before .before .before .before .before .before .pre .1),
+)
 
 pack-pack-requires : (t : ℕ) → pack-lts.Need-pack-requires (pack-callees t) (pack-at t) pack.Post
-pack-pack-requires t c κs = (omega (arith, c .before .before .before .before .before .before .before .before .before .before .before .before .before .before .before .before .before .before .before .before .before .before .before .before .before .before .before .before .before .before .before .before .before .before .before .before .before .before .before .pre .0, low-three (c .before .before .before .before .before .before .before .before .before .before .before .before .before .before .before .before .before .before .before .before .before .before .before .before .before .before .before .before .before .before .before .before .before .before .before .before .before .before .before .pre .1) (c .before .before .before .before .before .before .before .before .before .before .before .before .before .before .before .before .before .before .before .before .before .before .before .before .before .before .before .before .before .before .before .before .before .before .if1 .left) .0), again-ready (c .before .before .before .before .before .before .before .before .before .before .before .before .before .before .before .before .before .before .before .before .before .before .before .before .before .before .pack-level .ensures) (c .before .before .before .before .before .before .before .before .before .before .before .before .before .before .before .before .before .before .before .before .before .before .before .before .before .before .before .before .before .before .before .before .before .before .if1 .left) (c .before .before .before .before .before .before .before .before .before .before .before .before .before .before .before .before .before .units .given .1) (c .before .before .before .before .before .before .before .before .before .before .before .survey-items .ensures) (c .before .before .before .before .before .before .before .before .before .before .before .survey-items .kept .1 .0) (c .before .before .before .before .before .before .before .before .before .before .before .before .before .before .before .before .before .before .before .before .before .before .before .before .before .before .before .before .before .before .before .before .before .before .before .before .before .before .before .pre .1))
+pack-pack-requires t c κs = (
+  omega (
+    arith,
+    c .before .before .before .before .before .before .before .before .before .before .before .before .before .before .before .before .before .before .before
+        .before .before .before .before .before .before .before .before .before .before .before .before .before .before .before .before .before .before .before .before .pre .0,
+    low-three (c .before
+        .before .before .before .before .before .before .before .before .before .before .before .before .before .before .before .before .before .before .before .before .before .before .before .before
+        .before .before .before .before .before .before .before .before .before .before .before .before .before .before .pre .1) (c .before .before .before .before .before .before .before .before .before
+        .before .before .before .before .before .before .before .before .before .before .before .before .before .before .before .before .before .before .before .before .before .before .before .before
+        .before .if1 .left) .0,
+  ),
+  again-ready (c .before .before .before .before .before .before .before .before .before .before .before .before .before .before .before .before .before .before .before
+      .before .before .before .before .before .before .before .pack-level .ensures) (c .before .before .before .before .before .before .before .before .before .before .before .before .before .before
+      .before .before .before .before .before .before .before .before .before .before .before .before .before .before .before .before .before .before .before .before .if1 .left) (c .before .before
+      .before .before .before .before .before .before .before .before .before .before .before .before .before .before .before .units .given .1) (c .before .before .before .before .before .before
+      .before .before .before .before .before .survey-items .ensures) (c .before .before .before .before .before .before .before .before .before .before .before .survey-items .kept .1 .0) (c .before
+      .before .before .before .before .before .before .before .before .before .before .before .before .before .before .before .before .before .before .before .before .before .before .before .before
+      .before .before .before .before .before .before .before .before .before .before .before .before .before .before .pre .1),
+)
 
 pack-enum-told : (t : ℕ) → pack-lts.Need-enum-told (pack-callees t) (pack-at t) pack.Post
 pack-enum-told t c = search needs
 
 pack-tell-requires : (t : ℕ) → pack-lts.Need-tell-requires (pack-callees t) (pack-at t) pack.Post
-pack-tell-requires t c κs = close-ready (c .before .before .before .before .before .before .before .before .before .before .before .before .before .before .before .before .before .before .before .before .before .before .before .before .before .before .before .before .before .before .before .before .before .before .before .before .before .before .pack-level .ensures) (c .before .before .before .before .before .before .before .before .before .before .before .before .before .before .before .before .before .before .before .before .before .before .before .before .before .before .before .before .before .before .before .before .before .before .before .before .before .before .before .before .before .before .before .before .before .before .if1 .left) (c .before .before .before .before .before .before .before .before .before .before .before .before .before .before .before .before .before .before .before .before .before .before .before .before .before .before .before .before .before .units .given .1) (c .before .before .before .before .before .before .before .before .before .before .before .before .before .before .before .before .before .before .before .before .before .before .before .survey-items .ensures) (c .before .before .before .before .before .before .before .before .before .before .before .before .before .before .before .before .before .before .before .before .before .before .before .survey-items .kept .1 .0) (c .before .before .before .before .before .before .before .before .before .before .before .pack .ensures) (c .before .before .before .before .before .before .before .before .before .before .before .before .before .before .before .before .before .before .before .before .before .before .before .survey-items .kept .1 .1 .0 ∙ c .before .before .before .before .before .before .before .before .before .before .before .before .before .before .before .before .before .before .before .before .before .before .before .before .before .before .before .before .before .before .before .before .before .before .before .before .before .before .pack-level .kept .1 .1 .1 .0) (c .before .before .before .before .before .before .before .before .before .before .before .before .before .before .before .before .before .before .before .before .before .before .before .before .before .before .before .before .before .before .before .before .before .before .before .before .before .before .before .before .before .before .before .before .before .before .before .before .before .before .before .pre .1) (c .before .before .enum-told .given .1)
+pack-tell-requires t c κs = close-ready (c .before .before .before .before .before .before .before .before .before .before .before .before .before .before .before .before .before .before .before
+    .before .before .before .before .before .before .before .before .before .before .before .before .before .before .before .before .before .before .before .pack-level .ensures) (c .before .before
+    .before .before .before .before .before .before .before .before .before .before .before .before .before .before .before .before .before .before .before .before .before .before .before .before
+    .before .before .before .before .before .before .before .before .before .before .before .before .before .before .before .before .before .before .before .before .if1 .left) (c .before .before
+    .before .before .before .before .before .before .before .before .before .before .before .before .before .before .before .before .before .before .before .before .before .before .before .before
+    .before .before .before .units .given .1) (c .before .before .before .before .before .before .before .before .before .before .before .before .before .before .before .before .before .before
+    .before .before .before .before .before .survey-items .ensures) (c .before .before .before .before .before .before .before .before .before .before .before .before .before .before .before .before
+    .before .before .before .before .before .before .before .survey-items .kept .1 .0) (c .before .before .before .before .before .before .before .before .before .before .before .pack .ensures) (c
+    .before .before .before .before .before .before .before .before .before .before .before .before .before .before .before .before .before .before .before .before .before .before .before
+    .survey-items .kept .1 .1 .0 ∙ c .before .before .before .before .before .before .before .before .before .before .before .before .before .before .before .before .before .before .before .before
+    .before .before .before .before .before .before .before .before .before .before .before .before .before .before .before .before .before .before .pack-level .kept .1 .1 .1 .0) (c .before .before
+    .before .before .before .before .before .before .before .before .before .before .before .before .before .before .before .before .before .before .before .before .before .before .before .before
+    .before .before .before .before .before .before .before .before .before .before .before .before .before .before .before .before .before .before .before .before .before .before .before .before
+    .before .pre .1) (c .before .before .enum-told .given .1)
 
 pack-enum-known-r : (t : ℕ) → pack-lts.Need-enum-known-r (pack-callees t) (pack-at t) pack.Post
 pack-enum-known-r t c = search needs
@@ -121,34 +166,85 @@ pack-enum-known-r-2 : (t : ℕ) → pack-lts.Need-enum-known-r-2 (pack-callees t
 pack-enum-known-r-2 t c = search needs
 
 pack-same-length-5 : (t : ℕ) → pack-lts.Need-same-length-5 (pack-callees t) (pack-at t) pack.Post
-pack-same-length-5 t c = c .before .before .before .before .before .before .before .before .before .before .before .before .before .before .before .before .pack .kept .1 .1 .0 ∙ (c .before .before .before .before .before .before .before .before .before .before .before .before .before .before .before .before .before .before .before .before .before .before .before .before .before .before .before .before .survey-items .kept .1 .0 ∙ c .before .before .before .before .before .before .before .before .before .before .before .before .before .before .before .before .before .before .before .before .before .before .before .before .before .before .before .before .before .before .before .before .before .before .before .before .before .before .before .before .before .before .before .pack-level .kept .1 .1 .0)
+pack-same-length-5 t c = c .before .before .before .before .before .before .before .before .before .before .before .before .before .before .before .before .pack .kept .1 .1 .0 ∙ (c .before .before
+    .before .before .before .before .before .before .before .before .before .before .before .before .before .before .before .before .before .before .before .before .before .before .before .before
+    .before .before .survey-items .kept .1 .0 ∙ c .before .before .before .before .before .before .before .before .before .before .before .before .before .before .before .before .before .before
+    .before .before .before .before .before .before .before .before .before .before .before .before .before .before .before .before .before .before .before .before .before .before .before .before
+    .before .pack-level .kept .1 .1 .0)
 
 pack-same-length-6 : (t : ℕ) → pack-lts.Need-same-length-6 (pack-callees t) (pack-at t) pack.Post
-pack-same-length-6 t c = c .before .before .before .before .before .before .before .before .before .before .before .before .before .before .before .before .pack .kept .1 .1 .1 .0 ∙ (c .before .before .before .before .before .before .before .before .before .before .before .before .before .before .before .before .before .before .before .before .before .before .before .before .before .before .before .before .survey-items .kept .1 .1 .0 ∙ c .before .before .before .before .before .before .before .before .before .before .before .before .before .before .before .before .before .before .before .before .before .before .before .before .before .before .before .before .before .before .before .before .before .before .before .before .before .before .before .before .before .before .before .pack-level .kept .1 .1 .1 .0)
+pack-same-length-6 t c = c .before .before .before .before .before .before .before .before .before .before .before .before .before .before .before .before .pack .kept .1 .1 .1 .0 ∙ (c .before .before
+    .before .before .before .before .before .before .before .before .before .before .before .before .before .before .before .before .before .before .before .before .before .before .before .before
+    .before .before .survey-items .kept .1 .1 .0 ∙ c .before .before .before .before .before .before .before .before .before .before .before .before .before .before .before .before .before .before
+    .before .before .before .before .before .before .before .before .before .before .before .before .before .before .before .before .before .before .before .before .before .before .before .before
+    .before .pack-level .kept .1 .1 .1 .0)
 
 pack-same-length-7 : (t : ℕ) → pack-lts.Need-same-length-7 (pack-callees t) (pack-at t) pack.Post
-pack-same-length-7 t c = c .before .before .before .before .tell .kept .1 .1 .0 ∙ (c .before .before .before .before .before .before .before .before .before .before .before .before .before .before .before .before .pack .kept .1 .1 .1 .1 .0 ∙ (c .before .before .before .before .before .before .before .before .before .before .before .before .before .before .before .before .before .before .before .before .before .before .before .before .before .before .before .before .survey-items .kept .1 .1 .1 .0 ∙ c .before .before .before .before .before .before .before .before .before .before .before .before .before .before .before .before .before .before .before .before .before .before .before .before .before .before .before .before .before .before .before .before .before .before .before .before .before .before .before .before .before .before .before .pack-level .kept .1 .1 .1 .1 .0))
+pack-same-length-7 t c = c .before .before .before .before .tell .kept .1 .1 .0 ∙ (c .before .before .before .before .before .before .before .before .before .before .before .before .before .before
+    .before .before .pack .kept .1 .1 .1 .1 .0 ∙ (c .before .before .before .before .before .before .before .before .before .before .before .before .before .before .before .before .before .before
+    .before .before .before .before .before .before .before .before .before .before .survey-items .kept .1 .1 .1 .0 ∙ c .before .before .before .before .before .before .before .before .before .before
+    .before .before .before .before .before .before .before .before .before .before .before .before .before .before .before .before .before .before .before .before .before .before .before .before
+    .before .before .before .before .before .before .before .before .before .pack-level .kept .1 .1 .1 .1 .0))
 
 pack-same-length-8 : (t : ℕ) → pack-lts.Need-same-length-8 (pack-callees t) (pack-at t) pack.Post
-pack-same-length-8 t c = c .before .before .before .before .tell .kept .1 .0 ∙ (c .before .before .before .before .before .before .before .before .before .before .before .before .before .before .before .before .pack .kept .1 .1 .1 .1 .1 .0 ∙ (c .before .before .before .before .before .before .before .before .before .before .before .before .before .before .before .before .before .before .before .before .before .before .before .before .before .before .before .before .survey-items .kept .1 .1 .1 .1 .0 ∙ c .before .before .before .before .before .before .before .before .before .before .before .before .before .before .before .before .before .before .before .before .before .before .before .before .before .before .before .before .before .before .before .before .before .before .before .before .before .before .before .before .before .before .before .pack-level .kept .1 .1 .1 .1 .1 .0))
+pack-same-length-8 t c = c .before .before .before .before .tell .kept .1 .0 ∙ (c .before .before .before .before .before .before .before .before .before .before .before .before .before .before
+    .before .before .pack .kept .1 .1 .1 .1 .1 .0 ∙ (c .before .before .before .before .before .before .before .before .before .before .before .before .before .before .before .before .before .before
+    .before .before .before .before .before .before .before .before .before .before .survey-items .kept .1 .1 .1 .1 .0 ∙ c .before .before .before .before .before .before .before .before .before
+    .before .before .before .before .before .before .before .before .before .before .before .before .before .before .before .before .before .before .before .before .before .before .before .before
+    .before .before .before .before .before .before .before .before .before .before .pack-level .kept .1 .1 .1 .1 .1 .0))
 
 pack-returns-2 : (t : ℕ) → pack-lts.Need-returns-2 (pack-callees t) (pack-at t) pack.Post
-pack-returns-2 t c = node-whole (c .before .before .before .before .before .before .before .before .before .before .before .before .before .before .before .before .before .before .before .before .before .before .before .before .before .before .before .before .before .before .before .before .before .before .before .before .before .before .before .before .before .before .before .pack-level .ensures) (c .before .before .before .before .before .before .before .before .before .before .before .before .before .before .before .before .before .before .before .before .before .before .before .before .before .before .before .before .before .before .before .before .before .before .before .before .before .before .before .before .before .before .before .before .before .before .before .before .before .before .before .if1 .left) (c .before .before .before .before .before .before .before .before .before .before .before .before .before .before .before .before .before .before .before .before .before .before .before .before .before .before .before .before .before .before .before .before .before .before .units .given .1) (c .before .before .before .before .before .before .before .before .before .before .before .before .before .before .before .before .before .before .before .before .before .before .before .before .before .before .before .before .survey-items .ensures) (c .before .before .before .before .before .before .before .before .before .before .before .before .before .before .before .before .before .before .before .before .before .before .before .before .before .before .before .before .survey-items .kept .1 .0) (c .before .before .before .before .before .before .before .before .before .before .before .before .before .before .before .before .pack .ensures) (c .before .before .before .before .before .before .before .before .before .before .before .before .before .before .before .before .before .before .before .before .before .before .before .before .before .before .before .before .survey-items .kept .1 .1 .0 ∙ c .before .before .before .before .before .before .before .before .before .before .before .before .before .before .before .before .before .before .before .before .before .before .before .before .before .before .before .before .before .before .before .before .before .before .before .before .before .before .before .before .before .before .before .pack-level .kept .1 .1 .1 .0) (c .before .before .before .before .before .before .before .enum-told .given .1) (c .before .before .before .before .tell .ensures)
+pack-returns-2 t c = node-whole (c .before .before .before .before .before .before .before .before .before .before .before .before .before .before .before .before .before .before .before .before
+    .before .before .before .before .before .before .before .before .before .before .before .before .before .before .before .before .before .before .before .before .before .before .before .pack-level
+    .ensures) (c .before .before .before .before .before .before .before .before .before .before .before .before .before .before .before .before .before .before .before .before .before .before
+    .before .before .before .before .before .before .before .before .before .before .before .before .before .before .before .before .before .before .before .before .before .before .before .before
+    .before .before .before .before .before .if1 .left) (c .before .before .before .before .before .before .before .before .before .before .before .before .before .before .before .before .before
+    .before .before .before .before .before .before .before .before .before .before .before .before .before .before .before .before .before .units .given .1) (c .before .before .before .before
+    .before .before .before .before .before .before .before .before .before .before .before .before .before .before .before .before .before .before .before .before .before .before .before .before
+    .survey-items .ensures) (c .before .before .before .before .before .before .before .before .before .before .before .before .before .before .before .before .before .before .before .before .before
+    .before .before .before .before .before .before .before .survey-items .kept .1 .0) (c .before .before .before .before .before .before .before .before .before .before .before .before .before
+    .before .before .before .pack .ensures) (c .before .before .before .before .before .before .before .before .before .before .before .before .before .before .before .before .before .before .before
+    .before .before .before .before .before .before .before .before .before .survey-items .kept .1 .1 .0 ∙ c .before .before .before .before .before .before .before .before .before .before .before
+    .before .before .before .before .before .before .before .before .before .before .before .before .before .before .before .before .before .before .before .before .before .before .before .before
+    .before .before .before .before .before .before .before .before .pack-level .kept .1 .1 .1 .0) (c .before .before .before .before .before .before .before .enum-told .given .1) (c .before .before
+    .before .before .tell .ensures)
 
 pack-same-length-9 : (t : ℕ) → pack-lts.Need-same-length-9 (pack-callees t) (pack-at t) pack.Post
-pack-same-length-9 t c = c .before .before .before .before .before .before .before .before .before .before .pack .kept .1 .1 .0 ∙ (c .before .before .before .before .before .before .before .before .before .before .before .before .before .before .before .before .before .before .before .before .before .before .survey-items .kept .1 .0 ∙ c .before .before .before .before .before .before .before .before .before .before .before .before .before .before .before .before .before .before .before .before .before .before .before .before .before .before .before .before .before .before .before .before .before .before .before .before .before .pack-level .kept .1 .1 .0)
+pack-same-length-9 t c = c .before .before .before .before .before .before .before .before .before .before .pack .kept .1 .1 .0 ∙ (c .before .before .before .before .before .before .before .before
+    .before .before .before .before .before .before .before .before .before .before .before .before .before .before .survey-items .kept .1 .0 ∙ c .before .before .before .before .before .before
+    .before .before .before .before .before .before .before .before .before .before .before .before .before .before .before .before .before .before .before .before .before .before .before .before
+    .before .before .before .before .before .before .before .pack-level .kept .1 .1 .0)
 
 pack-same-length-10 : (t : ℕ) → pack-lts.Need-same-length-10 (pack-callees t) (pack-at t) pack.Post
-pack-same-length-10 t c = c .before .before .before .before .before .before .before .before .before .before .pack .kept .1 .1 .1 .0 ∙ (c .before .before .before .before .before .before .before .before .before .before .before .before .before .before .before .before .before .before .before .before .before .before .survey-items .kept .1 .1 .0 ∙ c .before .before .before .before .before .before .before .before .before .before .before .before .before .before .before .before .before .before .before .before .before .before .before .before .before .before .before .before .before .before .before .before .before .before .before .before .before .pack-level .kept .1 .1 .1 .0)
+pack-same-length-10 t c = c .before .before .before .before .before .before .before .before .before .before .pack .kept .1 .1 .1 .0 ∙ (c .before .before .before .before .before .before .before
+    .before .before .before .before .before .before .before .before .before .before .before .before .before .before .before .survey-items .kept .1 .1 .0 ∙ c .before .before .before .before .before
+    .before .before .before .before .before .before .before .before .before .before .before .before .before .before .before .before .before .before .before .before .before .before .before .before
+    .before .before .before .before .before .before .before .before .pack-level .kept .1 .1 .1 .0)
 
 pack-same-length-11 : (t : ℕ) → pack-lts.Need-same-length-11 (pack-callees t) (pack-at t) pack.Post
-pack-same-length-11 t c = c .before .before .before .before .before .before .before .before .before .before .pack .kept .1 .1 .1 .1 .0 ∙ (c .before .before .before .before .before .before .before .before .before .before .before .before .before .before .before .before .before .before .before .before .before .before .survey-items .kept .1 .1 .1 .0 ∙ c .before .before .before .before .before .before .before .before .before .before .before .before .before .before .before .before .before .before .before .before .before .before .before .before .before .before .before .before .before .before .before .before .before .before .before .before .before .pack-level .kept .1 .1 .1 .1 .0)
+pack-same-length-11 t c = c .before .before .before .before .before .before .before .before .before .before .pack .kept .1 .1 .1 .1 .0 ∙ (c .before .before .before .before .before .before .before
+    .before .before .before .before .before .before .before .before .before .before .before .before .before .before .before .survey-items .kept .1 .1 .1 .0 ∙ c .before .before .before .before .before
+    .before .before .before .before .before .before .before .before .before .before .before .before .before .before .before .before .before .before .before .before .before .before .before .before
+    .before .before .before .before .before .before .before .before .pack-level .kept .1 .1 .1 .1 .0)
 
 pack-same-length-12 : (t : ℕ) → pack-lts.Need-same-length-12 (pack-callees t) (pack-at t) pack.Post
-pack-same-length-12 t c = c .before .before .before .before .before .before .before .before .before .before .pack .kept .1 .1 .1 .1 .1 .0 ∙ (c .before .before .before .before .before .before .before .before .before .before .before .before .before .before .before .before .before .before .before .before .before .before .survey-items .kept .1 .1 .1 .1 .0 ∙ c .before .before .before .before .before .before .before .before .before .before .before .before .before .before .before .before .before .before .before .before .before .before .before .before .before .before .before .before .before .before .before .before .before .before .before .before .before .pack-level .kept .1 .1 .1 .1 .1 .0)
+pack-same-length-12 t c = c .before .before .before .before .before .before .before .before .before .before .pack .kept .1 .1 .1 .1 .1 .0 ∙ (c .before .before .before .before .before .before .before
+    .before .before .before .before .before .before .before .before .before .before .before .before .before .before .before .survey-items .kept .1 .1 .1 .1 .0 ∙ c .before .before .before .before
+    .before .before .before .before .before .before .before .before .before .before .before .before .before .before .before .before .before .before .before .before .before .before .before .before
+    .before .before .before .before .before .before .before .before .before .pack-level .kept .1 .1 .1 .1 .1 .0)
 
 pack-returns-3 : (t : ℕ) → pack-lts.Need-returns-3 (pack-callees t) (pack-at t) pack.Post
-pack-returns-3 t c = node-stopped (c .before .before .before .before .before .before .before .before .before .before .before .before .before .before .before .before .before .before .before .before .before .before .before .before .before .before .before .before .before .before .before .before .before .before .before .before .before .pack-level .ensures) (c .before .before .before .before .before .before .before .before .before .before .before .before .before .before .before .before .before .before .before .before .before .before .before .before .before .before .before .before .before .before .before .before .before .before .before .before .before .before .before .before .before .before .before .before .before .if1 .left) (c .before .before .before .before .before .before .before .before .before .before .before .before .before .before .before .before .before .before .before .before .before .before .before .before .before .before .before .before .units .given .1) (c .before .before .before .before .before .before .before .before .before .before .before .before .before .before .before .before .before .before .before .before .before .before .survey-items .ensures) (c .before .before .before .before .before .before .before .before .before .before .before .before .before .before .before .before .before .before .before .before .before .before .survey-items .kept .1 .0) (c .before .before .before .before .before .before .before .before .before .before .pack .ensures) (c .before .before .before .before .before .before .before .before .before .before .before .before .before .before .before .before .before .before .before .before .before .before .survey-items .kept .1 .1 .0 ∙ c .before .before .before .before .before .before .before .before .before .before .before .before .before .before .before .before .before .before .before .before .before .before .before .before .before .before .before .before .before .before .before .before .before .before .before .before .before .pack-level .kept .1 .1 .1 .0) (c .before .r .given .1)
+pack-returns-3 t c = node-stopped (c .before .before .before .before .before .before .before .before .before .before .before .before .before .before .before .before .before .before .before .before
+    .before .before .before .before .before .before .before .before .before .before .before .before .before .before .before .before .before .pack-level .ensures) (c .before .before .before .before
+    .before .before .before .before .before .before .before .before .before .before .before .before .before .before .before .before .before .before .before .before .before .before .before .before
+    .before .before .before .before .before .before .before .before .before .before .before .before .before .before .before .before .before .if1 .left) (c .before .before .before .before .before
+    .before .before .before .before .before .before .before .before .before .before .before .before .before .before .before .before .before .before .before .before .before .before .before .units
+    .given .1) (c .before .before .before .before .before .before .before .before .before .before .before .before .before .before .before .before .before .before .before .before .before .before
+    .survey-items .ensures) (c .before .before .before .before .before .before .before .before .before .before .before .before .before .before .before .before .before .before .before .before .before
+    .before .survey-items .kept .1 .0) (c .before .before .before .before .before .before .before .before .before .before .pack .ensures) (c .before .before .before .before .before .before .before
+    .before .before .before .before .before .before .before .before .before .before .before .before .before .before .before .survey-items .kept .1 .1 .0 ∙ c .before .before .before .before .before
+    .before .before .before .before .before .before .before .before .before .before .before .before .before .before .before .before .before .before .before .before .before .before .before .before
+    .before .before .before .before .before .before .before .before .pack-level .kept .1 .1 .1 .0) (c .before .r .given .1)
 
 pack-same-length-13 : (t : ℕ) → pack-lts.Need-same-length-13 (pack-callees t) (pack-at t) pack.Post
 pack-same-length-13 t c = c .before .before .before .before .before .before .before .before .before .before .pack-level .kept .1 .1 .0
@@ -163,7 +259,8 @@ pack-same-length-16 : (t : ℕ) → pack-lts.Need-same-length-16 (pack-callees t
 pack-same-length-16 t c = c .before .before .before .before .before .before .before .before .before .before .pack-level .kept .1 .1 .1 .1 .1 .0
 
 pack-returns-4 : (t : ℕ) → pack-lts.Need-returns-4 (pack-callees t) (pack-at t) pack.Post
-pack-returns-4 t c = level-stopped (c .before .before .before .before .before .before .before .before .before .before .pack-level .ensures) (c .before .before .before .before .before .before .before .before .before .before .before .before .before .before .before .before .before .before .if1 .left) (c .before .r2 .given .1)
+pack-returns-4 t c = level-stopped (c .before .before .before .before .before .before .before .before .before .before .pack-level .ensures) (c .before .before .before .before .before .before .before
+    .before .before .before .before .before .before .before .before .before .before .before .if1 .left) (c .before .r2 .given .1)
 
 survey-items-slice-read-if1 : (t : ℕ) → survey-items-lts.Need-slice-read-if1 (survey-items-callees t) (survey-items-at t) survey-items.Post
 survey-items-slice-read-if1 t c = omega (arith, five-words (c .before .before .before .before .pre .1 .6 .sunk))
@@ -181,13 +278,32 @@ survey-items-begin-survey-requires : (t : ℕ) → survey-items-lts.Need-begin-s
 survey-items-begin-survey-requires t c κs = (_, _, c .before .before .before .before .before .before .before .pre .1 .6 .sunk)
 
 survey-items-pack-requires : (t : ℕ) → survey-items-lts.Need-pack-requires (survey-items-callees t) (survey-items-at t) survey-items.Post
-survey-items-pack-requires t c κs = (omega (arith, c .before .before .before .before .before .before .before .before .before .before .before .before .before .before .pre .0), (_, _, _, _, _, _, survey-ready (c .before .before .before .before .before .before .before .before .before .before .before .before .before .before .pre .1 .6) (c .before .before .before .before .before .before .before .before .before .if1 .left) (c .before .before .before .before .before .before .begin-survey .ensures)))
+survey-items-pack-requires t c κs = (
+  omega (arith, c .before .before .before .before .before .before .before .before .before .before .before .before .before .before .pre .0),
+  (
+    _,
+    _,
+    _,
+    _,
+    _,
+    _,
+    survey-ready (c .before .before .before .before .before .before .before .before .before .before .before .before .before .before .pre .1 .6) (c .before .before .before .before .before .before
+        .before .before .before .if1 .left) (c .before .before .before .before .before .before .begin-survey .ensures),
+  ),
+)
 
 survey-items-enum-told : (t : ℕ) → survey-items-lts.Need-enum-told (survey-items-callees t) (survey-items-at t) survey-items.Post
 survey-items-enum-told t c = search needs
 
 survey-items-open-body-requires : (t : ℕ) → survey-items-lts.Need-open-body-requires (survey-items-callees t) (survey-items-at t) survey-items.Post
-survey-items-open-body-requires t c κs = open-ready (c .before .before .before .before .before .before .before .before .before .before .before .before .before .before .before .before .before .before .before .before .before .before .before .before .before .before .before .pre .1 .6) (c .before .before .before .before .before .before .before .before .before .before .before .before .before .before .before .before .before .before .before .before .before .before .if1 .left) (c .before .before .before .before .before .before .before .before .before .before .before .before .before .before .before .before .before .before .before .begin-survey .ensures) (c .before .before .before .before .before .before .before .before .before .before .before .before .pack .ensures _ _ _ _ _ _ (survey-ready (c .before .before .before .before .before .before .before .before .before .before .before .before .before .before .before .before .before .before .before .before .before .before .before .before .before .before .before .pre .1 .6) (c .before .before .before .before .before .before .before .before .before .before .before .before .before .before .before .before .before .before .before .before .before .before .if1 .left) (c .before .before .before .before .before .before .before .before .before .before .before .before .before .before .before .before .before .before .before .begin-survey .ensures))) (c .before .before .before .before .before .before .before .before .before .before .before .before .pack .kept .1 .1 .0)
+survey-items-open-body-requires t c κs = open-ready (c .before .before .before .before .before .before .before .before .before .before .before .before .before .before .before .before .before .before
+    .before .before .before .before .before .before .before .before .before .pre .1 .6) (c .before .before .before .before .before .before .before .before .before .before .before .before .before
+    .before .before .before .before .before .before .before .before .before .if1 .left) (c .before .before .before .before .before .before .before .before .before .before .before .before .before
+    .before .before .before .before .before .before .begin-survey .ensures) (c .before .before .before .before .before .before .before .before .before .before .before .before .pack .ensures _ _ _ _ _
+    _ (survey-ready (c .before .before .before .before .before .before .before .before .before .before .before .before .before .before .before .before .before .before .before .before .before .before
+    .before .before .before .before .before .pre .1 .6) (c .before .before .before .before .before .before .before .before .before .before .before .before .before .before .before .before .before
+    .before .before .before .before .before .if1 .left) (c .before .before .before .before .before .before .before .before .before .before .before .before .before .before .before .before .before
+    .before .before .begin-survey .ensures))) (c .before .before .before .before .before .before .before .before .before .before .before .before .pack .kept .1 .1 .0)
 
 survey-items-enum-told-2 : (t : ℕ) → survey-items-lts.Need-enum-told-2 (survey-items-callees t) (survey-items-at t) survey-items.Post
 survey-items-enum-told-2 t c = search needs
@@ -199,13 +315,23 @@ survey-items-same-length-2 : (t : ℕ) → survey-items-lts.Need-same-length-2 (
 survey-items-same-length-2 t c = c .before .before .before .before .before .before .before .before .before .before .before .before .before .before .before .before .before .pack .kept .1 .1 .1 .0
 
 survey-items-same-length-3 : (t : ℕ) → survey-items-lts.Need-same-length-3 (survey-items-callees t) (survey-items-at t) survey-items.Post
-survey-items-same-length-3 t c = c .before .before .before .before .open-body .kept .1 .1 .1 .1 .1 .0 ∙ (c .before .before .before .before .before .before .before .before .before .before .before .before .before .before .before .before .before .pack .kept .1 .1 .1 .1 .0 ∙ c .before .before .before .before .before .before .before .before .before .before .before .before .before .before .before .before .before .before .before .before .before .before .before .before .begin-survey .kept .0)
+survey-items-same-length-3 t c = c .before .before .before .before .open-body .kept .1 .1 .1 .1 .1 .0 ∙ (c .before .before .before .before .before .before .before .before .before .before .before
+    .before .before .before .before .before .before .pack .kept .1 .1 .1 .1 .0 ∙ c .before .before .before .before .before .before .before .before .before .before .before .before .before .before
+    .before .before .before .before .before .before .before .before .before .before .begin-survey .kept .0)
 
 survey-items-same-length-4 : (t : ℕ) → survey-items-lts.Need-same-length-4 (survey-items-callees t) (survey-items-at t) survey-items.Post
-survey-items-same-length-4 t c = c .before .before .before .before .open-body .kept .1 .1 .1 .1 .0 ∙ c .before .before .before .before .before .before .before .before .before .before .before .before .before .before .before .before .before .pack .kept .1 .1 .1 .1 .1 .0
+survey-items-same-length-4 t c = c .before .before .before .before .open-body .kept .1 .1 .1 .1 .0 ∙ c .before .before .before .before .before .before .before .before .before .before .before .before
+    .before .before .before .before .before .pack .kept .1 .1 .1 .1 .1 .0
 
 survey-items-returns-2 : (t : ℕ) → survey-items-lts.Need-returns-2 (survey-items-callees t) (survey-items-at t) survey-items.Post
-survey-items-returns-2 t c = λ d t b e m k g. line-told g (c .before .before .before .before .before .before .before .before .before .before .before .before .before .before .before .before .before .before .before .before .before .before .before .before .before .before .before .if1 .left) (c .before .before .before .before .before .before .before .before .before .before .before .before .before .before .before .before .before .before .before .before .before .before .before .before .begin-survey .ensures) (c .before .before .before .before .before .before .before .before .before .before .before .before .before .before .before .before .before .pack .ensures _ _ _ _ _ _ (survey-ready g (c .before .before .before .before .before .before .before .before .before .before .before .before .before .before .before .before .before .before .before .before .before .before .before .before .before .before .before .if1 .left) (c .before .before .before .before .before .before .before .before .before .before .before .before .before .before .before .before .before .before .before .before .before .before .before .before .begin-survey .ensures))) (c .before .before .before .before .before .before .before .before .before .before .before .before .before .before .before .before .before .pack .kept .1 .1 .0) refl (c .before .before .before .before .open-body .ensures)
+survey-items-returns-2 t c = λ d t b e m k g. line-told g (c .before .before .before .before .before .before .before .before .before .before .before .before .before .before .before .before .before
+    .before .before .before .before .before .before .before .before .before .before .if1 .left) (c .before .before .before .before .before .before .before .before .before .before .before .before
+    .before .before .before .before .before .before .before .before .before .before .before .before .begin-survey .ensures) (c .before .before .before .before .before .before .before .before .before
+    .before .before .before .before .before .before .before .before .pack .ensures _ _ _ _ _ _ (survey-ready g (c .before .before .before .before .before .before .before .before .before .before
+    .before .before .before .before .before .before .before .before .before .before .before .before .before .before .before .before .before .if1 .left) (c .before .before .before .before .before
+    .before .before .before .before .before .before .before .before .before .before .before .before .before .before .before .before .before .before .before .begin-survey .ensures))) (c .before
+    .before .before .before .before .before .before .before .before .before .before .before .before .before .before .before .before .pack .kept .1 .1 .0) refl (c .before .before .before .before
+    .open-body .ensures)
 
 survey-items-same-length-5 : (t : ℕ) → survey-items-lts.Need-same-length-5 (survey-items-callees t) (survey-items-at t) survey-items.Post
 survey-items-same-length-5 t c = c .before .before .before .before .before .before .before .before .before .pack .kept .1 .1 .0
@@ -214,13 +340,18 @@ survey-items-same-length-6 : (t : ℕ) → survey-items-lts.Need-same-length-6 (
 survey-items-same-length-6 t c = c .before .before .before .before .before .before .before .before .before .pack .kept .1 .1 .1 .0
 
 survey-items-same-length-7 : (t : ℕ) → survey-items-lts.Need-same-length-7 (survey-items-callees t) (survey-items-at t) survey-items.Post
-survey-items-same-length-7 t c = c .before .before .before .before .before .before .before .before .before .pack .kept .1 .1 .1 .1 .0 ∙ c .before .before .before .before .before .before .before .before .before .before .before .before .before .before .before .before .begin-survey .kept .0
+survey-items-same-length-7 t c = c .before .before .before .before .before .before .before .before .before .pack .kept .1 .1 .1 .1 .0 ∙ c .before .before .before .before .before .before .before
+    .before .before .before .before .before .before .before .before .before .begin-survey .kept .0
 
 survey-items-same-length-8 : (t : ℕ) → survey-items-lts.Need-same-length-8 (survey-items-callees t) (survey-items-at t) survey-items.Post
 survey-items-same-length-8 t c = c .before .before .before .before .before .before .before .before .before .pack .kept .1 .1 .1 .1 .1 .0
 
 survey-items-returns-3 : (t : ℕ) → survey-items-lts.Need-returns-3 (survey-items-callees t) (survey-items-at t) survey-items.Post
-survey-items-returns-3 t c = λ d t b e m k g. never-stops g (c .before .before .before .before .before .before .before .before .before .before .before .before .before .before .before .before .before .before .before .if1 .left) (c .before .before .before .before .before .before .before .before .before .before .before .before .before .before .before .before .begin-survey .ensures) (c .before .before .before .before .before .before .before .before .before .pack .ensures _ _ _ _ _ _ (survey-ready g (c .before .before .before .before .before .before .before .before .before .before .before .before .before .before .before .before .before .before .before .if1 .left) (c .before .before .before .before .before .before .before .before .before .before .before .before .before .before .before .before .begin-survey .ensures))) (c .enum-told2 .given .1)
+survey-items-returns-3 t c = λ d t b e m k g. never-stops g (c .before .before .before .before .before .before .before .before .before .before .before .before .before .before .before .before .before
+    .before .before .if1 .left) (c .before .before .before .before .before .before .before .before .before .before .before .before .before .before .before .before .begin-survey .ensures) (c .before
+    .before .before .before .before .before .before .before .before .pack .ensures _ _ _ _ _ _ (survey-ready g (c .before .before .before .before .before .before .before .before .before .before
+    .before .before .before .before .before .before .before .before .before .if1 .left) (c .before .before .before .before .before .before .before .before .before .before .before .before .before
+    .before .before .before .begin-survey .ensures))) (c .enum-told2 .given .1)
 
 pub +pack+survey-items-spec : {M : Type 1} → statement M
 +pack+survey-items-spec = close μ-pack μ-survey-items (λ t. pack-lts.spec (pack-callees t)

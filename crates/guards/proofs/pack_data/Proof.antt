@@ -27,7 +27,12 @@ cast-t20 : tie.Need-cast-t20
 cast-t20 c = omega (arith, c .slice-known5 .given (c .before .before .before .before .before .args .p .from))
 
 put-requires : tie.Need-put-requires
-put-requires c κs = (c .before .before .before .before .before .before .before .before .before .pre .3, c .before .before .before .before .before .before .before .before .before .pre .4, data-ready (c .before .before .before .before .before .before .before .before .before .pre .5))
+put-requires c κs = (
+  c .before .before .before .before .before .before .before .before .before .pre .3,
+  c .before .before .before .before .before .before .before .before .before .pre .4,
+  data-ready
+      (c .before .before .before .before .before .before .before .before .before .pre .5),
+)
 
 enum-told : tie.Need-enum-told
 enum-told c = search needs

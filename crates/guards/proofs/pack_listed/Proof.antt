@@ -33,7 +33,8 @@ shared-slice-read-t19 : tie.Need-shared-slice-read-t19 Inv-loop μ-loop
 shared-slice-read-t19 c = omega (arith, (c .before .before .loop .inv .0 (c .before .before .before .before .before .before .before .before .pre) .left-over) .bytes, (c .before .loop-test .taken))
 
 pack-one-requires : tie.Need-pack-one-requires Inv-loop μ-loop
-pack-one-requires c κs = chosen (c .before .before .before .before .before .before .loop .inv .0 (c .before .before .before .before .before .before .before .before .before .before .before .before .pre) .left-over) (c .before .before .before .before .before .loop-test .taken)
+pack-one-requires c κs = chosen (c .before .before .before .before .before .before .loop .inv .0 (c .before .before .before .before .before .before .before .before .before .before .before .before
+    .pre) .left-over) (c .before .before .before .before .before .loop-test .taken)
 
 enum-known-next : tie.Need-enum-known-next Inv-loop μ-loop
 enum-known-next c = search needs
@@ -42,31 +43,57 @@ sub-left : tie.Need-sub-left Inv-loop μ-loop
 sub-left c = omega (arith, (c .before .before .before .before .before .before .before .before .before .before .before .before .before .before .before .before .loop-test .taken))
 
 add-k-2 : tie.Need-add-k-2 Inv-loop μ-loop
-add-k-2 c = omega (arith, (c .before .before .before .before .before .before .before .before .before .before .before .before .before .before .before .before .before .loop .inv .0 (c .before .before .before .before .before .before .before .before .before .before .before .before .before .before .before .before .before .before .before .before .before .before .before .pre) .left-over) .bytes, (c .before .before .before .before .before .before .before .before .before .before .before .before .before .before .before .before .loop-test .taken), c .before .before .before .before .before .before .before .before .before .before .before .before .before .before .before .before .before .before .before .before .before .before .before .good .0 .0)
+add-k-2 c = omega (
+  arith,
+  (c .before .before .before .before .before .before .before .before .before .before .before .before .before .before .before .before .before .loop .inv .0 (c .before .before
+      .before .before .before .before .before .before .before .before .before .before .before .before .before .before .before .before .before .before .before .before .before .pre) .left-over) .bytes,
+  (c .before .before .before .before .before .before .before .before .before .before .before .before .before .before .before .before .loop-test .taken),
+  c .before .before .before .before .before
+      .before .before .before .before .before .before .before .before .before .before .before .before .before .before .before .before .before .before .good .0 .0,
+)
 
 loop-less : tie.Need-loop-less Inv-loop μ-loop
 loop-less c = omega (arith, (c .before .before .before .before .before .before .before .before .before .before .before .before .before .before .before .before .loop-test .taken))
 
 loop-again : tie.Need-loop-again Inv-loop μ-loop
-loop-again c = ((λ g. rest-turn g _ (c .before .before .before .before .before .before .before .before .before .before .before .before .before .before .before .before .before .loop .inv .0 g) (c .before .before .before .before .before .before .before .before .before .before .before .before .before .before .before .before .loop-test .taken) (c .before .before .before .before .before .before .before .before .before .before .pack-one .ensures (chosen (c .before .before .before .before .before .before .before .before .before .before .before .before .before .before .before .before .before .loop .inv .0 g .left-over) (c .before .before .before .before .before .before .before .before .before .before .before .before .before .before .before .before .loop-test .taken))) (c .before .next .given .1) (c .before .before .before .before .before .before .before .before .before .before .pack-one .kept .1 .1 .1 .1 .0) (c .before .before .before .before .before .before .before .before .before .before .pack-one .kept .1 .1 .1 .1 .1 .0)), lengths-then (c .before .before .before .before .before .before .before .before .before .before .before .before .before .before .before .before .before .loop .inv .1) (c .before .before .before .before .before .before .before .before .before .before .pack-one .kept .1 .1 .1 .1 .0) (c .before .before .before .before .before .before .before .before .before .before .pack-one .kept .1 .1 .1 .1 .1 .0) (c .before .before .before .before .before .before .before .before .before .before .pack-one .kept .1 .1 .1 .1 .1 .1 .0) (c .before .before .before .before .before .before .before .before .before .before .pack-one .kept .1 .1 .1 .1 .1 .1 .1 .0))
+loop-again c = (
+  (λ g. rest-turn g _ (c .before .before .before .before .before .before .before .before .before .before .before .before .before .before .before .before .before .loop .inv .0 g) (c
+      .before .before .before .before .before .before .before .before .before .before .before .before .before .before .before .before .loop-test .taken) (c .before .before .before .before .before
+      .before .before .before .before .before .pack-one .ensures (chosen (c .before .before .before .before .before .before .before .before .before .before .before .before .before .before .before
+      .before .before .loop .inv .0 g .left-over) (c .before .before .before .before .before .before .before .before .before .before .before .before .before .before .before .before .loop-test .taken)))
+      (c .before .next .given .1) (c .before .before .before .before .before .before .before .before .before .before .pack-one .kept .1 .1 .1 .1 .0) (c .before .before .before .before .before .before
+      .before .before .before .before .pack-one .kept .1 .1 .1 .1 .1 .0)),
+  lengths-then (c .before .before .before .before .before .before .before .before .before .before .before .before .before
+      .before .before .before .before .loop .inv .1) (c .before .before .before .before .before .before .before .before .before .before .pack-one .kept .1 .1 .1 .1 .0) (c .before .before .before
+      .before .before .before .before .before .before .before .pack-one .kept .1 .1 .1 .1 .1 .0) (c .before .before .before .before .before .before .before .before .before .before .pack-one .kept .1 .1
+      .1 .1 .1 .1 .0) (c .before .before .before .before .before .before .before .before .before .before .pack-one .kept .1 .1 .1 .1 .1 .1 .1 .0),
+)
 
 enum-known-r : tie.Need-enum-known-r Inv-loop μ-loop
 enum-known-r c = search needs
 
 same-length : tie.Need-same-length Inv-loop μ-loop
-same-length c = c .before .before .before .before .before .before .before .before .before .before .pack-one .kept .1 .1 .1 .1 .0 ∙ c .before .before .before .before .before .before .before .before .before .before .before .before .before .before .before .before .before .loop .inv .1 .env-long
+same-length c = c .before .before .before .before .before .before .before .before .before .before .pack-one .kept .1 .1 .1 .1 .0 ∙ c .before .before .before .before .before .before .before .before
+    .before .before .before .before .before .before .before .before .before .loop .inv .1 .env-long
 
 same-length-2 : tie.Need-same-length-2 Inv-loop μ-loop
-same-length-2 c = c .before .before .before .before .before .before .before .before .before .before .pack-one .kept .1 .1 .1 .1 .1 .0 ∙ c .before .before .before .before .before .before .before .before .before .before .before .before .before .before .before .before .before .loop .inv .1 .buf-long
+same-length-2 c = c .before .before .before .before .before .before .before .before .before .before .pack-one .kept .1 .1 .1 .1 .1 .0 ∙ c .before .before .before .before .before .before .before
+    .before .before .before .before .before .before .before .before .before .before .loop .inv .1 .buf-long
 
 same-length-3 : tie.Need-same-length-3 Inv-loop μ-loop
-same-length-3 c = c .before .before .before .before .before .before .before .before .before .before .pack-one .kept .1 .1 .1 .1 .1 .1 .0 ∙ c .before .before .before .before .before .before .before .before .before .before .before .before .before .before .before .before .before .loop .inv .1 .state-long
+same-length-3 c = c .before .before .before .before .before .before .before .before .before .before .pack-one .kept .1 .1 .1 .1 .1 .1 .0 ∙ c .before .before .before .before .before .before .before
+    .before .before .before .before .before .before .before .before .before .before .loop .inv .1 .state-long
 
 same-length-4 : tie.Need-same-length-4 Inv-loop μ-loop
-same-length-4 c = c .before .before .before .before .before .before .before .before .before .before .pack-one .kept .1 .1 .1 .1 .1 .1 .1 .0 ∙ c .before .before .before .before .before .before .before .before .before .before .before .before .before .before .before .before .before .loop .inv .1 .text-long
+same-length-4 c = c .before .before .before .before .before .before .before .before .before .before .pack-one .kept .1 .1 .1 .1 .1 .1 .1 .0 ∙ c .before .before .before .before .before .before .before
+    .before .before .before .before .before .before .before .before .before .before .loop .inv .1 .text-long
 
 returns : tie.Need-returns Inv-loop μ-loop
-returns c = λ g. rest-stopped g _ (c .before .before .before .before .before .before .before .before .before .before .before .before .before .before .before .before .before .loop .inv .0 g) (c .before .before .before .before .before .before .before .before .before .before .before .before .before .before .before .before .loop-test .taken) (c .before .before .before .before .before .before .before .before .before .before .pack-one .ensures (chosen (c .before .before .before .before .before .before .before .before .before .before .before .before .before .before .before .before .before .loop .inv .0 g .left-over) (c .before .before .before .before .before .before .before .before .before .before .before .before .before .before .before .before .loop-test .taken))) (c .before .r .given .1)
+returns c = λ g. rest-stopped g _ (c .before .before .before .before .before .before .before .before .before .before .before .before .before .before .before .before .before .loop .inv .0 g) (c
+    .before .before .before .before .before .before .before .before .before .before .before .before .before .before .before .before .loop-test .taken) (c .before .before .before .before .before
+    .before .before .before .before .before .pack-one .ensures (chosen (c .before .before .before .before .before .before .before .before .before .before .before .before .before .before .before
+    .before .before .loop .inv .0 g .left-over) (c .before .before .before .before .before .before .before .before .before .before .before .before .before .before .before .before .loop-test .taken)))
+    (c .before .r .given .1)
 
 same-length-5 : tie.Need-same-length-5 Inv-loop μ-loop
 same-length-5 c = c .before .loop .inv .1 .env-long

@@ -10,7 +10,12 @@ use Rattle.leaves.proofs.make.Reads as make-reads
 use Rattle.leaves.proofs.push.Reads as push-reads
 
 make-requires : tie.Need-make-requires
-make-requires c κs = (c .before .before .before .before .before .before .before .pre .0, c .before .before .before .before .before .before .before .pre .1, c .before .before .before .before .before .before .before .pre .2 .makes)
+make-requires c κs = (
+  c .before .before .before .before .before .before .before .pre .0,
+  c .before .before .before .before .before .before .before .pre .1,
+  c .before .before .before .before .before
+      .before .before .pre .2 .makes,
+)
 
 enum-known-made : tie.Need-enum-known-made
 enum-known-made c = search needs
@@ -19,7 +24,18 @@ add-push : tie.Need-add-push
 add-push c = search needs
 
 push-requires : tie.Need-push-requires
-push-requires c κs = let q = put-push (c .before .before .before .before .before .before .before .before .before .before .before .before .before .before .before .before .before .before .pre .2) _ (c .before .before .before .before .before .before .before .before .before .before .make .ensures _ _ (c .before .before .before .before .before .before .before .before .before .before .before .before .before .before .before .before .before .before .pre .2 .makes)) (c .before .before .before .made .given .1) in (omega arith, c .before .before .before .before .before .before .before .before .before .before .before .before .before .before .before .before .before .before .pre .2 .fits, q .0, q .1, q .2, q .3, q .4)
+push-requires c κs = let q = put-push (c .before .before .before .before .before .before .before .before .before .before .before .before .before .before .before .before .before .before .pre .2) _ (c
+    .before .before .before .before .before .before .before .before .before .before .make .ensures _ _ (c .before .before .before .before .before .before .before .before .before .before .before
+    .before .before .before .before .before .before .before .pre .2 .makes)) (c .before .before .before .made .given .1) in (
+      omega arith,
+      c .before .before .before .before .before .before .before
+          .before .before .before .before .before .before .before .before .before .before .before .pre .2 .fits,
+      q .0,
+      q .1,
+      q .2,
+      q .3,
+      q .4,
+    )
 
 enum-known-r : tie.Need-enum-known-r
 enum-known-r c = search needs
@@ -37,7 +53,8 @@ same-length-4 : tie.Need-same-length-4
 same-length-4 c = search needs
 
 returns : tie.Need-returns
-returns c = λ m k g. put-made g _ (c .before .before .before .before .before .before .before .before .before .before .before .before .before .make .ensures _ _ (g .makes)) (c .before .before .before .before .before .before .made .given .1) (c .before .before .push .ensures)
+returns c = λ m k g. put-made g _ (c .before .before .before .before .before .before .before .before .before .before .before .before .before .make .ensures _ _ (g .makes)) (c .before .before .before
+    .before .before .before .made .given .1) (c .before .before .push .ensures)
 
 same-length-5 : tie.Need-same-length-5
 same-length-5 c = search needs
