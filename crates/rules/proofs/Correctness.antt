@@ -6,7 +6,7 @@ use mathlib.Core.Logic.{⊎-elim}
 use mathlib.Core.Option.{some, Option·getD}
 use mathlib.Core.Path.{_≡_, refl, sym, ap, _∙_, subst, transport}
 use lib.ListN.{length}
-use Rattle.snesl.specs.Values.{ValueType, depthOf, Val}
+use Rattle.snesl.specs.Values.{ValueType, Val}
 use Rattle.snesl.specs.Terms.{_∋_, here, there, Term, All, ∅, _▹_, lookup}
 use Rattle.snesl.specs.Streams.{Stream, units, Store, _!_}
 use Rattle.snesl.specs.Trees.{Tree, IdTree, leaf, node, inner, outer, root, order, mapTree}
@@ -23,7 +23,7 @@ use Rattle.snesl.proofs.Statements.Correctness as running
 use Rattle.snesl.proofs.Statements.Compiled as compiled
 use Rattle.rules.specs.Names.{Env, named, envOf}
 use Rattle.rules.specs.Typing.{Types, typesOf}
-use Rattle.rules.specs.Values.{Value, plain}
+use Rattle.rules.specs.Values.{Value}
 use Rattle.rules.specs.Evaluation.{Evaluates, valuesOf}
 use Rattle.rules.specs.Instructions.{Svcode, Stores, Runs, written}
 use Rattle.rules.specs.Trees.{STree, pair, ids, Builds, builds-one, builds-pair, plainTree, treesOf}

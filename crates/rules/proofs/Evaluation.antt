@@ -1,6 +1,6 @@
 -- Evaluation of a named expression by the rules gives exactly the value that `eval` gives its typed expression, and none where `eval` gives none.
 use Prim.Native.Nat.{ℕ, zero, suc}
-use mathlib.Core.Bool.{Bool, true, false, not}
+use mathlib.Core.Bool.{Bool, true, false}
 use mathlib.Core.List.{List, [], _∷_}
 use mathlib.Core.Logic.{_↔_}
 use mathlib.Core.Option.{Option, some, none}
@@ -14,7 +14,7 @@ use Rattle.snesl.specs.declared.code.Operation.the-variants.{Plus, LessEqual, E
 use Rattle.snesl.specs.declared.code.Variable.{Variable}
 use Rattle.snesl.specs.Values as types
 use Rattle.snesl.specs.Values.{ValueType, Element, Val, inRange, total, resultOf}
-use Rattle.snesl.specs.Terms.{_∋_, Term, All, _▹_, lookup, anyType, listed}
+use Rattle.snesl.specs.Terms.{Term, All, _▹_, lookup, anyType, listed}
 use Rattle.snesl.specs.Evaluation.{andThen, within, counting, allOf, upTo, operated, oneIf, eval}
 use Rattle.snesl.specs.Records as raw
 use Rattle.snesl.specs.Records.{Raw}
@@ -22,8 +22,9 @@ use Rattle.snesl.specs.Checking.{Name, Found, missing, found, find, NamedListin
 use Rattle.rules.specs.Names.{Env, named, Maps, MapsAll, maps-none, maps-more, Listed, listed-none, listed-more, envOf}
 use Rattle.rules.specs.Typing.{BuiltIn, Calls, calls-const, calls-truth, calls-iota, calls-operation, calls-negation, calls-sum}
 use Rattle.rules.specs.Values.{Value, Values, int, bool, braces, empty, item, plains, plainScalar, plain}
-use Rattle.rules.specs.Evaluation.{Counts, counts-none, counts-more, Totals, totals-none, totals-more, Gives, gives-const, gives-truth, gives-iota, Operates, operates-plus, operates-lessEqual, operates-equal, gives-operation, gives-negation, gives-sum, Scalar, number, truth-value, AnyValue, Evaluates, evaluates-var, evaluates-let, evaluates-call, evaluates-each, evaluates-guard-T, evaluates-guard-F, EvaluatesEach, evaluates-none, evaluates-more, valuesOf}
-use Rattle.rules.proofs.Names.{maps-once, Looks, looks-one, looking, looks-found, looks-scalar, looks-int, looks-bool, looks-ints, LooksAtSequence, as-sequence, along}
+use Rattle.rules.specs.Evaluation.{Counts, counts-none, counts-more, Totals, totals-none, totals-more, Gives, gives-const, gives-truth, gives-iota, Operates, operates-plus, operates-lessEqual, operates-equal, gives-operation, gives-negation}
+use Rattle.rules.specs.Evaluation.{gives-sum, Scalar, number, truth-value, AnyValue, Evaluates, evaluates-var, evaluates-let, evaluates-call, evaluates-each, evaluates-guard-T, evaluates-guard-F, EvaluatesEach, evaluates-none, evaluates-more, valuesOf}
+use Rattle.rules.proofs.Names.{maps-once, Looks, looking, looks-found, looks-scalar, looks-int, looks-bool, looks-ints, LooksAtSequence, as-sequence, along}
 use Rattle.rules.proofs.Typing.{not-var, not-let, not-each, not-guard, listed-once, Resolved, resolved-var, resolved-let, resolved-const, resolved-truth, resolved-iota, resolved-operation, resolved-negation, resolved-sum, resolved-each, resolved-guard, resolved}
 
 -- ---- the rules give one value at most

@@ -1,5 +1,5 @@
 -- Checking (snesl, specs/Checking.antt) gives a typed expression exactly where the typing rules have a derivation, and refusal 5 or 6 where they have none.
-use Prim.Native.Nat.{ℕ, zero, suc, _≤_}
+use Prim.Native.Nat.{ℕ, suc, _≤_}
 use native.Mathlib.Omega.{arith}
 use mathlib.Core.Bool.{Bool, true, false, _&&_, _||_, not}
 use mathlib.Core.List.{List, [], _∷_}
@@ -23,9 +23,11 @@ use Rattle.snesl.specs.Terms as terms
 use Rattle.snesl.specs.Terms.{_∋_, Term, anyType, listedTypes, All, ∅, _▹_}
 use Rattle.snesl.specs.Records as raw
 use Rattle.snesl.specs.Records.{Raw}
-use Rattle.snesl.specs.Checking.{Name, same, Found, missing, found, find, isBound, AnyScalar, noScalar, aScalar, asScalar, asInt, asBool, asInts, Sequence, noSequence, sequence, asSequence, names, usable, NamedScalars, listedFirst, listedScalars, listedNames, pointers, NamedListing, anyFirst, listedAny, anyPointers, anyNames, Typed, refused, typed, demand, typedIf, typedSequence, typedThen, check}
+use Rattle.snesl.specs.Checking.{Name, same, Found, missing, found, find, isBound, AnyScalar, noScalar, aScalar, asScalar, asInt, asBool, asInts, Sequence, noSequence, sequence, asSequence, names}
+use Rattle.snesl.specs.Checking.{usable, NamedScalars, listedFirst, listedScalars, listedNames, pointers, NamedListing, anyFirst, listedAny, anyPointers, anyNames, Typed, refused, typed, demand, typedIf, typedSequence, typedThen, check}
 use Rattle.rules.specs.Names.{Env, nothing, named, Maps, maps-none, maps-more, Listed, listed-none, listed-more}
-use Rattle.rules.specs.Typing.{BuiltIn, Calls, calls-const, calls-truth, calls-iota, calls-operation, calls-negation, calls-sum, takes-const, takes-truth, takes-iota, takes-operation, takes-negation, takes-sum, Unlisted, Once, once-none, once-more, IsScalar, is-scalar, AnyType, Types, types-var, types-let, types-call, types-each, types-guard, typesOf}
+use Rattle.rules.specs.Typing.{BuiltIn, Calls, calls-const, calls-truth, calls-iota, calls-operation, calls-negation, calls-sum, takes-const, takes-truth, takes-iota, takes-operation, takes-negation, takes-sum}
+use Rattle.rules.specs.Typing.{Unlisted, Once, once-none, once-more, IsScalar, is-scalar, AnyType, Types, types-var, types-let, types-call, types-each, types-guard, typesOf}
 use Rattle.rules.proofs.Names.{same-true, same-false, maps-once, Finds, finds-none, finds-one, finding}
 
 -- A rule's premises from its conclusion, for each expression.

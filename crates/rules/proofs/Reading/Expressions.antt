@@ -19,7 +19,8 @@ use Rattle.snesl.specs.Records as raw
 use Rattle.snesl.specs.Records.{Raw, Head, absent, over, single, letting, eaching, guarding, headAt, Scanned, scanned, thenScan, tooDeep, counted, scan}
 use Rattle.rules.specs.Grammar.{Names, Bytes, truthRecord, operationRecord, Spells, spells-var, spells-let, spells-const, spells-truth, spells-iota, spells-operation, spells-negation, spells-sum, spells-each, spells-guard}
 use Rattle.rules.proofs.Reading.Places.{At, at-first, at-rest, at-both}
-use Rattle.rules.proofs.Reading.Heads.{letters, var-there, let-there, const-there, truth-there, iota-there, operation-there, negation-there, sum-there, each-there, guard-there, Heads, heads-absent, heads-over, heads-var, heads-let, heads-const, heads-truth, heads-iota, heads-operation, heads-negation, heads-sum, heads-each, heads-guard, heading}
+use Rattle.rules.proofs.Reading.Heads.{letters, var-there, let-there, const-there, truth-there, iota-there, operation-there, negation-there, sum-there, each-there, guard-there, Heads, heads-absent}
+use Rattle.rules.proofs.Reading.Heads.{heads-over, heads-var, heads-let, heads-const, heads-truth, heads-iota, heads-operation, heads-negation, heads-sum, heads-each, heads-guard, heading}
 
 -- what `scan` does with the record at k
 abbrev scanHead : (levels : ℕ) → List ℕ → (k n : ℕ) → Head → Scanned

@@ -1,5 +1,5 @@
 -- The record that stands at an offset: what its bytes are.
-use Prim.Native.Nat.{ℕ, zero, suc, _+_, _*_, _-_, _≤_, _<_}
+use Prim.Native.Nat.{ℕ, zero, suc, _+_, _*_, _≤_, _<_}
 use native.Mathlib.Omega.{arith}
 use mathlib.Core.Bool.{Bool, true, false, _&&_}
 use mathlib.Core.List.{List, [], _∷_, _++_, map}
@@ -14,7 +14,7 @@ use Rattle.snesl.specs.declared.code.Operation.{Operation}
 use Rattle.snesl.specs.declared.code.Operation.the-variants.{Plus, LessEqual, Equal}
 use Rattle.snesl.specs.declared.code.Variable.{Variable}
 use Rattle.snesl.specs.Ascii.{ascii}
-use Rattle.snesl.specs.Notation.{VR, LT, KB, IO, PL, LE, EQ, NO, SM, EA, GU}
+use Rattle.snesl.specs.Notation.{VR, LT, IO, NO, SM, EA, GU}
 use Rattle.snesl.specs.Limits.{mostListed, lastVariable}
 use Rattle.snesl.specs.Values.{Each, each-none, each-more}
 use Rattle.snesl.specs.Records as raw

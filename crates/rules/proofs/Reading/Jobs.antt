@@ -22,7 +22,8 @@ use Rattle.snesl.specs.Notation.{IN, IB}
 use Rattle.snesl.specs.Limits.{mostBytes, mostInputs, mostNesting, mostDepth, lastVariable}
 use Rattle.snesl.specs.Records.{Raw, byteAt, markAt, markIN, markIB, markVA, inputBase, Input, Declared, declared, inputFirst, inputAt, inputOk, inputsAt, Span, Texts, texts, spanFirst, spanAt, textsAt, Front, front, expressionAfter, inputsThen, frontOf, formulaEnd, readFormula, JobRead, job, textsThen, jobEnd, readJob}
 use Rattle.snesl.proofs.Formed.{FrontRead, formula-read, job-read}
-use Rattle.rules.specs.Grammar.{Names, Bytes, inputRecord, truthRecord, operationRecord, Spells, spells-var, spells-let, spells-const, spells-truth, spells-iota, spells-operation, spells-negation, spells-sum, spells-each, spells-guard, SpellsInputs, inputs-none, inputs-more, SpellsTexts, texts-none, texts-more, SpellsFront, SpellsJob}
+use Rattle.rules.specs.Grammar.{Names, Bytes, inputRecord, truthRecord, operationRecord, Spells, spells-var, spells-let, spells-const, spells-truth, spells-iota, spells-operation}
+use Rattle.rules.specs.Grammar.{spells-negation, spells-sum, spells-each, spells-guard, SpellsInputs, inputs-none, inputs-more, SpellsTexts, texts-none, texts-more, SpellsFront, SpellsJob}
 use Rattle.rules.proofs.Reading.Places.{At, at-fits, at-byte, at-none, at-first, at-rest, at-both}
 use Rattle.rules.proofs.Reading.Heads.{mark-there, mark-bytes, with-two}
 use Rattle.rules.proofs.Reading.Expressions.{spells-scans, scans-spell}

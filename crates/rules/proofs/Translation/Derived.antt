@@ -10,7 +10,6 @@ use lib.IntN.{ℤ, pos}
 use lib.ListN.{length}
 use Rattle.laws.proofs.Never.{never}
 use Rattle.snesl.specs.declared.code.Base.{Base}
-use Rattle.snesl.specs.declared.code.Base.the-variants as base
 use Rattle.snesl.specs.declared.code.Operation.{Operation}
 use Rattle.snesl.specs.declared.code.Variable.{Variable}
 use Rattle.snesl.specs.declared.code.Transducer.the-variants.{Const, ConstBool, ToFlags, Usum, MapTwo, MapOneNot, ScanPlus, SumPlus}
@@ -35,7 +34,8 @@ use Rattle.rules.specs.Xducers.{xducer}
 use Rattle.rules.specs.Instructions.{Svcode, nop, assign, withCtrl, seq, written}
 use Rattle.rules.specs.Trees.{STree, one, pair, ids, plainTree, treesOf}
 use Rattle.rules.specs.Agreement.{Translated}
-use Rattle.rules.specs.Translation.{dv, fv, becomes-const, becomes-truth, becomes-operation, becomes-negation, becomes-iota, becomes-sum, Packs, packs-one, packs-pair, PacksAll, packs-none, packs-more, Copies, copies-none, copies-more, Translates, translates-var, translates-let, translates-call, translates-each, translates-guard, regroup}
+use Rattle.rules.specs.Translation.{dv, fv, becomes-const, becomes-truth, becomes-operation, becomes-negation, becomes-iota, becomes-sum, Packs, packs-one, packs-pair, PacksAll}
+use Rattle.rules.specs.Translation.{packs-none, packs-more, Copies, copies-none, copies-more, Translates, translates-var, translates-let, translates-call, translates-each, translates-guard, regroup}
 use Rattle.rules.proofs.Names.{Looks, looking, looks-found, looks-scalar, looks-int, looks-bool, looks-ints, LooksAtSequence, as-sequence, along}
 use Rattle.rules.proofs.Typing.{Resolved, resolved-var, resolved-let, resolved-const, resolved-truth, resolved-iota, resolved-operation, resolved-negation, resolved-sum, resolved-each, resolved-guard}
 use Rattle.rules.proofs.Translation.Regrouped.{dv-grouped, fv-grouped, dv-written, fv-written}

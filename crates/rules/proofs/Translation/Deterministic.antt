@@ -13,7 +13,8 @@ use Rattle.rules.specs.Xducers as xducers
 use Rattle.rules.specs.Instructions.{Svcode, nop, assign, withCtrl, seq}
 use Rattle.rules.specs.Trees.{STree, one, pair, ids}
 use Rattle.rules.specs.Agreement.{Same}
-use Rattle.rules.specs.Translation.{dv, fv, Becomes, becomes-const, becomes-truth, becomes-operation, becomes-negation, becomes-iota, becomes-sum, Packs, packs-one, packs-pair, PacksAll, packs-none, packs-more, Copies, copies-none, copies-more, Translates, translates-var, translates-let, translates-call, translates-each, translates-guard}
+use Rattle.rules.specs.Translation.{dv, fv, Becomes, becomes-const, becomes-truth, becomes-operation, becomes-negation, becomes-iota, becomes-sum, Packs, packs-one, packs-pair}
+use Rattle.rules.specs.Translation.{PacksAll, packs-none, packs-more, Copies, copies-none, copies-more, Translates, translates-var, translates-let, translates-call, translates-each, translates-guard}
 use Rattle.rules.proofs.Names.{maps-once}
 use Rattle.rules.proofs.Typing.{not-var, not-let, not-each, not-guard}
 use Rattle.rules.proofs.Evaluation.{maps-all-once}

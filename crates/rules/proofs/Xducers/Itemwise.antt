@@ -14,9 +14,10 @@ use Rattle.snesl.specs.declared.code.Base.the-variants as base
 use Rattle.snesl.specs.declared.code.Operation.{Operation}
 use Rattle.snesl.specs.declared.code.Operation.the-variants.{Plus, LessEqual, Equal}
 use Rattle.snesl.specs.Values.{Element, inRange, equalZ}
-use Rattle.snesl.specs.Streams.{Stream, ints, bools, flags, dataOf}
+use Rattle.snesl.specs.Streams.{ints, bools, flags, dataOf}
 use Rattle.snesl.specs.Transducers.{firstOutside, firstNegative, unary, unitary, onlyIf, kept, pluses, pairwise}
-use Rattle.rules.specs.Xducers.{const, constBool, toFlags, b2u, mapTwo, mapOneNot, pack, Operates, operates-plus, operates-lessEqual, operates-equal, joined-ints, joined-bools, joined-flags, joined-none, joined-more, Unary, unary-none, unary-more, Keeps, keeps-T, keeps-F, block-const, block-constBool, block-toFlags, block-b2u, block-mapTwo, block-mapOneNot, block-pack, Loops, x-loop, x-term}
+use Rattle.rules.specs.Xducers.{const, constBool, toFlags, b2u, mapTwo, mapOneNot, pack, Operates, operates-plus, operates-lessEqual, operates-equal, joined-ints, joined-bools, joined-flags, joined-none, joined-more}
+use Rattle.rules.specs.Xducers.{Unary, unary-none, unary-more, Keeps, keeps-T, keeps-F, block-const, block-constBool, block-toFlags, block-b2u, block-mapTwo, block-mapOneNot, block-pack, Loops, x-loop, x-term}
 use Rattle.rules.proofs.Xducers.Loops.{data-same, joined-data}
 
 pub ints-same : {xs ys : List ℤ} → ints xs ≡ ints ys → xs ≡ ys

@@ -1,5 +1,5 @@
 -- What holds of every transducer's rules: their streams have its kinds, and a derivation for n + 1 units is a block and one for n units.
-use Prim.Native.Nat.{ℕ, zero, suc, _+_}
+use Prim.Native.Nat.{ℕ, suc, _+_}
 use mathlib.Core.Bool.{Bool}
 use mathlib.Core.List.{List, [], _∷_, _++_, map}
 use mathlib.Core.Path.{_≡_, refl, ap, _∙_}

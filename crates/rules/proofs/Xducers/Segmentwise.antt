@@ -11,8 +11,9 @@ use Rattle.snesl.specs.declared.code.Base.{Base}
 use Rattle.snesl.specs.declared.code.Base.the-variants as base
 use Rattle.snesl.specs.Values.{Element, inRange}
 use Rattle.snesl.specs.Streams.{Stream, ints, bools, flags, units, dataOf}
-use Rattle.snesl.specs.Transducers.{Feed, alone, eachF, eachT, misfit, countF, spread, scans, sums, keptSegments, onlyIf, firstOutside}
-use Rattle.rules.specs.Xducers.{Xducer, usum, scanPlus, distr, sumPlus, upack, joined-ints, joined-bools, joined-flags, joined-units, joined-none, joined-more, Summed, summed-F, summed-T, Block, block-usum-F, block-usum-T, block-scan-F, block-scan-T, Spread, spread-F, spread-T, block-distr, block-sum, Unary, unary-none, unary-more, Keeps, keeps-T, keeps-F, block-upack, Loops, x-loop, x-term}
+use Rattle.snesl.specs.Transducers.{Feed, alone, eachF, eachT, misfit, countF, spread, scans, sums, keptSegments, firstOutside}
+use Rattle.rules.specs.Xducers.{Xducer, usum, scanPlus, distr, sumPlus, upack, joined-ints, joined-bools, joined-flags, joined-units, joined-none, joined-more, Summed, summed-F, summed-T, Block, block-usum-F, block-usum-T}
+use Rattle.rules.specs.Xducers.{block-scan-F, block-scan-T, Spread, spread-F, spread-T, block-distr, block-sum, Unary, unary-none, unary-more, Keeps, keeps-T, keeps-F, block-upack, Loops, x-loop, x-term}
 use Rattle.rules.proofs.Xducers.Loops.{data-same, Parted, parted, parts, whole}
 use Rattle.rules.proofs.Xducers.Itemwise.{keeps, keeps-one, ints-same, bools-same, flags-same, first-same, tail-same, inside-first, first-inside}
 
