@@ -34,7 +34,7 @@ abbrev pub when : Option Kind → Bool → Option Kind
 when k true = k
 when k false = none
 
--- the base of data of such a kind; what is no data, which no rule has there, counts as int
+-- the base of data of such a kind; of what is no data, int: then no kind depends on it
 abbrev pub baseFor : Kind → Base
 baseFor Ints = base.Int
 baseFor Bools = base.Bool

@@ -94,7 +94,7 @@ pub data Operates : Operation → ℤ → ℤ → Stream → Type 0 where
   operates-lessEqual : {n₁ n₂ : ℤ} {c : Bool} → c ≡ leZ n₁ n₂ → Operates LessEqual n₁ n₂ (bools (c ∷ []))
   operates-equal : {n₁ n₂ : ℤ} {c : Bool} → c ≡ equalZ n₁ n₂ → Operates Equal n₁ n₂ (bools (c ∷ []))
 
--- ψ(a1, .., ak) ↓ a: one block. A result that is out of range has no rule, nor has a negative number under ToFlags. Those on bools are 001's (2.5.3), in
+-- ψ(a1, .., ak) ↓ a: one block. A result that is out of range has no rule, nor has a negative number under ToFlags. Those on bools are 001's (2.4.1), in
 -- 002's form; a stream of data is of either base.
 pub data Block : Xducer → List Stream → Stream → Type 0 where
   block-const : {n : ℤ} → Block (const n) [] (ints (n ∷ []))
