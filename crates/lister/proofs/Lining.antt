@@ -4,7 +4,7 @@ use native.Mathlib.Omega.{arith}
 use mathlib.Core.List.{List, [], _∷_, _++_, append-nil}
 use mathlib.Core.Path.{_≡_, refl, sym, ap, _∙_, subst}
 use lib.IntN.{ℤ}
-use lib.ListN.{length, getD, take, drop, length-append}
+use lib.ListN.{length, getD, take, drop, replicate, length-append}
 use Rattle.snesl.specs.declared.refusal.Refusal.{Refusal}
 use Rattle.snesl.specs.Limits.{mostNesting}
 use Rattle.snesl.specs.Values.{depthOf}
@@ -21,7 +21,6 @@ use Rattle.sink.specs.Sunk.{Sunk}
 use Rattle.sink.specs.Trees.{Placing}
 use Rattle.sink.proofs.Sinking.{landed, at-word}
 use Rattle.sink.proofs.Feeding.{feed-listing}
-use Rattle.streams.specs.Answers.{widestBuffer}
 use Rattle.steps.specs.Holding.{counters, Held, place}
 use Rattle.steps.specs.Walking.{walked}
 use Rattle.leaves.specs.Places.{places}
@@ -36,10 +35,10 @@ use Rattle.lister.proofs.Bare.{bare-contents, bare-places}
 
 -- the sink of a listing that begins, and its words behind a machine whose next id is s
 abbrev beginning : List ℕ → Sink
-beginning text = record { mode = listing; text = text; at = 0; own = 0; taken = []; most = 16 }
+beginning text = record { mode = listing; text = text; at = 0; own = 0; taken = []; most = 72 }
 
 abbrev pub start : ℕ → List ℕ
-start s = s ∷ 0 ∷ 0 ∷ 0 ∷ 1 ∷ 0 ∷ 0 ∷ 0 ∷ 0 ∷ 0 ∷ 0 ∷ 0 ∷ 0 ∷ 0 ∷ 0 ∷ 0 ∷ 0 ∷ 0 ∷ 0 ∷ 0 ∷ 0 ∷ 0 ∷ 0 ∷ 0 ∷ []
+start s = s ∷ 0 ∷ 0 ∷ 0 ∷ 1 ∷ 0 ∷ 0 ∷ 0 ∷ replicate 72 0
 
 module _ {t : List ℕ} {k : ℕ} {env : List ℕ} {sp s : ℕ} (g : WholeReady t k env sp s) where
   abbrev machine : State
@@ -67,7 +66,7 @@ module _ {t : List ℕ} {k : ℕ} {env : List ℕ} {sp s : ℕ} (g : WholeReady 
     sunk : Sunk (beginning text) text (start s)
     sunk =
         record {
-          rest = 0 ∷ 0 ∷ 0 ∷ 0 ∷ 0 ∷ 0 ∷ 0 ∷ 0 ∷ 0 ∷ 0 ∷ 0 ∷ 0 ∷ 0 ∷ 0 ∷ 0 ∷ 0 ∷ [];
+          rest = replicate 72 0;
           words = refl;
           whole = refl;
           kept = omega arith;

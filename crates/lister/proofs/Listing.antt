@@ -144,12 +144,12 @@ module _ {t : List ℕ} {inputs k enough : ℕ} (g : Found t inputs k enough) wh
   ids : start + size (g .term) < 4294967296
   ids =
       let a = starts-small t (g .all) mostInputs 0 (front-of .inputs) in
-      let b = spans (formed .formed) in
+      let b = spans (formed .formed) shallow in
       omega (arith, g .number, number-few, formed .within, formed .short, b .sized)
 
   -- the text is counted
   module _ (bytes : (i : ℕ) → getD t i 0 < 256) where
-    lines-most : length (linesOf start (code (g .term) trees start)) ≤ 13107200
+    lines-most : length (linesOf start (code (g .term) trees start)) ≤ 458752000
     lines-most =
         let a = lines-short bytes (formed .formed) shallow trees start below ids in
         omega (arith, formed .within, formed .short)

@@ -54,7 +54,7 @@ pub record WholeReady (t : List ℕ) (k : ℕ) (env : List ℕ) (sp s : ℕ) : T
   pub space : words term ≤ sp
   pub small : length env ≤ 65536
   pub short : length t ≤ mostBytes
-  pub few : s + 2 * (length t - k) ≤ mostStreams
+  pub few : s + 25 * (length t - k) ≤ mostStreams
   pub near : length (wholeText term trees s) ≤ far
 
 -- the expression's lines are written from the start on, and its tree stands below sp

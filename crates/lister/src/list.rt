@@ -28,20 +28,23 @@ pub enum Listed {
     Refused(Refusal),
 }
 
-// The most words that an input's binding takes, and those that a nesting of the walk takes.
+// The most words that an input's binding takes, those that a nesting of the walk takes, and those of the bools spread over a value's levels while it is packed.
 const INPUT_WORDS: usize = 29;
 
-const NESTING_WORDS: usize = 69;
+const NESTING_WORDS: usize = 235;
+
+const SPREAD_WORDS: usize = 24;
 
 // The stacks of words that a listing may lend itself: the largest is that of the deepest walk over the most inputs.
 const SMALL: usize = 512;
 
 const MIDDLE: usize = 4096;
 
-const LARGEST: usize = NESTING_WORDS * (Formula::NESTING + 1) + INPUT_WORDS * Formula::INPUTS;
+const LARGEST: usize =
+    NESTING_WORDS * (Formula::NESTING + 1) + SPREAD_WORDS + INPUT_WORDS * Formula::INPUTS;
 
-// The counters of a walk that lists, with room for the ids that a body takes in: those of its x, and one of each listed variable.
-const COUNTERS: usize = FIXED + Formula::DEPTH as usize + Formula::LISTED;
+// The counters of a walk that lists, with room for the ids that a body takes in: at most those of the listed variables of a GU, each of the deepest type.
+const COUNTERS: usize = FIXED + Formula::LISTED * (Formula::DEPTH as usize + 1);
 
 // The depth of the expression's result, and where its lines end.
 pub struct Lines {
