@@ -32,7 +32,8 @@
  *   2  HAILSPINDLE_NO_RECORD          A record is unknown, misplaced, cut off or missing, or bytes are
  *                                     left over behind the last.
  *                                     Place: the record's offset, or the length where no byte is left.
- *   3  HAILSPINDLE_OVER_LIMIT         A variable is over 63, a depth over 8, or a using list over 8.
+ *   3  HAILSPINDLE_OVER_LIMIT         A variable is over 63, a depth over 8, a using list over 8, or in
+ *                                     the two conversions a base over 1.
  *                                     Place: the record's offset; 0 in the two conversions.
  *   4  HAILSPINDLE_TOO_MANY           The 17th input, the 257th expression record, or one that stands
  *                                     in 65 others.
@@ -40,10 +41,11 @@
  *   5  HAILSPINDLE_UNBOUND            A variable is not bound, an input is declared twice, or a using
  *                                     list repeats a name or holds the loop's own.
  *                                     Place: the record's offset.
- *   6  HAILSPINDLE_WRONG_TYPE         The types don't fit, or a type would be deeper than 8.
+ *   6  HAILSPINDLE_WRONG_TYPE         The types don't fit (a guard that is no bool, a sum of bools), or a
+ *                                     type would be deeper than 8.
  *                                     Place: the record's offset.
  *   7  HAILSPINDLE_NO_VALUE_TEXT      A value text is not well formed, has a number out of range, or is
- *                                     of another depth.
+ *                                     of another type.
  *                                     Place: the VA record's offset; 0 in text to streams.
  *   8  HAILSPINDLE_NO_VALUE           Iota of a negative number, or a result that 32 bits can't hold.
  *                                     Place: the id of the stream that was to be defined.
@@ -105,13 +107,20 @@ enum {
     HAILSPINDLE_LENGTHS = 9
 };
 
+/* What the scalars of a value are. */
+enum {
+    HAILSPINDLE_INT = 0,
+    HAILSPINDLE_BOOL = 1
+};
+
 /* Where each figure stands among those of its call, and how many the call has. */
 enum {
     /* of every refused call: the place */
     HAILSPINDLE_PLACE = 0,
 
     HAILSPINDLE_CHECK_DEPTH = 0,
-    HAILSPINDLE_CHECK_FIGURES = 1,
+    HAILSPINDLE_CHECK_BASE = 1,
+    HAILSPINDLE_CHECK_FIGURES = 2,
 
     HAILSPINDLE_LIST_BYTES = 0,
     HAILSPINDLE_LIST_FIGURES = 1,
@@ -134,10 +143,10 @@ enum {
 };
 
 /*
- * Checks a formula: IN records and one expression.
+ * Checks a formula: IN and IB records and one expression.
  *
  * formula   read
- * figures   1: the depth of the formula's type, 0 for an int, d for d braces round ints
+ * figures   2: the depth of the formula's type, how many braces stand round its base; and its base
  *
  * Refused by 1 to 6.
  */
@@ -187,8 +196,9 @@ uint64_t hailspindle_find(const uint8_t *job, size_t job_length, size_t input, u
                           size_t figures_length);
 
 /*
- * Turns the text of a value of a depth to its streams: the ints, then the flags, innermost first.
- * Flags are 0 for each item and 1 for each end of a list.
+ * Turns the text of a value, of a base and a depth, to its streams: the ints or bools, then the
+ * flags, innermost first. Flags are 0 for each item and 1 for each end of a list. A bool is 0 for F
+ * and 1 for T.
  *
  * text      read
  * elements  gets the streams one after another from its start on and keeps its content behind them;
@@ -198,13 +208,13 @@ uint64_t hailspindle_find(const uint8_t *job, size_t job_length, size_t input, u
  *
  * Refused by 3, 7 or 9 (either buffer is too short); then nothing is written but the figure.
  */
-uint64_t hailspindle_text_to_streams(const uint8_t *text, size_t text_length, uint8_t depth,
-                                     int32_t *elements, size_t elements_length, size_t *lengths,
-                                     size_t lengths_length, uint64_t *figures,
+uint64_t hailspindle_text_to_streams(const uint8_t *text, size_t text_length, uint8_t base,
+                                     uint8_t depth, int32_t *elements, size_t elements_length,
+                                     size_t *lengths, size_t lengths_length, uint64_t *figures,
                                      size_t figures_length);
 
 /*
- * Turns streams back to the text of their value.
+ * Turns streams back to the text of their value. A bool that is neither 0 nor 1 is a misfit (11).
  *
  * elements  read: the streams one after another and nothing else
  * lengths   read: their depth + 1 lengths and nothing else
@@ -214,9 +224,9 @@ uint64_t hailspindle_text_to_streams(const uint8_t *text, size_t text_length, ui
  * Refused by 3, 11 or 10; then answer is untouched.
  */
 uint64_t hailspindle_streams_to_text(const int32_t *elements, size_t elements_length,
-                                     const size_t *lengths, size_t lengths_length, uint8_t depth,
-                                     uint8_t *answer, size_t answer_length, uint64_t *figures,
-                                     size_t figures_length);
+                                     const size_t *lengths, size_t lengths_length, uint8_t base,
+                                     uint8_t depth, uint8_t *answer, size_t answer_length,
+                                     uint64_t *figures, size_t figures_length);
 
 /*
  * The two functions below are of this header alone, for convenience: they are not part of the
