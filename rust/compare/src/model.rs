@@ -1,7 +1,7 @@
 //! The model's answers in the form of the library's C functions: a number, and figures written to
 //! a lent slice as far as it goes.
 
-use reference::{lent, Refusal};
+use reference::{lent, Refusal, Type};
 
 pub fn run(job: &[u8], streams: &mut [i32], answer: &mut [u8], figures: &mut [u64]) -> u64 {
     let counts = lent::run(job, streams, answer);
@@ -14,7 +14,7 @@ pub fn list(formula: &[u8], text: &mut [u8], figures: &mut [u64]) -> u64 {
 }
 
 pub fn check(formula: &[u8], figures: &mut [u64]) -> u64 {
-    reply(reference::check(formula).map(|depth| [u64::from(depth)]), figures)
+    reply(reference::check(formula).map(|checked| [u64::from(checked.depth)]), figures)
 }
 
 pub fn find(job: &[u8], input: usize, figures: &mut [u64]) -> u64 {
@@ -29,7 +29,7 @@ pub fn text_to_streams(
     lengths: &mut [usize],
     figures: &mut [u64],
 ) -> u64 {
-    let count = lent::text_to_streams(text, depth, elements, lengths);
+    let count = lent::text_to_streams(text, Type::ints(depth), elements, lengths);
     reply(count.map(|count| [count]), figures)
 }
 
@@ -40,7 +40,7 @@ pub fn streams_to_text(
     answer: &mut [u8],
     figures: &mut [u64],
 ) -> u64 {
-    let bytes = lent::streams_to_text(elements, lengths, depth, answer);
+    let bytes = lent::streams_to_text(elements, lengths, Type::ints(depth), answer);
     reply(bytes.map(|bytes| [bytes]), figures)
 }
 

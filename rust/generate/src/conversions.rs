@@ -5,6 +5,7 @@ use crate::values::{self, Numbers};
 use crate::{mangle, size_near};
 use reference::limits;
 use reference::value::Value;
+use reference::Type;
 
 /// A text to turn to streams, with what is lent for them.
 #[derive(Clone, Debug, PartialEq, Eq)]
@@ -32,7 +33,7 @@ pub fn text_case(seed: u64) -> TextCase {
         mangle::mangle_text(&mut random, &mut text);
     }
     let depth = stated_depth(&mut random, depth);
-    let needed = reference::text_to_streams(&text, depth, usize::MAX, usize::MAX)
+    let needed = reference::text_to_streams(&text, Type::ints(depth), usize::MAX, usize::MAX)
         .map_or(3, |streams| streams.elements.len());
     let elements = size_near(&mut random, needed, limits::STREAM_ELEMENTS);
     let lengths = size_near(&mut random, depth as usize + 1, limits::DEPTH as usize + 1);
@@ -43,7 +44,7 @@ pub fn streams_case(seed: u64) -> StreamsCase {
     let mut random = Random::new(seed);
     let (value, depth) = value_and_depth(&mut random);
     let text = value.write();
-    let streams = reference::representation::streams_of(&value, depth);
+    let streams = reference::representation::streams_of(&value, Type::ints(depth));
     let mut elements = streams.iter().flat_map(|stream| stream.elements()).collect();
     let mut lengths = streams.iter().map(|stream| stream.length()).collect();
     if random.one_in(2) {

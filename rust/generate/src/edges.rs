@@ -3,6 +3,7 @@
 use crate::random::Random;
 use reference::limits;
 use reference::record::Record;
+use reference::Base;
 
 type FormulaAndTexts = (Vec<Record>, Vec<Vec<u8>>);
 
@@ -24,20 +25,23 @@ pub fn job_and_formula(random: &mut Random) -> (Vec<u8>, Vec<u8>) {
     crate::job_and_formula(&records, &texts)
 }
 
+fn ints(variable: u8, depth: u8) -> Record {
+    Record::Input { variable, base: Base::Int, depth }
+}
+
 fn one(variable: u8) -> [Record; 2] {
     [Record::Let { variable }, Record::Constant { number: 1 }]
 }
 
 fn inputs(count: usize) -> FormulaAndTexts {
-    let mut records: Vec<Record> =
-        (0..count).map(|index| Record::Input { variable: index as u8, depth: 0 }).collect();
+    let mut records: Vec<Record> = (0..count).map(|index| ints(index as u8, 0)).collect();
     records.push(Record::Plus { left: 0, right: count as u8 - 1 });
     (records, vec![b"7".to_vec(); count])
 }
 
 /// Lets and their parts; an even count takes a comprehension round them.
 fn expression_records(random: &mut Random, count: usize) -> FormulaAndTexts {
-    let mut records = vec![Record::Input { variable: 0, depth: 1 }];
+    let mut records = vec![ints(0, 1)];
     if count.is_multiple_of(2) {
         records.push(Record::Each { item: 0, source: 0, using: vec![] });
     }
@@ -87,14 +91,13 @@ fn nested_comprehensions(past: usize) -> FormulaAndTexts {
 }
 
 fn input_depth(depth: usize) -> FormulaAndTexts {
-    let records =
-        vec![Record::Input { variable: 0, depth: depth as u8 }, Record::Variable { variable: 0 }];
+    let records = vec![ints(0, depth as u8), Record::Variable { variable: 0 }];
     (records, vec![[b"{".repeat(depth), b"4".to_vec(), b"}".repeat(depth)].concat()])
 }
 
 /// Iotas of items of iotas, till the type has this depth.
 fn type_depth(depth: usize) -> FormulaAndTexts {
-    let mut records = vec![Record::Input { variable: 0, depth: 1 }];
+    let mut records = vec![ints(0, 1)];
     for level in 0..depth {
         if level > 0 {
             records.extend([Record::Let { variable: 0 }, Record::Iota { variable: 1 }]);
@@ -106,12 +109,12 @@ fn type_depth(depth: usize) -> FormulaAndTexts {
 }
 
 fn highest_variable(random: &mut Random, variable: u8) -> FormulaAndTexts {
-    let list = Record::Input { variable: 1, depth: 1 };
-    let int = Record::Input { variable: 2, depth: 0 };
+    let list = ints(1, 1);
+    let int = ints(2, 0);
     let mut records = vec![list, int];
     let bound = [Record::Let { variable: 63 }, Record::Variable { variable: 2 }];
     match random.below(7) {
-        0 => records[0] = Record::Input { variable, depth: 1 },
+        0 => records[0] = ints(variable, 1),
         1 => records.push(Record::Let { variable }),
         2 => records.push(Record::Each { item: variable, source: 1, using: vec![] }),
         3 => {
@@ -141,8 +144,8 @@ fn highest_variable(random: &mut Random, variable: u8) -> FormulaAndTexts {
 
 fn using_list(count: usize) -> FormulaAndTexts {
     let using: Vec<u8> = (1..=count as u8).collect();
-    let mut records = vec![Record::Input { variable: 0, depth: 1 }];
-    records.extend(using.iter().map(|variable| Record::Input { variable: *variable, depth: 0 }));
+    let mut records = vec![ints(0, 1)];
+    records.extend(using.iter().map(|variable| ints(*variable, 0)));
     records.push(Record::Each { item: 0, source: 0, using });
     records.push(Record::Plus { left: 0, right: count as u8 });
     let mut texts = vec![b"8".to_vec(); count + 1];
@@ -153,9 +156,9 @@ fn using_list(count: usize) -> FormulaAndTexts {
 /// Room for every element of the used part, or one more than that.
 fn full_stream_buffer(random: &mut Random, past: usize) -> FormulaAndTexts {
     let half = limits::STREAM_ELEMENTS / 2;
-    let list = Record::Input { variable: 63, depth: 1 };
+    let list = ints(63, 1);
     let list_text = [b"{0".as_slice(), &b",1".repeat(half - 2), b"}"].concat();
-    let (input, expression, ints) = match random.below(3) {
+    let (input, expression, scalars) = match random.below(3) {
         0 => (Some(list), vec![Record::Variable { variable: 63 }], 1 + past),
         1 => (Some(list), vec![Record::Sum { variable: 63 }], past),
         _ => {
@@ -168,9 +171,8 @@ fn full_stream_buffer(random: &mut Random, past: usize) -> FormulaAndTexts {
             (None, expression, limits::STREAM_ELEMENTS - room + past)
         }
     };
-    let mut records: Vec<Record> =
-        (0..ints).map(|index| Record::Input { variable: index as u8, depth: 0 }).collect();
-    let mut texts = vec![b"-3".to_vec(); ints];
+    let mut records: Vec<Record> = (0..scalars).map(|index| ints(index as u8, 0)).collect();
+    let mut texts = vec![b"-3".to_vec(); scalars];
     if let Some(input) = input {
         records.push(input);
         texts.push(list_text);
@@ -181,7 +183,7 @@ fn full_stream_buffer(random: &mut Random, past: usize) -> FormulaAndTexts {
 
 /// A job and a formula of just so many bytes: a long value text, and bytes left over.
 fn job_and_formula_of_bytes(length: usize) -> (Vec<u8>, Vec<u8>) {
-    let records = [Record::Input { variable: 0, depth: 1 }, Record::Variable { variable: 0 }];
+    let records = [ints(0, 1), Record::Variable { variable: 0 }];
     let mut job = Record::write_all(&records);
     let (value_header, braces) = (4, 2);
     let inside_braces = length - job.len() - value_header - braces;

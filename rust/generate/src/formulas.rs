@@ -4,6 +4,7 @@ use crate::random::Random;
 use crate::values::{self, Numbers};
 use reference::limits;
 use reference::record::Record;
+use reference::Base;
 
 /// A formula's records, and a value text of the right depth for each input.
 pub fn formula_and_texts(random: &mut Random) -> (Vec<Record>, Vec<Vec<u8>>) {
@@ -14,7 +15,7 @@ pub fn formula_and_texts(random: &mut Random) -> (Vec<Record>, Vec<Vec<u8>>) {
     for _ in 0..count {
         let variable = variable_not_in(random, &scope);
         let depth = depth(random);
-        records.push(Record::Input { variable, depth });
+        records.push(Record::Input { variable, base: Base::Int, depth });
         texts.push(values::text(random, depth));
         scope.push((variable, depth));
     }

@@ -142,13 +142,21 @@ mod tests {
         let mut to_text = BTreeMap::new();
         for seed in 0..3_000 {
             let case = text_case(seed);
-            let outcome =
-                reference::text_to_streams(&case.text, case.depth, case.elements, case.lengths);
+            let outcome = reference::text_to_streams(
+                &case.text,
+                reference::Type::ints(case.depth),
+                case.elements,
+                case.lengths,
+            );
             *to_streams.entry(outcome.map_or_else(|refusal| refusal.number, |_| 0)).or_insert(0) +=
                 1;
             let case = streams_case(seed);
-            let outcome =
-                reference::streams_to_text(&case.elements, &case.lengths, case.depth, case.answer);
+            let outcome = reference::streams_to_text(
+                &case.elements,
+                &case.lengths,
+                reference::Type::ints(case.depth),
+                case.answer,
+            );
             *to_text.entry(outcome.map_or_else(|refusal| refusal.number, |_| 0)).or_insert(0) += 1;
         }
         assert_eq!(to_streams.keys().copied().collect::<Vec<u32>>(), [0, 3, 7, 9]);

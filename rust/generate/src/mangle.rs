@@ -3,6 +3,7 @@
 use crate::job_and_formula;
 use crate::random::Random;
 use reference::record::Record;
+use reference::Base;
 
 /// A job and a formula whose bytes are mangled, each in its own way.
 pub fn bytes_of_job_and_formula(
@@ -45,7 +46,7 @@ pub fn mangle_bytes(random: &mut Random, bytes: &mut Vec<u8>) {
     let place = random.below(bytes.len() as u64 + 1) as usize;
     let other = random.below(bytes.len() as u64 + 1) as usize;
     let (first, second) = (place.min(other), place.max(other));
-    let marks = b"INVRLTKNIOPLSMEAVA";
+    let marks = b"INIBVRLTKNKBIOPLLEEQNOSMEAGUVA";
     match random.below(8) {
         0 => bytes.truncate(place),
         1 => drop(bytes.drain(first..second.min(first + 4))),
@@ -89,7 +90,7 @@ fn mangle_value_texts(random: &mut Random, texts: &mut Vec<Vec<u8>>) {
 /// A value text with one byte or piece put wrong.
 pub fn mangle_text(random: &mut Random, text: &mut Vec<u8>) {
     let place = random.below(text.len() as u64 + 1) as usize;
-    let pieces: [&[u8]; 14] = [
+    let pieces: [&[u8]; 17] = [
         b"{",
         b"}",
         b",",
@@ -104,6 +105,9 @@ pub fn mangle_text(random: &mut Random, text: &mut Vec<u8>) {
         b"2147483648",
         b"-2147483649",
         b"\xff",
+        b"T",
+        b"F",
+        b"{F},",
     ];
     match random.below(4) {
         0 if place < text.len() => drop(text.remove(place)),
@@ -133,27 +137,35 @@ fn mangle_fields(random: &mut Random, names: &[u8], record: &mut Record) {
         _ => *random.pick(names),
     };
     match record {
-        Record::Input { variable, depth } => {
-            if random.one_in(2) {
-                *variable = other_variable(random);
-            } else {
-                *depth = random.below(11) as u8;
-            }
-        }
+        Record::Input { variable, base, depth } => match random.below(5) {
+            0 | 1 => *variable = other_variable(random),
+            2 | 3 => *depth = random.below(11) as u8,
+            _ => *base = if *base == Base::Int { Base::Bool } else { Base::Int },
+        },
         Record::Variable { variable }
         | Record::Let { variable }
         | Record::Iota { variable }
+        | Record::Not { variable }
         | Record::Sum { variable } => *variable = other_variable(random),
-        Record::Plus { left, right } => {
+        Record::Plus { left, right }
+        | Record::AtMost { left, right }
+        | Record::Equal { left, right } => {
             let side = if random.one_in(2) { left } else { right };
             *side = other_variable(random);
         }
         Record::Constant { number } => *number = random.number() as i32,
+        Record::Truth { truth } => *truth = !*truth,
         Record::Each { item, source, using } => match random.below(5) {
             0 => *item = other_variable(random),
             1 => *source = other_variable(random),
             2 => using.push(*random.pick(&[*item, *source])),
             3 => using.push(using.first().copied().unwrap_or(*source)),
+            _ => using.resize(random.below(11) as usize, 0),
+        },
+        Record::Guarded { guard, using } => match random.below(5) {
+            0 | 1 => *guard = other_variable(random),
+            2 => using.push(other_variable(random)),
+            3 => using.push(using.first().copied().unwrap_or(*guard)),
             _ => using.resize(random.below(11) as usize, 0),
         },
         Record::Value { text } => mangle_text(random, text),

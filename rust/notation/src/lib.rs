@@ -1,4 +1,5 @@
-//! Document 01's notation for formulas and jobs, to bytes and back.
+//! Document 01's notation for formulas and jobs, to bytes and back, with the records of document
+//! 02's request 1.
 //!
 //! A formula is written as its records with commas between, each a mark and its fields:
 //! `IN 5 1, IN 6 0, EA 7 5 1 6, PL 7 6`. A job is a formula and one value text for each input. An
@@ -36,7 +37,7 @@ pub fn job(notation: &str, value_texts: &[impl AsRef<str>]) -> Result<Vec<u8>, N
     let inputs = records.iter().filter(|record| matches!(record, Record::Input { .. })).count();
     if inputs != value_texts.len() {
         return Err(NotationError(format!(
-            "each IN record wants a value text: IN records {inputs}, value texts {}",
+            "each IN or IB record wants a value text: such records {inputs}, value texts {}",
             value_texts.len()
         )));
     }

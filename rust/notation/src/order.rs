@@ -1,4 +1,4 @@
-//! The order of records that makes a whole formula: IN records, then one expression.
+//! The order of records that makes a whole formula: IN and IB records, then one expression.
 
 use reference::record::Record;
 
@@ -15,7 +15,8 @@ pub fn check_order(records: &[Record]) -> Result<(), (usize, String)> {
             return Err((index, "the formula's expression has ended before it".to_string()));
         }
         if is_input(record) {
-            return Err((index, "an IN record stands before the expression only".to_string()));
+            let mark = record.mark();
+            return Err((index, format!("an {mark} record stands before the expression only")));
         }
         if let Some((_, due)) = open.last_mut() {
             *due -= 1;
@@ -34,7 +35,7 @@ pub fn check_order(records: &[Record]) -> Result<(), (usize, String)> {
         None => Ok(()),
         Some((index, due)) => {
             let missing = match (&records[*index], due) {
-                (Record::Each { .. }, _) => "its body",
+                (Record::Each { .. } | Record::Guarded { .. }, _) => "its body",
                 (_, 2) => "its two expressions",
                 _ => "the second of its two expressions",
             };

@@ -4,6 +4,7 @@ use crate::order::check_order;
 use crate::NotationError;
 use reference::limits;
 use reference::record::Record;
+use reference::Base;
 
 /// The records of a formula, in an order that makes a whole formula.
 pub fn records(notation: &str) -> Result<Vec<Record>, NotationError> {
@@ -24,27 +25,44 @@ fn record(text: &str) -> Result<Record, String> {
     let mark = words.next().ok_or("no record stands here")?;
     let mut fields = Fields { words };
     let record = match mark {
-        "IN" => Record::Input {
-            variable: fields.variable("the input's variable")?,
-            depth: fields.number("the depth", 0, i64::from(limits::DEPTH))? as u8,
-        },
+        "IN" => input(&mut fields, Base::Int)?,
+        "IB" => input(&mut fields, Base::Bool)?,
         "VR" => Record::Variable { variable: fields.variable("the variable")? },
         "LT" => Record::Let { variable: fields.variable("the variable let")? },
         "KN" => {
             let number = fields.number("the constant", i64::from(i32::MIN), i64::from(i32::MAX))?;
             Record::Constant { number: number as i32 }
         }
+        "KB" => Record::Truth { truth: fields.number("the bool", 0, 1)? == 1 },
         "IO" => Record::Iota { variable: fields.variable("the variable")? },
-        "PL" => Record::Plus {
-            left: fields.variable("the first variable")?,
-            right: fields.variable("the second variable")?,
-        },
+        "PL" => {
+            let (left, right) = two(&mut fields)?;
+            Record::Plus { left, right }
+        }
+        "LE" => {
+            let (left, right) = two(&mut fields)?;
+            Record::AtMost { left, right }
+        }
+        "EQ" => {
+            let (left, right) = two(&mut fields)?;
+            Record::Equal { left, right }
+        }
+        "NO" => Record::Not { variable: fields.variable("the variable")? },
         "SM" => Record::Sum { variable: fields.variable("the variable")? },
-        "EA" => each(&mut fields)?,
+        "EA" => Record::Each {
+            item: fields.variable("the item's variable")?,
+            source: fields.variable("the list's variable")?,
+            using: using(&mut fields)?,
+        },
+        "GU" => Record::Guarded {
+            guard: fields.variable("the guard's variable")?,
+            using: using(&mut fields)?,
+        },
         "VA" => return Err("value texts stand after the formula, not in it".to_string()),
         _ => {
             return Err(format!(
-                "unknown mark `{mark}`; the marks are IN, VR, LT, KN, IO, PL, SM and EA"
+                "unknown mark `{mark}`; the marks are IN, IB, VR, LT, KN, KB, IO, PL, LE, EQ, NO, \
+                 SM, EA and GU"
             ))
         }
     };
@@ -54,9 +72,18 @@ fn record(text: &str) -> Result<Record, String> {
     }
 }
 
-fn each(fields: &mut Fields) -> Result<Record, String> {
-    let item = fields.variable("the item's variable")?;
-    let source = fields.variable("the list's variable")?;
+fn input(fields: &mut Fields, base: Base) -> Result<Record, String> {
+    let variable = fields.variable("the input's variable")?;
+    let depth = fields.number("the depth", 0, i64::from(limits::DEPTH))? as u8;
+    Ok(Record::Input { variable, base, depth })
+}
+
+fn two(fields: &mut Fields) -> Result<(u8, u8), String> {
+    Ok((fields.variable("the first variable")?, fields.variable("the second variable")?))
+}
+
+/// A using list: its count and then its variables, which end the record.
+fn using(fields: &mut Fields) -> Result<Vec<u8>, String> {
     let count = fields.number("the using count", 0, limits::USING as i64)? as usize;
     let listed = fields.words.clone().count();
     if listed != count {
@@ -68,7 +95,7 @@ fn each(fields: &mut Fields) -> Result<Record, String> {
     for _ in 0..count {
         using.push(fields.variable("a variable of the using list")?);
     }
-    Ok(Record::Each { item, source, using })
+    Ok(using)
 }
 
 struct Fields<'a> {

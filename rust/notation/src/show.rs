@@ -22,6 +22,7 @@ pub fn show(bytes: &[u8]) -> Result<String, NotationError> {
                 wrong(&format!("unknown mark `{mark}`"))
             }
             Unreadable::Cut => wrong("the bytes end inside it"),
+            Unreadable::NoTruth => wrong("`KB` with a byte that is neither 0 nor 1"),
         })?;
         if !record.is_in_range() {
             let record = notation_of(&record);
@@ -43,8 +44,8 @@ pub fn show(bytes: &[u8]) -> Result<String, NotationError> {
     let inputs = records.iter().filter(|record| matches!(record, Record::Input { .. })).count();
     if !value_texts.is_empty() && value_texts.len() != inputs {
         let values = value_texts.len();
-        let wrong = "each IN record wants a VA record";
-        return Err(NotationError(format!("{wrong}: IN records {inputs}, VA records {values}")));
+        let wrong = "each IN or IB record wants a VA record";
+        return Err(NotationError(format!("{wrong}: such records {inputs}, VA records {values}")));
     }
     let mut shown = records.iter().map(notation_of).collect::<Vec<_>>().join(", ");
     shown.push('\n');
@@ -56,18 +57,25 @@ pub fn show(bytes: &[u8]) -> Result<String, NotationError> {
 }
 
 fn notation_of(record: &Record) -> String {
+    let with_using = |first: &[u8], using: &[u8]| {
+        let variables = |names: &[u8]| names.iter().map(|name| i64::from(*name)).collect();
+        let (first, using): (Vec<i64>, Vec<i64>) = (variables(first), variables(using));
+        [first, vec![using.len() as i64], using].concat()
+    };
     let fields: Vec<i64> = match record {
-        Record::Input { variable, depth } => vec![i64::from(*variable), i64::from(*depth)],
+        Record::Input { variable, depth, .. } => vec![i64::from(*variable), i64::from(*depth)],
         Record::Variable { variable }
         | Record::Let { variable }
         | Record::Iota { variable }
+        | Record::Not { variable }
         | Record::Sum { variable } => vec![i64::from(*variable)],
         Record::Constant { number } => vec![i64::from(*number)],
-        Record::Plus { left, right } => vec![i64::from(*left), i64::from(*right)],
-        Record::Each { item, source, using } => {
-            let first = [i64::from(*item), i64::from(*source), using.len() as i64];
-            first.into_iter().chain(using.iter().map(|variable| i64::from(*variable))).collect()
-        }
+        Record::Truth { truth } => vec![i64::from(*truth)],
+        Record::Plus { left, right }
+        | Record::AtMost { left, right }
+        | Record::Equal { left, right } => vec![i64::from(*left), i64::from(*right)],
+        Record::Each { item, source, using } => with_using(&[*item, *source], using),
+        Record::Guarded { guard, using } => with_using(&[*guard], using),
         Record::Value { .. } => unreachable!("value texts are shown on lines of their own"),
     };
     let fields = fields.iter().map(|field| format!(" {field}")).collect::<String>();

@@ -50,6 +50,19 @@ fn the_example_of_document_01_has_its_bytes() {
 }
 
 #[test]
+fn the_records_of_request_1_have_their_bytes() {
+    let notation =
+        "IB 1 2, IN 2 0, LT 3, LE 2 2, LT 4, EQ 2 2, LT 5, NO 3, LT 6, KB 1, GU 5 2 1 2, KB 0";
+    let job = notation::job(notation, &["{{T},{}}", "-4"]).unwrap();
+    let formula = b"IB\x01\x02IN\x02\x00LT\x03LE\x02\x02LT\x04EQ\x02\x02LT\x05NO\x03LT\x06KB\x01\
+        GU\x05\x02\x01\x02KB\x00";
+    assert_eq!(job, [formula.as_slice(), b"VA\x08\x00{{T},{}}VA\x02\x00-4"].concat());
+    assert_eq!(notation::show(&job).unwrap(), format!("{notation}\n{{{{T}},{{}}}}\n-4\n"));
+    let error = notation::show(b"KB\x02").unwrap_err().to_string();
+    assert_eq!(error, "record 1 (at byte 0): `KB` with a byte that is neither 0 nor 1");
+}
+
+#[test]
 fn a_byte_that_is_not_printable_is_written_in_hexadecimal() {
     let job = b"IN\x00\x00VR\x00VA\x04\x001\xff\n\\";
     assert_eq!(notation::show(job).unwrap(), "IN 0 0, VR 0\n1\\xff\\x0a\\x5c\n");
@@ -75,6 +88,14 @@ fn errors_name_the_record_and_what_is_wrong() {
         ("VR 0, VR 1", "record 2 (`VR 1`): the formula's expression has ended before it"),
         ("LT 0, IN 1 0", "record 2 (`IN 1 0`): an IN record stands before the expression only"),
         ("IN 0 0", "record 1 (`IN 0 0`): the formula ends here, without an expression"),
+        ("IB 0, VR 0", "record 1 (`IB 0`): the depth is missing"),
+        ("LT 0, IB 1 0", "record 2 (`IB 1 0`): an IB record stands before the expression only"),
+        ("KB 2", "record 1 (`KB 2`): the bool is 2; it runs from 0 to 1"),
+        ("LE 0", "record 1 (`LE 0`): the second variable is missing"),
+        ("EQ 0 64", "record 1 (`EQ 0 64`): the second variable is 64; it runs from 0 to 63"),
+        ("NO", "record 1 (`NO`): the variable is missing"),
+        ("GU 0 2 1, VR 1", "record 1 (`GU 0 2 1`): the using count is 2, and the variables"),
+        ("IB 0 0, GU 0 0", "record 2 (`GU 0 0`): the formula ends without its body"),
         ("VR 0, VA 1", "record 2 (`VA 1`): value texts stand after the formula, not in it"),
         ("VR 0,", "record 2 (``): no record stands here"),
         ("", "record 1 (``): no record stands here"),
@@ -84,5 +105,5 @@ fn errors_name_the_record_and_what_is_wrong() {
         assert!(error.starts_with(wrong), "{notation}: {error}");
     }
     let error = notation::job("IN 0 0, VR 0", &["1", "2"]).unwrap_err().to_string();
-    assert_eq!(error, "each IN record wants a value text: IN records 1, value texts 2");
+    assert_eq!(error, "each IN or IB record wants a value text: such records 1, value texts 2");
 }

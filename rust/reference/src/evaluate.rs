@@ -1,8 +1,8 @@
 //! Evaluation element by element, with work and steps by the charge table.
 //!
-//! Work is the charge of every evaluation of every record. Steps are the transducers that some
-//! evaluation reaches, each counted once: a transducer is a record and its place in that record's
-//! code. No stream is run here.
+//! Work is the charge of every evaluation of every record, and the plain charge is added up beside
+//! it. Steps are the transducers that some evaluation reaches, each counted once: a transducer is a
+//! record and its place in that record's code. No stream is run here.
 
 use crate::formula::{Expression, Form, Formula, Variable};
 use crate::limits;
@@ -13,6 +13,7 @@ use std::collections::BTreeSet;
 pub struct Evaluation {
     pub value: Value,
     pub work: u64,
+    pub plain: u64,
     pub steps: u64,
 }
 
@@ -30,17 +31,27 @@ pub fn evaluate(formula: &Formula, values: &[Value]) -> Result<Evaluation, Witho
     let mut scope: Scope = variables.zip(values.iter().cloned()).collect();
     let mut evaluator = Evaluator::default();
     let value = evaluator.value_of(&formula.expression, &mut scope)?;
-    Ok(Evaluation { value, work: evaluator.work, steps: evaluator.reached.len() as u64 })
+    let Evaluator { work, plain, reached, .. } = evaluator;
+    Ok(Evaluation { value, work, plain, steps: reached.len() as u64 })
 }
 
 /// The variables in sight; the last of a name counts.
 type Scope = Vec<(Variable, Value)>;
 
+/// A transducer of some record's code.
+#[derive(Clone, Copy, PartialEq, Eq, PartialOrd, Ord)]
+struct Place {
+    record: usize,
+    /// 0 for the record's own transducers, and i for those that pack its i-th listed variable.
+    part: usize,
+    index: usize,
+}
+
 #[derive(Default)]
 struct Evaluator {
     work: u64,
-    /// Record numbers, each with a transducer of that record's code.
-    reached: BTreeSet<(usize, usize)>,
+    plain: u64,
+    reached: BTreeSet<Place>,
     iota_items: usize,
 }
 
@@ -60,33 +71,64 @@ impl Evaluator {
                 result
             }
             Form::Constant(number) => {
-                self.charge(expression, 1, 1);
+                self.charge(expression, 1, 1, 1);
                 Ok(Value::Int(*number))
+            }
+            Form::Truth(truth) => {
+                self.charge(expression, 1, 1, 1);
+                Ok(Value::Bool(*truth))
             }
             Form::Iota(variable) => self.iota(expression, int(scope, *variable)),
             Form::Plus(left, right) => {
-                self.charge(expression, 3, 1);
+                self.charge(expression, 3, 1, 1);
                 let sum = i64::from(int(scope, *left)) + i64::from(int(scope, *right));
                 in_range(sum)
             }
+            Form::AtMost(left, right) => {
+                self.charge(expression, 3, 1, 1);
+                Ok(Value::Bool(int(scope, *left) <= int(scope, *right)))
+            }
+            Form::Equal(left, right) => {
+                self.charge(expression, 3, 1, 1);
+                Ok(Value::Bool(int(scope, *left) == int(scope, *right)))
+            }
+            Form::Not(variable) => {
+                self.charge(expression, 2, 1, 1);
+                Ok(Value::Bool(!truth(scope, *variable)))
+            }
             Form::Sum(variable) => {
                 let items = list(scope, *variable);
-                self.charge(expression, 2 * items.len() as u64 + 2, 1);
+                let count = items.len() as u64;
+                self.charge(expression, 2 * count + 2, count + 1, 1);
                 in_range(items.iter().map(|item| i64::from(number_of(item))).sum())
             }
             Form::Each { item, source, using, body } => {
                 let items = list(scope, *source);
-                let (count, listed) = (items.len() as u64, using.len());
-                let charge = 2 * count + 1 + listed as u64 * (2 * count + 2);
-                self.charge(expression, charge, 1 + listed);
+                let (count, listed) = (items.len() as u64, using.len() as u64);
+                let work = 2 * count + 1 + listed * (2 * count + 2);
+                self.charge(expression, work, (1 + listed) * (1 + count), 1 + using.len());
                 let mut results = Vec::new();
                 for element in items.iter() {
-                    let mut inner: Scope =
-                        using.iter().map(|name| (*name, look_up(scope, *name))).collect();
+                    let mut inner = only(scope, using);
                     inner.push((*item, element.clone()));
                     results.push(self.value_of(body, &mut inner)?);
                 }
                 Ok(Value::list(results))
+            }
+            Form::Guarded { guard, using, body } => {
+                let guard = truth(scope, *guard);
+                let mut inner = only(scope, using);
+                let elements: u64 = inner.iter().map(|(_, value)| value.elements()).sum();
+                let once = u64::from(guard);
+                self.charge(expression, (2 + once) + (1 + 2 * once), 2 + elements, 2);
+                for (index, (_, value)) in inner.iter().enumerate() {
+                    let first = Place { record: expression.number, part: index + 1, index: 0 };
+                    self.pack(first, value, once);
+                }
+                if !guard {
+                    return Ok(Value::list(vec![]));
+                }
+                Ok(Value::list(vec![self.value_of(body, &mut inner)?]))
             }
         }
     }
@@ -97,15 +139,34 @@ impl Evaluator {
         if self.iota_items > limits::STREAM_ELEMENTS {
             return Err(WithoutValue::TooLarge);
         }
-        let reached = if count > 0 { 4 } else { 3 };
-        self.charge(expression, 7 * count as u64 + 4, reached);
+        let (items, reached) = (count as u64, if count > 0 { 4 } else { 3 });
+        self.charge(expression, 7 * items + 4, items + 1, reached);
         Ok(Value::list((0..number).map(Value::Int).collect()))
     }
 
-    /// Counts one evaluation, which reaches the first so many transducers of the record's code.
-    fn charge(&mut self, expression: &Expression, work: u64, transducers: usize) {
+    /// Charges the packing of a value whose code starts at a place; `once` is 1 where it is kept.
+    fn pack(&mut self, first: Place, value: &Value, once: u64) {
+        match value {
+            Value::Int(_) | Value::Bool(_) => {
+                self.work += 2 + once;
+                self.reached.insert(first);
+            }
+            Value::List(items) => {
+                let count = items.len() as u64;
+                self.work += 5 * count + 5 + once * (count + 1);
+                let at = |index| Place { index: first.index + index, ..first };
+                self.reached.extend((0..3).map(at));
+                items.iter().for_each(|item| self.pack(at(3), item, once));
+            }
+        }
+    }
+
+    /// Counts one evaluation, which reaches the first so many of the record's own transducers.
+    fn charge(&mut self, expression: &Expression, work: u64, plain: u64, transducers: usize) {
         self.work += work;
-        self.reached.extend((0..transducers).map(|index| (expression.number, index)));
+        self.plain += plain;
+        let place = |index| Place { record: expression.number, part: 0, index };
+        self.reached.extend((0..transducers).map(place));
     }
 }
 
@@ -114,10 +175,15 @@ fn look_up(scope: &Scope, variable: Variable) -> Value {
     found.expect("a checked formula has no unbound variable").1.clone()
 }
 
+/// The listed variables alone, as a body sees them.
+fn only(scope: &Scope, using: &[Variable]) -> Scope {
+    using.iter().map(|name| (*name, look_up(scope, *name))).collect()
+}
+
 fn number_of(value: &Value) -> i32 {
     match value {
         Value::Int(number) => *number,
-        Value::List(_) => panic!("a checked formula has ints where it wants them"),
+        _ => panic!("a checked formula has ints where it wants them"),
     }
 }
 
@@ -125,10 +191,17 @@ fn int(scope: &Scope, variable: Variable) -> i32 {
     number_of(&look_up(scope, variable))
 }
 
+fn truth(scope: &Scope, variable: Variable) -> bool {
+    match look_up(scope, variable) {
+        Value::Bool(truth) => truth,
+        _ => panic!("a checked formula has bools where it wants them"),
+    }
+}
+
 fn list(scope: &Scope, variable: Variable) -> std::rc::Rc<[Value]> {
     match look_up(scope, variable) {
         Value::List(items) => items,
-        Value::Int(_) => panic!("a checked formula has lists where it wants them"),
+        _ => panic!("a checked formula has lists where it wants them"),
     }
 }
 

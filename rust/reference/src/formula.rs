@@ -3,6 +3,7 @@
 use crate::limits;
 use crate::record::Record;
 use crate::refusal::Refusal;
+use crate::value_type::Type;
 use std::ops::Range;
 
 /// A name in a formula. Stream ids are another numbering.
@@ -13,7 +14,7 @@ pub struct Variable(pub u8);
 pub struct Input {
     pub offset: usize,
     pub variable: Variable,
-    pub depth: u8,
+    pub value_type: Type,
 }
 
 /// An expression, with its record's offset and its number among the expression records.
@@ -27,12 +28,31 @@ pub struct Expression {
 #[derive(Clone, Debug)]
 pub enum Form {
     Variable(Variable),
-    Let { variable: Variable, bound: Box<Expression>, rest: Box<Expression> },
+    Let {
+        variable: Variable,
+        bound: Box<Expression>,
+        rest: Box<Expression>,
+    },
     Constant(i32),
+    Truth(bool),
     Iota(Variable),
     Plus(Variable, Variable),
+    AtMost(Variable, Variable),
+    Equal(Variable, Variable),
+    Not(Variable),
     Sum(Variable),
-    Each { item: Variable, source: Variable, using: Vec<Variable>, body: Box<Expression> },
+    Each {
+        item: Variable,
+        source: Variable,
+        using: Vec<Variable>,
+        body: Box<Expression>,
+    },
+    /// A list of the body's value alone where the guard is true, else an empty one.
+    Guarded {
+        guard: Variable,
+        using: Vec<Variable>,
+        body: Box<Expression>,
+    },
 }
 
 #[derive(Clone, Debug)]
@@ -96,13 +116,15 @@ impl Reader<'_> {
 
     fn formula(&mut self) -> Result<Formula, Refusal> {
         let mut inputs = Vec::new();
-        while self.bytes[self.position..].starts_with(b"IN") {
+        while [b"IN", b"IB"].iter().any(|mark| self.bytes[self.position..].starts_with(*mark)) {
             let offset = self.position;
-            let Record::Input { variable, depth } = self.record(|_| true)? else { unreachable!() };
+            let record = self.record(|_| true)?;
+            let Record::Input { variable, base, depth } = record else { unreachable!() };
             if inputs.len() == limits::INPUTS {
                 return Err(Refusal::new(4, offset));
             }
-            inputs.push(Input { offset, variable: Variable(variable), depth });
+            let value_type = Type { base, depth };
+            inputs.push(Input { offset, variable: Variable(variable), value_type });
         }
         let expression = self.expression(0)?;
         Ok(Formula { inputs, expression })
@@ -118,21 +140,29 @@ impl Reader<'_> {
         }
         self.expression_records += 1;
         let mut part = || self.expression(records_round_it + 1).map(Box::new);
+        let listed = |using: Vec<u8>| using.into_iter().map(Variable).collect();
         let form = match record {
             Record::Variable { variable } => Form::Variable(Variable(variable)),
             Record::Let { variable } => {
                 Form::Let { variable: Variable(variable), bound: part()?, rest: part()? }
             }
             Record::Constant { number } => Form::Constant(number),
+            Record::Truth { truth } => Form::Truth(truth),
             Record::Iota { variable } => Form::Iota(Variable(variable)),
             Record::Plus { left, right } => Form::Plus(Variable(left), Variable(right)),
+            Record::AtMost { left, right } => Form::AtMost(Variable(left), Variable(right)),
+            Record::Equal { left, right } => Form::Equal(Variable(left), Variable(right)),
+            Record::Not { variable } => Form::Not(Variable(variable)),
             Record::Sum { variable } => Form::Sum(Variable(variable)),
             Record::Each { item, source, using } => Form::Each {
                 item: Variable(item),
                 source: Variable(source),
-                using: using.into_iter().map(Variable).collect(),
+                using: listed(using),
                 body: part()?,
             },
+            Record::Guarded { guard, using } => {
+                Form::Guarded { guard: Variable(guard), using: listed(using), body: part()? }
+            }
             Record::Input { .. } | Record::Value { .. } => unreachable!(),
         };
         Ok(Expression { offset, number, form })

@@ -2,6 +2,7 @@
 
 use crate::limits;
 use crate::refusal::Refusal;
+use crate::value_type::Type;
 
 /// What an accepted run reports beside what it writes.
 #[derive(Clone, Copy, Debug, PartialEq, Eq)]
@@ -42,11 +43,11 @@ pub fn list(formula: &[u8], text: &mut [u8]) -> Result<u64, Refusal> {
 /// Writes the elements and the lengths, and answers how many elements there are.
 pub fn text_to_streams(
     text: &[u8],
-    depth: u8,
+    value_type: Type,
     elements: &mut [i32],
     lengths: &mut [usize],
 ) -> Result<u64, Refusal> {
-    let streams = crate::text_to_streams(text, depth, elements.len(), lengths.len())?;
+    let streams = crate::text_to_streams(text, value_type, elements.len(), lengths.len())?;
     write(&streams.elements, elements);
     write(&streams.lengths, lengths);
     Ok(streams.elements.len() as u64)
@@ -56,10 +57,10 @@ pub fn text_to_streams(
 pub fn streams_to_text(
     elements: &[i32],
     lengths: &[usize],
-    depth: u8,
+    value_type: Type,
     answer: &mut [u8],
 ) -> Result<u64, Refusal> {
-    let text = crate::streams_to_text(elements, lengths, depth, answer.len())?;
+    let text = crate::streams_to_text(elements, lengths, value_type, answer.len())?;
     write(&text, answer);
     Ok(text.len() as u64)
 }

@@ -1,4 +1,4 @@
-//! An independent model of document 01, over nested vectors.
+//! An independent model of document 01 and of document 02's request 1, over nested vectors.
 //!
 //! It is written from the documents alone, to be compared with the verified library. A formula is
 //! read (`formula`), checked (`types`) and evaluated element by element (`evaluate`), which gives
@@ -11,19 +11,23 @@
 
 #![forbid(unsafe_code)]
 
+mod block;
 pub mod evaluate;
 pub mod formula;
 pub mod lent;
 pub mod limits;
 pub mod listing;
 pub mod machine;
+mod pack;
 pub mod record;
 pub mod refusal;
 pub mod representation;
 pub mod run;
+pub mod stream;
 pub mod translate;
 pub mod types;
 pub mod value;
+pub mod value_type;
 pub mod vectors;
 
 pub use formula::find;
@@ -32,3 +36,4 @@ pub use refusal::Refusal;
 pub use representation::{streams_to_text, text_to_streams};
 pub use run::run;
 pub use types::check;
+pub use value_type::{Base, Type};

@@ -41,12 +41,20 @@ fn write_code(code: &Code, text: &mut String) {
 fn name(transducer: &Transducer) -> String {
     match transducer {
         Transducer::Const(number) => format!("Const_{number}"),
+        Transducer::ConstTruth(true) => "Const_T".to_string(),
+        Transducer::ConstTruth(false) => "Const_F".to_string(),
         Transducer::ToFlags(_) => "ToFlags".to_string(),
         Transducer::Usum(_) => "Usum".to_string(),
         Transducer::MapTwoPlus(..) => "MapTwo+".to_string(),
+        Transducer::MapTwoAtMost(..) => "MapTwo<=".to_string(),
+        Transducer::MapTwoEqual(..) => "MapTwo==".to_string(),
+        Transducer::MapOneNot(_) => "MapOneNot".to_string(),
         Transducer::ScanPlus { .. } => "ScanPlus_0".to_string(),
         Transducer::SumPlus { .. } => "SumPlus".to_string(),
         Transducer::Distr { .. } => "Distr".to_string(),
+        Transducer::BoolToUnary(_) => "B2u".to_string(),
+        Transducer::Pack { .. } => "Pack".to_string(),
+        Transducer::UnaryPack { .. } => "UPack".to_string(),
     }
 }
 

@@ -2,6 +2,7 @@
 
 use crate::evaluate::{evaluate, WithoutValue};
 use crate::formula::read_job;
+use crate::limits;
 use crate::machine;
 use crate::refusal::Refusal;
 use crate::representation::{streams_of, value_of};
@@ -24,14 +25,14 @@ pub struct Answer {
 /// Value, work and steps come from the evaluation, room, streams, 8 and 9 from the machine.
 pub fn run(job: &[u8], elements_lent: usize, answer_lent: usize) -> Result<Answer, Refusal> {
     let read = read_job(job)?;
-    let depth = check_formula(&read.formula)?;
+    let answer_type = check_formula(&read.formula)?;
     let mut values = Vec::new();
     for (input, part) in read.formula.inputs.iter().zip(&read.values) {
-        let value = Value::read(&job[part.text.clone()], input.depth);
+        let value = Value::read(&job[part.text.clone()], input.value_type);
         values.push(value.ok_or(Refusal::new(7, part.offset))?);
     }
     let inputs = read.formula.inputs.iter().zip(&values);
-    let input_streams = inputs.map(|(input, value)| streams_of(value, input.depth)).collect();
+    let input_streams = inputs.map(|(input, value)| streams_of(value, input.value_type)).collect();
     let program = translate(&read.formula);
     let finished = match machine::run(&program, input_streams, elements_lent) {
         Ok(finished) => finished,
@@ -48,9 +49,12 @@ pub fn run(job: &[u8], elements_lent: usize, answer_lent: usize) -> Result<Answe
         Err(WithoutValue::NoValue) => panic!("the streams ran through where there is no value"),
         Err(WithoutValue::TooLarge) => panic!("the streams held what is too large for them"),
     };
-    debug_assert_eq!(program.result.len(), depth as usize + 1, "the tree is of the type's depth");
-    debug_assert_eq!(Ok(&evaluation.value), value_of(&finished.tree(&program.result)).as_ref());
+    let result_streams = finished.tree(&program.result);
+    debug_assert_eq!(result_streams.len(), answer_type.depth as usize + 1, "of the type's depth");
+    let represented = value_of(&result_streams, answer_type.base);
+    debug_assert_eq!(Ok(&evaluation.value), represented.as_ref());
     debug_assert_eq!(evaluation.work, finished.work);
+    debug_assert!(evaluation.work <= limits::FACTOR * evaluation.plain, "demand 3's bound");
     debug_assert_eq!(evaluation.steps, finished.steps);
     let text = evaluation.value.write();
     if text.len() > answer_lent {

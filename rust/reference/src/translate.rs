@@ -11,12 +11,36 @@ pub struct StreamId(pub usize);
 #[derive(Clone, Copy, Debug)]
 pub enum Transducer {
     Const(i32),
+    ConstTruth(bool),
     ToFlags(StreamId),
     Usum(StreamId),
     MapTwoPlus(StreamId, StreamId),
-    ScanPlus { flags: StreamId, data: StreamId },
-    SumPlus { flags: StreamId, data: StreamId },
-    Distr { flags: StreamId, data: StreamId },
+    MapTwoAtMost(StreamId, StreamId),
+    MapTwoEqual(StreamId, StreamId),
+    MapOneNot(StreamId),
+    ScanPlus {
+        flags: StreamId,
+        data: StreamId,
+    },
+    SumPlus {
+        flags: StreamId,
+        data: StreamId,
+    },
+    Distr {
+        flags: StreamId,
+        data: StreamId,
+    },
+    /// `B2u`: a list of one item for T, an empty one for F.
+    BoolToUnary(StreamId),
+    Pack {
+        bools: StreamId,
+        data: StreamId,
+    },
+    /// `UPack`: keeps whole segments of flags.
+    UnaryPack {
+        bools: StreamId,
+        flags: StreamId,
+    },
 }
 
 #[derive(Clone, Debug)]
@@ -41,7 +65,7 @@ pub fn translate(formula: &Formula) -> Program {
     let mut scope = Scope::new();
     let mut inputs = Vec::new();
     for input in &formula.inputs {
-        let tree: Tree = (0..=input.depth).map(|_| translator.fresh()).collect();
+        let tree: Tree = (0..=input.value_type.depth).map(|_| translator.fresh()).collect();
         scope.insert(input.variable, tree.clone());
         inputs.push(tree);
     }
@@ -53,12 +77,19 @@ impl Transducer {
     /// The streams it consumes, as listed.
     pub fn operands(&self) -> Vec<StreamId> {
         match *self {
-            Transducer::Const(_) => vec![],
-            Transducer::ToFlags(stream) | Transducer::Usum(stream) => vec![stream],
-            Transducer::MapTwoPlus(left, right) => vec![left, right],
+            Transducer::Const(_) | Transducer::ConstTruth(_) => vec![],
+            Transducer::ToFlags(stream)
+            | Transducer::Usum(stream)
+            | Transducer::MapOneNot(stream)
+            | Transducer::BoolToUnary(stream) => vec![stream],
+            Transducer::MapTwoPlus(left, right)
+            | Transducer::MapTwoAtMost(left, right)
+            | Transducer::MapTwoEqual(left, right) => vec![left, right],
             Transducer::ScanPlus { flags, data }
             | Transducer::SumPlus { flags, data }
             | Transducer::Distr { flags, data } => vec![flags, data],
+            Transducer::Pack { bools, data } => vec![bools, data],
+            Transducer::UnaryPack { bools, flags } => vec![bools, flags],
         }
     }
 }
@@ -97,7 +128,7 @@ fn free_ids(code: &Code) -> BTreeSet<StreamId> {
 
 type Scope = BTreeMap<Variable, Tree>;
 
-struct Translator {
+pub(crate) struct Translator {
     next: usize,
 }
 
@@ -108,7 +139,7 @@ impl Translator {
         id
     }
 
-    fn define(&mut self, code: &mut Code, transducer: Transducer) -> StreamId {
+    pub(crate) fn define(&mut self, code: &mut Code, transducer: Transducer) -> StreamId {
         let id = self.fresh();
         code.push(Instruction::Define { id, transducer });
         id
@@ -128,21 +159,55 @@ impl Translator {
                 code.extend(rest_code);
                 rest_tree
             }
-            Form::Constant(number) => vec![self.define(&mut code, Transducer::Const(*number))],
+            Form::Constant(number) => self.one(&mut code, Transducer::Const(*number)),
+            Form::Truth(truth) => self.one(&mut code, Transducer::ConstTruth(*truth)),
             Form::Iota(variable) => self.iota(&mut code, data(variable)),
             Form::Plus(left, right) => {
-                vec![self.define(&mut code, Transducer::MapTwoPlus(data(left), data(right)))]
+                self.one(&mut code, Transducer::MapTwoPlus(data(left), data(right)))
             }
+            Form::AtMost(left, right) => {
+                self.one(&mut code, Transducer::MapTwoAtMost(data(left), data(right)))
+            }
+            Form::Equal(left, right) => {
+                self.one(&mut code, Transducer::MapTwoEqual(data(left), data(right)))
+            }
+            Form::Not(variable) => self.one(&mut code, Transducer::MapOneNot(data(variable))),
             Form::Sum(variable) => {
-                let transducer =
-                    Transducer::SumPlus { flags: scope[variable][1], data: data(variable) };
-                vec![self.define(&mut code, transducer)]
+                let flags = scope[variable][1];
+                self.one(&mut code, Transducer::SumPlus { flags, data: data(variable) })
             }
             Form::Each { item, source, using, body } => {
                 self.each(&mut code, scope, *item, *source, using, body)
             }
+            Form::Guarded { guard, using, body } => {
+                self.guarded(&mut code, scope, data(guard), using, body)
+            }
         };
         (code, tree)
+    }
+
+    /// The tree of a form whose code is one transducer.
+    fn one(&mut self, code: &mut Code, transducer: Transducer) -> Tree {
+        vec![self.define(code, transducer)]
+    }
+
+    /// Puts a body under a control. Its inputs are the body's free ids and its outputs the ids of
+    /// the body's tree that the body defines.
+    pub(crate) fn with_control(
+        &mut self,
+        code: &mut Code,
+        control: StreamId,
+        body: Code,
+        tree: &Tree,
+    ) {
+        let defined = defined_ids(&body);
+        let in_tree: BTreeSet<StreamId> = tree.iter().copied().collect();
+        code.push(Instruction::WithCtrl {
+            outputs: in_tree.intersection(&defined).copied().collect(),
+            control,
+            inputs: free_ids(&body).into_iter().collect(),
+            body,
+        });
     }
 
     fn iota(&mut self, code: &mut Code, count: StreamId) -> Tree {
@@ -150,7 +215,7 @@ impl Translator {
         let control = self.define(code, Transducer::Usum(flags));
         let mut body = Code::new();
         let ones = self.define(&mut body, Transducer::Const(1));
-        code.push(Instruction::WithCtrl { outputs: vec![ones], control, inputs: vec![], body });
+        self.with_control(code, control, body, &vec![ones]);
         let data = self.define(code, Transducer::ScanPlus { flags, data: ones });
         vec![data, flags]
     }
@@ -175,14 +240,27 @@ impl Translator {
         }
         inner.insert(item, item_tree);
         let (body, mut tree) = self.expression(body, &inner);
-        let defined = defined_ids(&body);
-        let in_tree: BTreeSet<StreamId> = tree.iter().copied().collect();
-        code.push(Instruction::WithCtrl {
-            outputs: in_tree.intersection(&defined).copied().collect(),
-            control,
-            inputs: free_ids(&body).into_iter().collect(),
-            body,
-        });
+        self.with_control(code, control, body, &tree);
+        tree.push(flags);
+        tree
+    }
+
+    fn guarded(
+        &mut self,
+        code: &mut Code,
+        scope: &Scope,
+        guard: StreamId,
+        using: &[Variable],
+        body: &Expression,
+    ) -> Tree {
+        let flags = self.define(code, Transducer::BoolToUnary(guard));
+        let control = self.define(code, Transducer::Usum(flags));
+        let mut inner = Scope::new();
+        for variable in using {
+            inner.insert(*variable, self.pack(code, guard, &scope[variable]));
+        }
+        let (body, mut tree) = self.expression(body, &inner);
+        self.with_control(code, control, body, &tree);
         tree.push(flags);
         tree
     }

@@ -1,66 +1,88 @@
-//! Checking a formula: refusals 5 and 6, and the depth of its type.
+//! Checking a formula: refusals 5 and 6, and its type.
 
 use crate::formula::{read_formula, Expression, Form, Formula, Variable};
 use crate::limits;
 use crate::refusal::Refusal;
+use crate::value_type::Type;
 use std::collections::BTreeMap;
 
-/// What each variable in sight is: 0 for an int, else the number of braces round it.
-type Scope = BTreeMap<Variable, u8>;
+/// The type of each variable in sight.
+type Scope = BTreeMap<Variable, Type>;
 
-/// The depth of the formula's type, or one of 1 to 6.
-pub fn check(formula: &[u8]) -> Result<u8, Refusal> {
+/// The formula's type, or one of 1 to 6.
+pub fn check(formula: &[u8]) -> Result<Type, Refusal> {
     check_formula(&read_formula(formula)?)
 }
 
-pub fn check_formula(formula: &Formula) -> Result<u8, Refusal> {
+pub fn check_formula(formula: &Formula) -> Result<Type, Refusal> {
     let mut scope = Scope::new();
     for input in &formula.inputs {
-        if scope.insert(input.variable, input.depth).is_some() {
+        if scope.insert(input.variable, input.value_type).is_some() {
             return Err(Refusal::new(5, input.offset));
         }
     }
-    depth_of(&formula.expression, &scope)
+    type_of(&formula.expression, &scope)
 }
 
-fn depth_of(expression: &Expression, scope: &Scope) -> Result<u8, Refusal> {
+fn type_of(expression: &Expression, scope: &Scope) -> Result<Type, Refusal> {
     let unbound = Refusal::new(5, expression.offset);
     let wrong_type = Refusal::new(6, expression.offset);
     let bound = |variable: &Variable| scope.get(variable).copied().ok_or(unbound);
     let demand = |holds: bool, refusal: Refusal| if holds { Ok(()) } else { Err(refusal) };
+    let listed = |using: &[Variable]| {
+        let mut inner = Scope::new();
+        for variable in using {
+            let repeated = inner.insert(*variable, bound(variable)?).is_some();
+            demand(!repeated, unbound)?;
+        }
+        Ok(inner)
+    };
+    let list_of = |body: &Expression, inner: &Scope| {
+        let item = type_of(body, inner)?;
+        demand(item.depth < limits::DEPTH, wrong_type)?;
+        Ok(item.list())
+    };
     match &expression.form {
         Form::Variable(variable) => bound(variable),
         Form::Let { variable, bound, rest } => {
             let mut inner = scope.clone();
-            inner.insert(*variable, depth_of(bound, scope)?);
-            depth_of(rest, &inner)
+            inner.insert(*variable, type_of(bound, scope)?);
+            type_of(rest, &inner)
         }
-        Form::Constant(_) => Ok(0),
+        Form::Constant(_) => Ok(Type::INT),
+        Form::Truth(_) => Ok(Type::BOOL),
         Form::Iota(variable) => {
-            demand(bound(variable)? == 0, wrong_type)?;
-            Ok(1)
+            demand(bound(variable)? == Type::INT, wrong_type)?;
+            Ok(Type::ints(1))
         }
-        Form::Plus(left, right) => {
-            let depths = (bound(left)?, bound(right)?);
-            demand(depths == (0, 0), wrong_type)?;
-            Ok(0)
+        Form::Plus(left, right) | Form::AtMost(left, right) | Form::Equal(left, right) => {
+            let types = (bound(left)?, bound(right)?);
+            demand(types == (Type::INT, Type::INT), wrong_type)?;
+            let plus = matches!(expression.form, Form::Plus(..));
+            Ok(if plus { Type::INT } else { Type::BOOL })
+        }
+        Form::Not(variable) => {
+            demand(bound(variable)? == Type::BOOL, wrong_type)?;
+            Ok(Type::BOOL)
         }
         Form::Sum(variable) => {
-            demand(bound(variable)? == 1, wrong_type)?;
-            Ok(0)
+            demand(bound(variable)? == Type::ints(1), wrong_type)?;
+            Ok(Type::INT)
         }
         Form::Each { item, source, using, body } => {
-            let source_depth = bound(source)?;
-            let mut inner = Scope::new();
-            for variable in using {
-                let repeated = inner.insert(*variable, bound(variable)?).is_some();
-                demand(!repeated && variable != item, unbound)?;
-            }
-            demand(source_depth > 0 && inner.values().all(|depth| *depth == 0), wrong_type)?;
-            inner.insert(*item, source_depth - 1);
-            let depth = depth_of(body, &inner)? + 1;
-            demand(depth <= limits::DEPTH, wrong_type)?;
-            Ok(depth)
+            let source_type = bound(source)?;
+            let mut inner = listed(using)?;
+            demand(!using.contains(item), unbound)?;
+            let scalars = inner.values().all(|listed| listed.is_scalar());
+            demand(!source_type.is_scalar() && scalars, wrong_type)?;
+            inner.insert(*item, source_type.item());
+            list_of(body, &inner)
+        }
+        Form::Guarded { guard, using, body } => {
+            let guard_type = bound(guard)?;
+            let inner = listed(using)?;
+            demand(guard_type == Type::BOOL, wrong_type)?;
+            list_of(body, &inner)
         }
     }
 }

@@ -4,11 +4,11 @@
 //! the answers here do not.
 
 use crate::limits;
-use crate::{check, find, list, run, streams_to_text, text_to_streams, Refusal};
+use crate::{check, find, list, run, streams_to_text, text_to_streams, Base, Refusal, Type};
 use std::fmt::Display;
 use std::str::FromStr;
 
-/// The kinds of lines, each by its first word.
+/// The kinds of lines that the program `vectors` counts, each by its first word.
 pub const KINDS: [&str; 7] = ["run", "streams", "list", "check", "find", "t2s", "s2t"];
 
 /// The output of a line with this input. Of a refused run's streams, which no line names, it is
@@ -30,7 +30,8 @@ pub fn answer(input: &str) -> String {
         }
         "list" => lines(list(&bytes(fields[1]), number(fields[0]))),
         "check" => match check(&bytes(fields[0])) {
-            Ok(depth) => format!("depth {depth}"),
+            Ok(Type { base: Base::Int, depth }) => format!("depth {depth}"),
+            Ok(Type { base: Base::Bool, depth }) => format!("bool depth {depth}"),
             Err(refusal) => refusal.to_string(),
         },
         "find" => {
@@ -39,24 +40,35 @@ pub fn answer(input: &str) -> String {
             let part = if part.is_empty() { 0..0 } else { part };
             format!("{} {}", part.start, part.end)
         }
-        "t2s" => {
+        "t2s" | "t2sb" => {
+            let value_type = Type { base: base_of(kind), depth: number(fields[0]) };
             let (elements, lengths) = (number(fields[1]), number(fields[2]));
-            let streams = text_to_streams(&bytes(fields[3]), number(fields[0]), elements, lengths);
+            let streams = text_to_streams(&bytes(fields[3]), value_type, elements, lengths);
             lines(streams.map(|streams| {
                 let (lengths, elements) = (joined(&streams.lengths), joined(&streams.elements));
                 format!("lengths {lengths}\nelements {elements}\n")
             }))
         }
-        "s2t" => {
+        "s2t" | "s2tb" => {
             let parts: Vec<&str> = rest.split(';').collect();
             let sizes: Vec<usize> = numbers(parts[0]);
             let (lengths, elements) = (numbers::<usize>(parts[1]), numbers::<i32>(parts[2]));
-            let text = streams_to_text(&elements, &lengths, sizes[0] as u8, sizes[1]);
+            let value_type = Type { base: base_of(kind), depth: sizes[0] as u8 };
+            let text = streams_to_text(&elements, &lengths, value_type, sizes[1]);
             lines(text.map(|text| {
                 format!("text {}\n", String::from_utf8(text).expect("value text is ASCII"))
             }))
         }
         _ => panic!("unknown kind {kind}"),
+    }
+}
+
+/// The base of a conversion's line: a `b` behind its kind says that it is of bools.
+fn base_of(kind: &str) -> Base {
+    if kind.ends_with('b') {
+        Base::Bool
+    } else {
+        Base::Int
     }
 }
 

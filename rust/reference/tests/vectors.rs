@@ -1,23 +1,34 @@
-//! Runs every line of the vectors (crates/vectors/stdin, which the program `vectors` reads too) against the model.
+//! Runs every line of the vectors against the model: those that the program `vectors` reads too
+//! (crates/vectors/stdin), and those of document 02's request 1.
 //!
 //! Each line is `INPUT | OUTPUT`, as the program's sources say.
 
 use reference::lent;
 use reference::vectors::{answer, bytes};
 
-const VECTORS: &str = include_str!("../../../crates/vectors/stdin");
+const OF_THE_PROGRAM: &str = include_str!("../../../crates/vectors/stdin");
+const OF_REQUEST_1: &str = include_str!("request-1.txt");
 
 #[test]
-fn every_line_of_the_base_vectors_holds() {
+fn every_line_of_the_program_holds() {
+    holds(OF_THE_PROGRAM, 826);
+}
+
+#[test]
+fn every_line_of_request_1_holds() {
+    holds(OF_REQUEST_1, 823);
+}
+
+fn holds(vectors: &str, count: usize) {
     let mut failures = Vec::new();
-    for (index, line) in VECTORS.lines().enumerate() {
+    for (index, line) in vectors.lines().enumerate() {
         let (input, output) = line.split_once(" | ").unwrap_or_else(|| panic!("line {line}"));
         let answer = answer(input).replace('\n', "\\n");
         if answer != output {
             failures.push(format!("line {}: {line}\n  model: {answer}", index + 1));
         }
     }
-    assert_eq!(VECTORS.lines().count(), 826);
+    assert_eq!(vectors.lines().count(), count);
     assert!(failures.is_empty(), "{} lines fail:\n{}", failures.len(), failures.join("\n"));
 }
 
