@@ -76,14 +76,26 @@ fn compare_conversions(seed: u64) -> Result<(), String> {
         &lent,
         |side| {
             let (elements, lengths) = (&mut side.numbers, &mut side.lengths);
-            model::text_to_streams(&case.text, case.depth, elements, lengths, &mut side.figures)
+            model::text_to_streams(
+                &case.text,
+                case.value_type.depth,
+                elements,
+                lengths,
+                &mut side.figures,
+            )
         },
         |side| {
             let (elements, lengths) = (&mut side.numbers, &mut side.lengths);
-            other::text_to_streams(&case.text, case.depth, elements, lengths, &mut side.figures)
+            other::text_to_streams(
+                &case.text,
+                case.value_type.depth,
+                elements,
+                lengths,
+                &mut side.figures,
+            )
         },
         || {
-            let (depth, elements, lengths) = (case.depth, case.elements, case.lengths);
+            let (depth, elements, lengths) = (case.value_type.depth, case.elements, case.lengths);
             let sizes = format!("{elements} elements and {lengths} lengths lent");
             format!("text to streams, depth {depth}, {sizes}, text {}", hexadecimal(&case.text))
         },
@@ -97,14 +109,14 @@ fn compare_conversions(seed: u64) -> Result<(), String> {
         &lent,
         |side| {
             let (answer, figures) = (&mut side.bytes, &mut side.figures);
-            model::streams_to_text(elements, lengths, case.depth, answer, figures)
+            model::streams_to_text(elements, lengths, case.value_type.depth, answer, figures)
         },
         |side| {
             let (answer, figures) = (&mut side.bytes, &mut side.figures);
-            other::streams_to_text(elements, lengths, case.depth, answer, figures)
+            other::streams_to_text(elements, lengths, case.value_type.depth, answer, figures)
         },
         || {
-            let (depth, answer) = (case.depth, case.answer);
+            let (depth, answer) = (case.value_type.depth, case.answer);
             let sizes = format!("{answer} answer bytes lent");
             format!("streams to text, depth {depth}, {sizes}, {lengths:?}, {elements:?}")
         },

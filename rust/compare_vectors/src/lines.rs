@@ -57,12 +57,15 @@ pub fn lines(seed: u64) -> Vec<Line> {
     lines.push(Line::new(format!("find {} {job}", case.input)));
 
     let case = text_case(seed);
-    let sizes = format!("{} {} {}", case.depth, case.elements, case.lengths);
+    let sizes = format!("{} {} {}", case.value_type.depth, case.elements, case.lengths);
     lines.push(Line::new(format!("t2s {sizes} {}", hexadecimal(&case.text))));
 
     let case = streams_case(seed);
     let (lengths, elements) = (joined(&case.lengths), joined(&case.elements));
-    lines.push(Line::new(format!("s2t {} {} ; {lengths} ; {elements}", case.depth, case.answer)));
+    lines.push(Line::new(format!(
+        "s2t {} {} ; {lengths} ; {elements}",
+        case.value_type.depth, case.answer
+    )));
     lines
 }
 

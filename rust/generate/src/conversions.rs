@@ -1,17 +1,17 @@
 //! Random cases for the two conversions by themselves: texts and streams, whole and mangled.
 
 use crate::random::Random;
-use crate::values::{self, Numbers};
+use crate::values::{self, Scalars};
 use crate::{mangle, size_near};
 use reference::limits;
 use reference::value::Value;
-use reference::Type;
+use reference::{Base, Type};
 
 /// A text to turn to streams, with what is lent for them.
 #[derive(Clone, Debug, PartialEq, Eq)]
 pub struct TextCase {
     pub text: Vec<u8>,
-    pub depth: u8,
+    pub value_type: Type,
     pub elements: usize,
     pub lengths: usize,
 }
@@ -21,30 +21,30 @@ pub struct TextCase {
 pub struct StreamsCase {
     pub elements: Vec<i32>,
     pub lengths: Vec<usize>,
-    pub depth: u8,
+    pub value_type: Type,
     pub answer: usize,
 }
 
 pub fn text_case(seed: u64) -> TextCase {
     let mut random = Random::new(seed);
-    let (value, depth) = value_and_depth(&mut random);
+    let (value, of) = value_and_type(&mut random);
     let mut text = value.write();
     if random.one_in(3) {
         mangle::mangle_text(&mut random, &mut text);
     }
-    let depth = stated_depth(&mut random, depth);
-    let needed = reference::text_to_streams(&text, Type::ints(depth), usize::MAX, usize::MAX)
+    let value_type = stated_type(&mut random, of);
+    let needed = reference::text_to_streams(&text, value_type, usize::MAX, usize::MAX)
         .map_or(3, |streams| streams.elements.len());
     let elements = size_near(&mut random, needed, limits::STREAM_ELEMENTS);
-    let lengths = size_near(&mut random, depth as usize + 1, limits::DEPTH as usize + 1);
-    TextCase { text, depth, elements, lengths }
+    let lengths = size_near(&mut random, value_type.depth as usize + 1, limits::DEPTH as usize + 1);
+    TextCase { text, value_type, elements, lengths }
 }
 
 pub fn streams_case(seed: u64) -> StreamsCase {
     let mut random = Random::new(seed);
-    let (value, depth) = value_and_depth(&mut random);
+    let (value, of) = value_and_type(&mut random);
     let text = value.write();
-    let streams = reference::representation::streams_of(&value, Type::ints(depth));
+    let streams = reference::representation::streams_of(&value, of);
     let mut elements = streams.iter().flat_map(|stream| stream.elements()).collect();
     let mut lengths = streams.iter().map(|stream| stream.length()).collect();
     if random.one_in(2) {
@@ -52,29 +52,36 @@ pub fn streams_case(seed: u64) -> StreamsCase {
             mangle_streams(&mut random, &mut elements, &mut lengths);
         }
     }
-    let depth = stated_depth(&mut random, depth);
+    let value_type = stated_type(&mut random, of);
     let answer = size_near(&mut random, text.len(), 99);
-    StreamsCase { elements, lengths, depth, answer }
+    StreamsCase { elements, lengths, value_type, answer }
 }
 
-fn value_and_depth(random: &mut Random) -> (Value, u8) {
+fn value_and_type(random: &mut Random) -> (Value, Type) {
+    let base = if random.one_in(3) { Base::Bool } else { Base::Int };
     let half = limits::STREAM_ELEMENTS as i32 / 2;
     if random.one_in(150) {
         let items = half - 1 + random.below(2) as i32;
-        return (Value::list((0..items).map(Value::Int).collect()), 1);
+        let item = |number: i32| match base {
+            Base::Int => Value::Int(number),
+            Base::Bool => Value::Bool(number % 3 == 0),
+        };
+        return (Value::list((0..items).map(item).collect()), Type { base, depth: 1 });
     }
     let depth = random.below(u64::from(limits::DEPTH) + 1) as u8;
-    let numbers = Numbers::choose(random);
-    (values::value(random, depth, numbers), depth)
+    let scalars = Scalars::choose(random, base);
+    (values::value(random, depth, scalars), Type { base, depth })
 }
 
-/// The value's own depth mostly, now and then another or one out of range.
-fn stated_depth(random: &mut Random, depth: u8) -> u8 {
+/// The value's own type mostly, now and then of another base or depth or of one out of range.
+fn stated_type(random: &mut Random, of: Type) -> Type {
+    let Type { base, depth } = of;
     match random.below(25) {
-        0 => limits::DEPTH + 1,
-        1 => random.number() as u8,
-        2 => random.below(u64::from(limits::DEPTH) + 1) as u8,
-        _ => depth,
+        0 => Type { base, depth: limits::DEPTH + 1 },
+        1 => Type { base, depth: random.number() as u8 },
+        2 => Type { base, depth: random.below(u64::from(limits::DEPTH) + 1) as u8 },
+        3 => Type { base: if base == Base::Int { Base::Bool } else { Base::Int }, depth },
+        _ => of,
     }
 }
 

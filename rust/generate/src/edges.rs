@@ -1,17 +1,18 @@
 //! Jobs at a limit of document 01 and one past it.
 
+use crate::guards;
 use crate::random::Random;
 use reference::limits;
 use reference::record::Record;
 use reference::Base;
 
-type FormulaAndTexts = (Vec<Record>, Vec<Vec<u8>>);
+pub type FormulaAndTexts = (Vec<Record>, Vec<Vec<u8>>);
 
 /// A job at or one past some limit, and its formula.
 pub fn job_and_formula(random: &mut Random) -> (Vec<u8>, Vec<u8>) {
     let past = random.below(2) as usize;
-    let (records, texts) = match random.below(10) {
-        0 => inputs(limits::INPUTS + past),
+    let (records, texts) = match random.below(16) {
+        0 => inputs(random, limits::INPUTS + past),
         1 => expression_records(random, limits::EXPRESSION_RECORDS + past),
         2 => nested_lets(random, limits::NESTING + past),
         3 => nested_comprehensions(past),
@@ -20,33 +21,58 @@ pub fn job_and_formula(random: &mut Random) -> (Vec<u8>, Vec<u8>) {
         6 => highest_variable(random, limits::VARIABLE + past as u8),
         7 => using_list(limits::USING + past),
         8 => full_stream_buffer(random, past),
+        9 => guards::using_list(random, limits::USING + past),
+        10 => guards::nested(random, limits::NESTING + past),
+        11 => guards::type_depth(random, limits::DEPTH as usize + past),
+        12 => guards::highest_variable(random, limits::VARIABLE + past as u8),
+        13 => guards::full_stream_buffer(random, past),
+        14 if random.one_in(2) => guards::deep_values(random, limits::NESTING + past),
+        14 => {
+            let nesting = 1 + random.below(9) as usize;
+            guards::deep_values(random, nesting)
+        }
         _ => return job_and_formula_of_bytes(limits::BYTES + past),
     };
     crate::job_and_formula(&records, &texts)
 }
 
-fn ints(variable: u8, depth: u8) -> Record {
+pub fn ints(variable: u8, depth: u8) -> Record {
     Record::Input { variable, base: Base::Int, depth }
+}
+
+pub fn bools(variable: u8, depth: u8) -> Record {
+    Record::Input { variable, base: Base::Bool, depth }
 }
 
 fn one(variable: u8) -> [Record; 2] {
     [Record::Let { variable }, Record::Constant { number: 1 }]
 }
 
-fn inputs(count: usize) -> FormulaAndTexts {
+/// Ints, now and then with bools between the first and the last.
+fn inputs(random: &mut Random, count: usize) -> FormulaAndTexts {
     let mut records: Vec<Record> = (0..count).map(|index| ints(index as u8, 0)).collect();
+    let mut texts = vec![b"7".to_vec(); count];
+    if random.one_in(2) {
+        for index in (1..count - 1).filter(|_| random.one_in(2)) {
+            records[index] = bools(index as u8, 0);
+            texts[index] = b"T".to_vec();
+        }
+    }
     records.push(Record::Plus { left: 0, right: count as u8 - 1 });
-    (records, vec![b"7".to_vec(); count])
+    (records, texts)
 }
 
-/// Lets and their parts; an even count takes a comprehension round them.
+/// Lets and their parts; an even count takes a comprehension or a guard round them.
 fn expression_records(random: &mut Random, count: usize) -> FormulaAndTexts {
-    let mut records = vec![ints(0, 1)];
+    let mut records = vec![ints(0, 1), bools(1, 0)];
     if count.is_multiple_of(2) {
-        records.push(Record::Each { item: 0, source: 0, using: vec![] });
+        records.push(match random.one_in(2) {
+            true => Record::Each { item: 0, source: 0, using: vec![] },
+            false => Record::Guarded { guard: 1, using: vec![] },
+        });
     }
     lets(random, (count - 1) / 2, &mut records);
-    (records, vec![b"{5,6}".to_vec()])
+    (records, vec![b"{5,6}".to_vec(), b"T".to_vec()])
 }
 
 /// So many lets, with one part more than lets.
@@ -216,11 +242,22 @@ mod tests {
     }
 
     #[test]
+    fn the_listing_of_deep_values_passes_what_the_program_lends() {
+        let bytes = |nesting: usize| {
+            let (records, _) = guards::deep_values(&mut Random::new(3), nesting);
+            reference::list(&Record::write_all(&records), limits::ANSWER_BYTES)
+        };
+        assert!(bytes(2).is_ok());
+        let refusal = bytes(limits::NESTING).expect_err("a listing that is too long");
+        assert!(refusal.number == 10 && refusal.place > 300_000, "{refusal}");
+    }
+
+    #[test]
     fn a_limit_is_met_and_one_past_it_is_refused() {
         for seed in 0..40 {
             let mut random = Random::new(seed);
             let random = &mut random;
-            assert_eq!([16, 17].map(|count| outcome_of(inputs(count))), [0, 4]);
+            assert_eq!([16, 17].map(|count| outcome_of(inputs(random, count))), [0, 4]);
             let records = [256, 257].map(|count| outcome_of(expression_records(random, count)));
             assert_eq!(records, [0, 4]);
             assert_eq!([64, 65].map(|count| outcome_of(nested_lets(random, count))), [0, 4]);
@@ -230,6 +267,18 @@ mod tests {
             assert_eq!([63, 64].map(|name| outcome_of(highest_variable(random, name))), [0, 3]);
             assert_eq!([8, 9].map(|count| outcome_of(using_list(count))), [0, 3]);
             assert_eq!([0, 1].map(|past| outcome_of(full_stream_buffer(random, past))), [0, 9]);
+            let listed = [8, 9].map(|count| outcome_of(guards::using_list(random, count)));
+            assert_eq!(listed, [0, 3]);
+            let nested = [64, 65].map(|count| outcome_of(guards::nested(random, count)));
+            assert_eq!(nested, [0, 4]);
+            let depths = [8, 9].map(|depth| outcome_of(guards::type_depth(random, depth)));
+            assert_eq!(depths, [0, 6]);
+            let names = [63, 64].map(|name| outcome_of(guards::highest_variable(random, name)));
+            assert_eq!(names, [0, 3]);
+            let full = [0, 1].map(|past| outcome_of(guards::full_stream_buffer(random, past)));
+            assert_eq!(full, [0, 9]);
+            let deep = [64, 65].map(|count| outcome_of(guards::deep_values(random, count)));
+            assert_eq!(deep, [0, 4]);
         }
         let lengths = [65_536, 65_537];
         assert_eq!(lengths.map(|length| outcome(&job_and_formula_of_bytes(length).0)), [0, 1]);

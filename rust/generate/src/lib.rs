@@ -1,14 +1,16 @@
 //! Random jobs and conversions from a seed, to be run by the model and by the library.
 //!
-//! The same seed always makes the same case. Most formulas are well typed; some are mangled, and
-//! some stand at a limit or one past it. Buffers are lent in the sizes that matter: what the case
+//! The same seed always makes the same case. Most formulas are well typed, a quarter of them with
+//! guards in the shapes that matter; some are mangled, and some stand at a limit or one past it. Buffers are lent in the sizes that matter: what the case
 //! needs, one less, one more, none.
 
 #![forbid(unsafe_code)]
 
+mod conditions;
 mod conversions;
 mod edges;
 mod formulas;
+mod guards;
 mod mangle;
 mod random;
 mod values;
@@ -33,7 +35,15 @@ pub struct JobCase {
 
 /// The records of a random well-typed formula, and a value text for each input.
 pub fn well_typed(seed: u64) -> (Vec<Record>, Vec<Vec<u8>>) {
-    formulas::formula_and_texts(&mut Random::new(seed))
+    formula_and_texts(&mut Random::new(seed))
+}
+
+fn formula_and_texts(random: &mut Random) -> (Vec<Record>, Vec<Vec<u8>>) {
+    if random.one_in(4) {
+        conditions::formula_and_texts(random)
+    } else {
+        formulas::formula_and_texts(random)
+    }
 }
 
 /// The job case of a seed.
@@ -42,7 +52,7 @@ pub fn job_case(seed: u64) -> JobCase {
     let (job, formula) = if random.one_in(40) {
         edges::job_and_formula(&mut random)
     } else {
-        let (records, texts) = formulas::formula_and_texts(&mut random);
+        let (records, texts) = formula_and_texts(&mut random);
         match random.below(10) {
             0 => mangle::bytes_of_job_and_formula(&mut random, &records, &texts),
             1 | 2 => mangle::records_of_job_and_formula(&mut random, records, texts),
@@ -81,7 +91,7 @@ fn run_sizes(random: &mut Random, job: &[u8]) -> (usize, usize) {
 }
 
 fn listing_size(random: &mut Random, formula: &[u8]) -> usize {
-    let needed = reference::list(formula, limits::ANSWER_BYTES).map_or(0, |text| text.len());
+    let needed = reference::list(formula, usize::MAX).map_or(0, |text| text.len());
     size_near(random, needed, limits::ANSWER_BYTES)
 }
 
@@ -144,7 +154,7 @@ mod tests {
             let case = text_case(seed);
             let outcome = reference::text_to_streams(
                 &case.text,
-                reference::Type::ints(case.depth),
+                case.value_type,
                 case.elements,
                 case.lengths,
             );
@@ -154,7 +164,7 @@ mod tests {
             let outcome = reference::streams_to_text(
                 &case.elements,
                 &case.lengths,
-                reference::Type::ints(case.depth),
+                case.value_type,
                 case.answer,
             );
             *to_text.entry(outcome.map_or_else(|refusal| refusal.number, |_| 0)).or_insert(0) += 1;

@@ -1,53 +1,89 @@
-//! Random values: empty lists everywhere, small numbers, and numbers at the range's ends.
+//! Random values: empty lists everywhere, small numbers, numbers at the range's ends, and bools.
 
 use crate::random::Random;
 use reference::value::Value;
+use reference::{Base, Type};
 
-/// How the numbers of a value are chosen.
+/// How the ints or the bools of a value are chosen.
 #[derive(Clone, Copy)]
-pub enum Numbers {
+pub enum Scalars {
     /// From 0 to 5 mostly, so that an iota of them is small; now and then negative.
     Small,
     /// At the range's ends, with small ones between, so that totals come near the ends.
     NearTheEnds,
     Any,
+    /// So many of four are true.
+    Bools {
+        true_of_four: u64,
+    },
 }
 
-impl Numbers {
-    pub fn choose(random: &mut Random) -> Numbers {
+impl Scalars {
+    pub fn choose(random: &mut Random, base: Base) -> Scalars {
+        if base == Base::Bool {
+            let true_of_four = *random.pick(&[0, 1, 2, 2, 3, 3, 4]);
+            return Scalars::Bools { true_of_four };
+        }
         match random.below(12) {
-            0 => Numbers::NearTheEnds,
-            1 => Numbers::Any,
-            _ => Numbers::Small,
+            0 => Scalars::NearTheEnds,
+            1 => Scalars::Any,
+            _ => Scalars::Small,
         }
     }
 
-    pub fn one(self, random: &mut Random) -> i32 {
+    fn one(self, random: &mut Random) -> Value {
+        match self {
+            Scalars::Bools { true_of_four } => Value::Bool(random.below(4) < true_of_four),
+            _ => Value::Int(self.number(random)),
+        }
+    }
+
+    /// An int; of bools, 0 or 1.
+    pub fn number(self, random: &mut Random) -> i32 {
         let small = random.below(6) as i32;
         match self {
-            Numbers::Small if random.one_in(60) => -1 - small,
-            Numbers::Small if random.one_in(40) => 6 + 5 * small,
-            Numbers::Small => small,
-            Numbers::NearTheEnds => {
+            Scalars::Small if random.one_in(60) => -1 - small,
+            Scalars::Small if random.one_in(40) => 6 + 5 * small,
+            Scalars::Small => small,
+            Scalars::NearTheEnds => {
                 let choices = [i32::MAX, i32::MIN, i32::MAX - small, i32::MIN + small, 1, -1, 0];
                 *random.pick(&choices)
             }
-            Numbers::Any => (random.number() >> random.below(64)) as i32,
+            Scalars::Any => (random.number() >> random.below(64)) as i32,
+            Scalars::Bools { .. } => small % 2,
         }
     }
 }
 
-/// A value of this depth whose numbers are so chosen.
-pub fn value(random: &mut Random, depth: u8, numbers: Numbers) -> Value {
+/// A value of this depth whose scalars are so chosen.
+pub fn value(random: &mut Random, depth: u8, scalars: Scalars) -> Value {
+    if random.one_in(4) {
+        return full_value(random, depth, scalars);
+    }
+    sparse_value(random, depth, scalars)
+}
+
+/// Empty lists are at every level, and deep values seldom reach their last.
+fn sparse_value(random: &mut Random, depth: u8, scalars: Scalars) -> Value {
     if depth == 0 {
-        return Value::Int(numbers.one(random));
+        return scalars.one(random);
     }
     let longest = if depth > 3 { 3 } else { 6 };
     let length = if random.one_in(4) { 0 } else { random.below(longest) };
-    Value::list((0..length).map(|_| value(random, depth - 1, numbers)).collect())
+    Value::list((0..length).map(|_| sparse_value(random, depth - 1, scalars)).collect())
 }
 
-pub fn text(random: &mut Random, depth: u8) -> Vec<u8> {
-    let numbers = Numbers::choose(random);
-    value(random, depth, numbers).write()
+/// Most lists hold something, so that deep values reach their last level.
+fn full_value(random: &mut Random, depth: u8, scalars: Scalars) -> Value {
+    if depth == 0 {
+        return scalars.one(random);
+    }
+    let longest = if depth > 3 { 2 } else { 4 };
+    let length = if random.one_in(12) { 0 } else { 1 + random.below(longest) };
+    Value::list((0..length).map(|_| full_value(random, depth - 1, scalars)).collect())
+}
+
+pub fn text(random: &mut Random, value_type: Type) -> Vec<u8> {
+    let scalars = Scalars::choose(random, value_type.base);
+    value(random, value_type.depth, scalars).write()
 }
