@@ -1,9 +1,9 @@
-//! The program `bench`: the leads' biggest sheet by a plain Rust walk and by the verified library.
+//! The program `bench`: the leads' biggest sheets by a plain Rust walk and by the verified library.
 //!
-//! The sheet is a plus and a sum for each stop of each area. Both sides take the same value texts
-//! and give the same answer text; then each is timed without the text. It measures, it judges
-//! nothing: the times are of one run on one computer. `--calls` only makes calls and `--job` only
-//! writes a job, for programs that count instructions.
+//! A sheet is a plus on each reading, or a guard on each, and a sum for each stop of each area. Both
+//! sides take the same value texts and give the same answer text; then each is timed without the
+//! text. It measures, it judges nothing: the times are of one run on one computer. `--calls` only
+//! makes calls and `--job` only writes a job, for programs that count instructions.
 
 #![forbid(unsafe_code)]
 
@@ -13,7 +13,7 @@ mod sheet;
 mod timing;
 mod walk;
 
-use sheet::Sheet;
+use sheet::{Kind, Sheet};
 use std::io::Write;
 use std::process::ExitCode;
 use std::time::Duration;
@@ -27,15 +27,18 @@ pub struct Times {
 fn main() -> ExitCode {
     let arguments: Vec<String> = std::env::args().skip(1).collect();
     match arguments.iter().map(String::as_str).collect::<Vec<_>>()[..] {
-        [] => report(&Sheet::new(1_000)),
-        ["--large"] => [1_000, 10_000].iter().for_each(|readings| report(&Sheet::new(*readings))),
-        ["--calls", side, count] if calls(side, count).is_some() => {}
-        ["--job", side] if write_job(side).is_some() => {}
+        [] => report_all(1_000),
+        ["--large"] => [1_000, 10_000].into_iter().for_each(report_all),
+        ["--calls", side, count, ref sheet @ ..] if calls(side, count, sheet).is_some() => {}
+        ["--job", side, ref sheet @ ..] if write_job(side, sheet).is_some() => {}
         _ => {
-            eprintln!("usage: bench [--large]            with --large also 10,000 readings");
-            eprintln!("       bench --calls SIDE COUNT   SIDE: walk, walk-alone, library, inputs");
-            eprintln!("                                  or answer");
-            eprintln!("       bench --job SIDE           the job's bytes; SIDE: library or inputs");
+            eprintln!(
+                "usage: bench [--large]                    with --large also 10,000 readings"
+            );
+            eprintln!("       bench --calls SIDE COUNT [SHEET]   SIDE: walk, walk-alone, library,");
+            eprintln!("                                          inputs or answer");
+            eprintln!("       bench --job SIDE [SHEET]           the job; SIDE: library or inputs");
+            eprintln!("SHEET: corrected (where left out) or guarded");
             return ExitCode::from(2);
         }
     }
@@ -43,9 +46,9 @@ fn main() -> ExitCode {
 }
 
 /// Makes so many calls of one side on 1,000 readings.
-fn calls(side: &str, count: &str) -> Option<()> {
+fn calls(side: &str, count: &str, sheet: &[&str]) -> Option<()> {
     let count: usize = count.parse().ok()?;
-    let sheet = Sheet::new(1_000);
+    let sheet = Sheet::new(Kind::named(sheet)?, 1_000);
     let mut call: Box<dyn FnMut()> = match side {
         "walk" => walk::call(&sheet),
         "walk-alone" => walk::call_alone(&sheet),
@@ -59,8 +62,8 @@ fn calls(side: &str, count: &str) -> Option<()> {
 }
 
 /// Writes the job of a side that is run, on 1,000 readings.
-fn write_job(side: &str) -> Option<()> {
-    let sheet = Sheet::new(1_000);
+fn write_job(side: &str, sheet: &[&str]) -> Option<()> {
+    let sheet = Sheet::new(Kind::named(sheet)?, 1_000);
     let job = match side {
         "library" => sheet.job,
         "inputs" => sheet.inputs_only,
@@ -69,9 +72,14 @@ fn write_job(side: &str) -> Option<()> {
     std::io::stdout().write_all(&job).ok()
 }
 
+fn report_all(readings: usize) {
+    Kind::ALL.into_iter().for_each(|kind| report(&Sheet::new(kind, readings)));
+}
+
 fn report(sheet: &Sheet) {
-    println!("{} readings, ten to a stop, ten stops to an area", sheet.readings);
-    let answer = walk::from_text_to_text(&sheet.areas_text, &sheet.correction_text);
+    println!("{}", sheet.kind.title());
+    println!("  {} readings, ten to a stop, ten stops to an area", sheet.readings);
+    let answer = walk::from_text_to_text(sheet);
     println!("  {} bytes of value text in, {} out", sheet.areas_text.len(), answer.len());
     if let Ok(run) = reference::run(&sheet.job, 16_384, 65_536) {
         assert_eq!(answer.as_bytes(), run.text, "the walk's answer is the model's");

@@ -1,6 +1,6 @@
 //! The plain Rust side: nested vectors, walked as one would write it without the library.
 
-use crate::sheet::Sheet;
+use crate::sheet::{Kind, Sheet};
 use crate::timing::time_of;
 use crate::Times;
 use std::fmt::Write;
@@ -9,37 +9,61 @@ use std::hint::black_box;
 type Areas = Vec<Vec<Vec<i32>>>;
 
 pub fn times(sheet: &Sheet) -> Times {
-    let (areas_text, correction_text) = (&sheet.areas_text, &sheet.correction_text);
-    let (areas, correction) = (read_areas(areas_text), read_int(correction_text));
+    let (areas, number) = (read_areas(&sheet.areas_text), read_int(&sheet.number_text));
+    let totals = totals_of(sheet.kind);
     Times {
-        with_text: time_of(|| from_text_to_text(black_box(areas_text), black_box(correction_text))),
-        alone: time_of(|| totals(black_box(&areas), black_box(correction))),
+        with_text: time_of(|| from_text_to_text(black_box(sheet))),
+        alone: time_of(|| totals(black_box(&areas), black_box(number))),
     }
 }
 
 /// A call from text to text, and one without the text.
 pub fn call(sheet: &Sheet) -> Box<dyn FnMut() + '_> {
     Box::new(|| {
-        black_box(from_text_to_text(&sheet.areas_text, &sheet.correction_text));
+        black_box(from_text_to_text(sheet));
     })
 }
 
 pub fn call_alone(sheet: &Sheet) -> Box<dyn FnMut() + '_> {
-    let (areas, correction) = (read_areas(&sheet.areas_text), read_int(&sheet.correction_text));
+    let (areas, number) = (read_areas(&sheet.areas_text), read_int(&sheet.number_text));
+    let totals = totals_of(sheet.kind);
     Box::new(move || {
-        black_box(totals(black_box(&areas), black_box(correction)));
+        black_box(totals(black_box(&areas), black_box(number)));
     })
 }
 
-pub fn from_text_to_text(areas: &str, correction: &str) -> String {
-    write_totals(&totals(&read_areas(areas), read_int(correction)))
+pub fn from_text_to_text(sheet: &Sheet) -> String {
+    let (areas, number) = (read_areas(&sheet.areas_text), read_int(&sheet.number_text));
+    write_totals(&totals_of(sheet.kind)(&areas, number))
 }
 
-/// The total of each stop of each area, with the correction added to each reading.
-fn totals(areas: &Areas, correction: i32) -> Vec<Vec<i32>> {
+/// The total of each stop of each area, from the areas and the sheet's number.
+fn totals_of(kind: Kind) -> fn(&Areas, i32) -> Vec<Vec<i32>> {
+    match kind {
+        Kind::Corrected => corrected_totals,
+        Kind::Guarded => guarded_totals,
+    }
+}
+
+/// The correction is added to each reading.
+fn corrected_totals(areas: &Areas, correction: i32) -> Vec<Vec<i32>> {
     let total = |stop: &Vec<i32>| {
         let corrected: Vec<i32> = stop.iter().map(|reading| plus(*reading, correction)).collect();
         let total: i64 = corrected.iter().map(|reading| i64::from(*reading)).sum();
+        i32::try_from(total).expect("a total in range")
+    };
+    areas.iter().map(|area| area.iter().map(total).collect()).collect()
+}
+
+/// Only readings that reach the limit count.
+fn guarded_totals(areas: &Areas, limit: i32) -> Vec<Vec<i32>> {
+    let total = |stop: &Vec<i32>| {
+        let mut total: i64 = 0;
+        for reading in stop {
+            if limit <= *reading {
+                total += i64::from(*reading);
+            }
+        }
         i32::try_from(total).expect("a total in range")
     };
     areas.iter().map(|area| area.iter().map(total).collect()).collect()
@@ -105,4 +129,18 @@ fn write_totals(areas: &[Vec<i32>]) -> String {
     }
     text.push('}');
     text
+}
+
+#[cfg(test)]
+mod tests {
+    use super::*;
+
+    #[test]
+    fn the_walk_answers_as_the_model_does() {
+        for kind in Kind::ALL {
+            let sheet = Sheet::new(kind, 1_000);
+            let run = reference::run(&sheet.job, 16_384, 65_536).expect("a sheet with an answer");
+            assert_eq!(from_text_to_text(&sheet).as_bytes(), run.text, "{}", kind.title());
+        }
+    }
 }
