@@ -226,7 +226,7 @@ mod tests {
             [kept_items, kept_lists, failing_body, values_packed_whole, bools_guard_themselves];
         for (index, shape) in shapes.into_iter().enumerate() {
             let mut outcomes = BTreeMap::new();
-            for seed in 0..1_500 {
+            for seed in 0..500 {
                 let (records, texts) = shape(&mut Random::new(seed));
                 let (job, formula) = crate::job_and_formula(&records, &texts);
                 assert_eq!(reference::check(&formula).err(), None, "shape {index}, {records:?}");
@@ -235,7 +235,7 @@ mod tests {
                 *outcomes.entry(outcome).or_insert(0) += 1;
             }
             assert!(outcomes.keys().all(|number| [0, 8, 9].contains(number)), "{outcomes:?}");
-            assert!(outcomes[&0] > 1_000, "shape {index}: {outcomes:?}");
+            assert!(outcomes[&0] > 350, "shape {index}: {outcomes:?}");
         }
     }
 }

@@ -78,7 +78,10 @@ fn expression_records(random: &mut Random, count: usize) -> FormulaAndTexts {
 /// So many lets, with one part more than lets.
 fn lets(random: &mut Random, count: usize, records: &mut Vec<Record>) {
     if count == 0 {
-        records.push(Record::Constant { number: random.below(9) as i32 });
+        records.push(match random.below(9) {
+            0 => Record::Truth { truth: false },
+            number => Record::Constant { number: number as i32 },
+        });
         return;
     }
     let first = random.below(count as u64) as usize;
@@ -277,6 +280,9 @@ mod tests {
             assert_eq!(names, [0, 3]);
             let full = [0, 1].map(|past| outcome_of(guards::full_stream_buffer(random, past)));
             assert_eq!(full, [0, 9]);
+        }
+        for seed in 0..8 {
+            let random = &mut Random::new(seed);
             let deep = [64, 65].map(|count| outcome_of(guards::deep_values(random, count)));
             assert_eq!(deep, [0, 4]);
         }

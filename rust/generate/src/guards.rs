@@ -94,6 +94,10 @@ fn nest(random: &mut Random, count: usize, guard: &[Record], records: &mut Vec<R
             left -= 1;
         }
     }
+    if count > limits::NESTING && random.one_in(2) {
+        // Another kind of record is the first past the limit.
+        records.push(Record::Guarded { guard: GUARD, using: vec![] });
+    }
     records.push(Record::Constant { number: 3 });
     records.extend((0..closed_lets).map(|_| Record::Constant { number: 4 }));
 }

@@ -47,7 +47,7 @@ pub fn mangle_bytes(random: &mut Random, bytes: &mut Vec<u8>) {
     let other = random.below(bytes.len() as u64 + 1) as usize;
     let (first, second) = (place.min(other), place.max(other));
     let marks = b"INIBVRLTKNKBIOPLLEEQNOSMEAGUVA";
-    match random.below(8) {
+    match random.below(9) {
         0 => bytes.truncate(place),
         1 => drop(bytes.drain(first..second.min(first + 4))),
         2 if place < bytes.len() => bytes[place] = random.number() as u8,
@@ -59,6 +59,10 @@ pub fn mangle_bytes(random: &mut Random, bytes: &mut Vec<u8>) {
             let copy = bytes[first..second.min(first + 6)].to_vec();
             bytes.splice(second..second, copy);
         }
+        8 => match bytes.windows(3).rposition(|three| three.starts_with(b"KB")) {
+            Some(start) => bytes[start + 2] = *random.pick(&[0, 1, 2, b'T', b'F', 255]),
+            None => bytes.push(random.number() as u8),
+        },
         _ => bytes.push(random.number() as u8),
     }
 }
