@@ -1,7 +1,7 @@
 //! One block of a transducer: what it takes from each operand and puts to its output.
 
+use crate::code::Transducer;
 use crate::stream::Stream;
-use crate::translate::Transducer;
 
 /// Runs one block; none where it has no value.
 pub fn block(transducer: &Transducer, cursors: &mut [Cursor], output: &mut Output) -> Option<()> {

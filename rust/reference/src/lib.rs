@@ -2,9 +2,9 @@
 //!
 //! It is written from the documents alone, to be compared with the verified library. A formula is
 //! read (`formula`), checked (`types`) and evaluated element by element (`evaluate`), which gives
-//! the value, work and steps by the charge table. Apart from that it is translated (`translate`)
-//! and run on streams (`machine`), which gives the stream buffer's content, the room, and refusals
-//! 8 and 9 with their ids. Where a run goes through, each side checks the other.
+//! the value, work and steps by the charge table. Apart from that it is translated (`translate`) to
+//! stream code (`code`) and run on streams (`machine`), which gives the stream buffer's content, the
+//! room, and refusals 8 and 9 with their ids. Where a run goes through, each side checks the other.
 //!
 //! The functions here answer over sizes lent; those of `lent` answer over the lent buffers
 //! themselves and show what each holds afterwards; `vectors` answers the lines of the vectors.
@@ -12,6 +12,7 @@
 #![forbid(unsafe_code)]
 
 mod block;
+pub mod code;
 pub mod evaluate;
 pub mod formula;
 pub mod lent;

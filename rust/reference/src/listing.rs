@@ -1,8 +1,9 @@
 //! The listing of a formula's stream code, as the listing program prints it.
 
+use crate::code::{Code, Instruction, StreamId, Transducer};
 use crate::formula::read_formula;
 use crate::refusal::Refusal;
-use crate::translate::{translate, Code, Instruction, StreamId, Transducer};
+use crate::translate::translate;
 use crate::types::check_formula;
 
 /// The listing of a formula, where so many bytes are lent for it.

@@ -4,10 +4,10 @@
 //! from each operand, and at the end every operand must be used up. Streams are kept till the end.
 
 use crate::block::{block, Cursor, Output};
+use crate::code::{Code, Instruction, Program, StreamId, Transducer, Tree};
 use crate::limits;
 use crate::refusal::Refusal;
 use crate::stream::Stream;
-use crate::translate::{Code, Instruction, Program, StreamId, Transducer, Tree};
 use std::collections::BTreeMap;
 
 /// What a run that went through leaves.

@@ -4,7 +4,8 @@
 //! segments, and the rest under a control of one unit for each item, by the bools spread over the
 //! items.
 
-use crate::translate::{Code, StreamId, Transducer, Translator, Tree};
+use crate::code::{Code, StreamId, Transducer, Tree};
+use crate::translate::Translator;
 
 impl Translator {
     pub(crate) fn pack(&mut self, code: &mut Code, bools: StreamId, tree: &[StreamId]) -> Tree {
