@@ -3,8 +3,11 @@
 use crate::sheet::Sheet;
 use crate::timing::time_of;
 use crate::Times;
-use hailspindle::Refusal;
+use hailspindle::{Refusal, Type};
 use std::hint::black_box;
+
+/// The type of a sheet's answer, a total for each stop of each area.
+const ANSWER: Type = Type::ints(2);
 
 /// What the library is lent, and the answer's streams, to be turned to text by themselves.
 struct Buffers {
@@ -48,7 +51,7 @@ impl Buffers {
         let (mut answer, mut lengths) = (vec![0; 65_536], vec![0; 3]);
         let counts = hailspindle::run(&sheet.job, &mut streams, &mut text)?;
         let answer_text = &text[..counts.text_bytes];
-        let count = hailspindle::text_to_streams(answer_text, 2, &mut answer, &mut lengths)?;
+        let count = hailspindle::text_to_streams(answer_text, ANSWER, &mut answer, &mut lengths)?;
         answer.truncate(count);
         Ok(Buffers { streams, text, answer, lengths })
     }
@@ -60,6 +63,6 @@ impl Buffers {
 
     fn write(&mut self) {
         let (answer, lengths) = (black_box(&self.answer), &self.lengths);
-        black_box(hailspindle::streams_to_text(answer, lengths, 2, &mut self.text).is_ok());
+        black_box(hailspindle::streams_to_text(answer, lengths, ANSWER, &mut self.text).is_ok());
     }
 }

@@ -70,38 +70,29 @@ pub fn compare_case(seed: u64) -> Result<u64, String> {
 
 fn compare_conversions(seed: u64) -> Result<(), String> {
     let case = text_case(seed);
+    let (base, depth) = (model::base_number(case.value_type.base), case.value_type.depth);
+    let text = &case.text;
     let lent = Lent { numbers: case.elements, bytes: 0, lengths: case.lengths };
     compare(
         seed,
         &lent,
         |side| {
             let (elements, lengths) = (&mut side.numbers, &mut side.lengths);
-            model::text_to_streams(
-                &case.text,
-                case.value_type.depth,
-                elements,
-                lengths,
-                &mut side.figures,
-            )
+            model::text_to_streams(text, base, depth, elements, lengths, &mut side.figures)
         },
         |side| {
             let (elements, lengths) = (&mut side.numbers, &mut side.lengths);
-            other::text_to_streams(
-                &case.text,
-                case.value_type.depth,
-                elements,
-                lengths,
-                &mut side.figures,
-            )
+            other::text_to_streams(text, base, depth, elements, lengths, &mut side.figures)
         },
         || {
-            let (depth, elements, lengths) = (case.value_type.depth, case.elements, case.lengths);
-            let sizes = format!("{elements} elements and {lengths} lengths lent");
-            format!("text to streams, depth {depth}, {sizes}, text {}", hexadecimal(&case.text))
+            let sizes = format!("{} elements and {} lengths lent", case.elements, case.lengths);
+            let text = hexadecimal(text);
+            format!("text to streams, base {base}, depth {depth}, {sizes}, text {text}")
         },
     )?;
 
     let case = streams_case(seed);
+    let (base, depth) = (model::base_number(case.value_type.base), case.value_type.depth);
     let lent = Lent { numbers: 0, bytes: case.answer, lengths: 0 };
     let (elements, lengths) = (&case.elements, &case.lengths);
     compare(
@@ -109,16 +100,16 @@ fn compare_conversions(seed: u64) -> Result<(), String> {
         &lent,
         |side| {
             let (answer, figures) = (&mut side.bytes, &mut side.figures);
-            model::streams_to_text(elements, lengths, case.value_type.depth, answer, figures)
+            model::streams_to_text(elements, lengths, base, depth, answer, figures)
         },
         |side| {
             let (answer, figures) = (&mut side.bytes, &mut side.figures);
-            other::streams_to_text(elements, lengths, case.value_type.depth, answer, figures)
+            other::streams_to_text(elements, lengths, base, depth, answer, figures)
         },
         || {
-            let (depth, answer) = (case.value_type.depth, case.answer);
-            let sizes = format!("{answer} answer bytes lent");
-            format!("streams to text, depth {depth}, {sizes}, {lengths:?}, {elements:?}")
+            let sizes = format!("{} answer bytes lent", case.answer);
+            let streams = format!("{lengths:?}, {elements:?}");
+            format!("streams to text, base {base}, depth {depth}, {sizes}, {streams}")
         },
     )?;
     Ok(())

@@ -1,7 +1,7 @@
 //! The model's answers in the form of the library's C functions: a number, and figures written to
 //! a lent slice as far as it goes.
 
-use reference::{lent, Refusal, Type};
+use reference::{lent, Base, Refusal, Type};
 
 pub fn run(job: &[u8], streams: &mut [i32], answer: &mut [u8], figures: &mut [u64]) -> u64 {
     let counts = lent::run(job, streams, answer);
@@ -14,7 +14,23 @@ pub fn list(formula: &[u8], text: &mut [u8], figures: &mut [u64]) -> u64 {
 }
 
 pub fn check(formula: &[u8], figures: &mut [u64]) -> u64 {
-    reply(reference::check(formula).map(|checked| [u64::from(checked.depth)]), figures)
+    let told = |checked: Type| [u64::from(base_number(checked.base)), u64::from(checked.depth)];
+    reply(reference::check(formula).map(told), figures)
+}
+
+/// The number that stands for a base: 0 for ints and 1 for bools.
+pub fn base_number(base: Base) -> u8 {
+    match base {
+        Base::Int => 0,
+        Base::Bool => 1,
+    }
+}
+
+fn type_of(base: u8, depth: u8) -> Type {
+    match base {
+        0 => Type::ints(depth),
+        _ => Type::bools(depth),
+    }
 }
 
 pub fn find(job: &[u8], input: usize, figures: &mut [u64]) -> u64 {
@@ -24,23 +40,25 @@ pub fn find(job: &[u8], input: usize, figures: &mut [u64]) -> u64 {
 
 pub fn text_to_streams(
     text: &[u8],
+    base: u8,
     depth: u8,
     elements: &mut [i32],
     lengths: &mut [usize],
     figures: &mut [u64],
 ) -> u64 {
-    let count = lent::text_to_streams(text, Type::ints(depth), elements, lengths);
+    let count = lent::text_to_streams(text, type_of(base, depth), elements, lengths);
     reply(count.map(|count| [count]), figures)
 }
 
 pub fn streams_to_text(
     elements: &[i32],
     lengths: &[usize],
+    base: u8,
     depth: u8,
     answer: &mut [u8],
     figures: &mut [u64],
 ) -> u64 {
-    let bytes = lent::streams_to_text(elements, lengths, Type::ints(depth), answer);
+    let bytes = lent::streams_to_text(elements, lengths, type_of(base, depth), answer);
     reply(bytes.map(|bytes| [bytes]), figures)
 }
 

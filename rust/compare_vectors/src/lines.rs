@@ -2,6 +2,7 @@
 
 use generate::{job_case, streams_case, text_case};
 use reference::vectors::{answer, hexadecimal, joined, KINDS};
+use reference::Base;
 
 /// The characters of an input: two for each of the 4,096 bytes that the program reads of a field.
 const INPUT: usize = 8_192;
@@ -18,8 +19,10 @@ pub struct Line {
 
 impl Line {
     fn new(input: String) -> Line {
-        let word = input.split(' ').next();
-        let kind = KINDS.iter().position(|kind| Some(*kind) == word).expect("a kind's word");
+        let word = input.split(' ').next().expect("a kind's word");
+        // The program counts a conversion of bools with those of ints.
+        let word = word.strip_suffix('b').unwrap_or(word);
+        let kind = KINDS.iter().position(|kind| *kind == word).expect("a kind's word");
         let output = answer(&input);
         Line { kind, input, output }
     }
@@ -57,16 +60,23 @@ pub fn lines(seed: u64) -> Vec<Line> {
     lines.push(Line::new(format!("find {} {job}", case.input)));
 
     let case = text_case(seed);
-    let sizes = format!("{} {} {}", case.value_type.depth, case.elements, case.lengths);
-    lines.push(Line::new(format!("t2s {sizes} {}", hexadecimal(&case.text))));
+    let (of, depth) = (suffix(case.value_type.base), case.value_type.depth);
+    let sizes = format!("{depth} {} {}", case.elements, case.lengths);
+    lines.push(Line::new(format!("t2s{of} {sizes} {}", hexadecimal(&case.text))));
 
     let case = streams_case(seed);
+    let (of, depth) = (suffix(case.value_type.base), case.value_type.depth);
     let (lengths, elements) = (joined(&case.lengths), joined(&case.elements));
-    lines.push(Line::new(format!(
-        "s2t {} {} ; {lengths} ; {elements}",
-        case.value_type.depth, case.answer
-    )));
+    lines.push(Line::new(format!("s2t{of} {depth} {} ; {lengths} ; {elements}", case.answer)));
     lines
+}
+
+/// What stands behind a conversion's word: `b` where it is of bools.
+fn suffix(base: Base) -> &'static str {
+    match base {
+        Base::Int => "",
+        Base::Bool => "b",
+    }
 }
 
 #[cfg(test)]
@@ -78,6 +88,11 @@ mod tests {
         let line = Line::new("check 4b4e05000000".to_string());
         assert_eq!((line.kind, line.refusal(), line.fits()), (3, 0, true));
         assert_eq!(line.text(), "check 4b4e05000000 | depth 0\n");
+        let line = Line::new("check 4b4201".to_string());
+        assert_eq!(line.text(), "check 4b4201 | bool depth 0\n");
+        let line = Line::new("t2sb 1 9 2 7b547d".to_string());
+        assert_eq!((line.kind, line.refusal()), (5, 0));
+        assert_eq!(line.text(), "t2sb 1 9 2 7b547d | lengths 1 2\\nelements 1 0 1\\n\n");
         let line = Line::new("run 9 1 -".to_string());
         assert_eq!((line.kind, line.refusal()), (0, 2));
         assert_eq!(line.text(), "run 9 1 - | refused 2 at 0\\n\n");

@@ -44,6 +44,7 @@ mod functions {
         pub fn hailspindle_text_to_streams(
             text: *const u8,
             text_length: usize,
+            base: u8,
             depth: u8,
             elements: *mut i32,
             elements_length: usize,
@@ -58,6 +59,7 @@ mod functions {
             elements_length: usize,
             lengths: *const usize,
             lengths_length: usize,
+            base: u8,
             depth: u8,
             answer: *mut u8,
             answer_length: usize,
@@ -100,7 +102,8 @@ pub fn list(formula: &[u8], text: &mut [u8], figures: &mut [u64]) -> u64 {
     }
 }
 
-/// Figure: depth of the formula's type, or the place.
+/// Figures: base and depth of the formula's type; refused, the place and 0. The base is 0 for ints
+/// and 1 for bools, as in the two conversions.
 pub fn check(formula: &[u8], figures: &mut [u64]) -> u64 {
     // SAFETY: as for `run`.
     unsafe {
@@ -130,6 +133,7 @@ pub fn find(job: &[u8], input: usize, figures: &mut [u64]) -> u64 {
 /// Figure: elements written, or the place.
 pub fn text_to_streams(
     text: &[u8],
+    base: u8,
     depth: u8,
     elements: &mut [i32],
     lengths: &mut [usize],
@@ -140,6 +144,7 @@ pub fn text_to_streams(
         functions::hailspindle_text_to_streams(
             text.as_ptr(),
             text.len(),
+            base,
             depth,
             elements.as_mut_ptr(),
             elements.len(),
@@ -155,6 +160,7 @@ pub fn text_to_streams(
 pub fn streams_to_text(
     elements: &[i32],
     lengths: &[usize],
+    base: u8,
     depth: u8,
     answer: &mut [u8],
     figures: &mut [u64],
@@ -166,6 +172,7 @@ pub fn streams_to_text(
             elements.len(),
             lengths.as_ptr(),
             lengths.len(),
+            base,
             depth,
             answer.as_mut_ptr(),
             answer.len(),

@@ -11,8 +11,10 @@
 #[allow(unsafe_code)]
 pub mod calls;
 mod refusal;
+mod value_type;
 
 pub use refusal::Refusal;
+pub use value_type::{Base, Type};
 
 /// The elements of a stream buffer that a run can use; more may be lent and are left alone.
 pub const STREAM_ELEMENTS: usize = 16_384;
@@ -60,11 +62,12 @@ pub fn list(formula: &[u8], text: &mut [u8]) -> Result<usize, Refusal> {
     accepted(number, figures).map(|[bytes]| bytes as usize)
 }
 
-/// The depth of a formula's type: 0 for an int, d for d braces round ints.
-pub fn check(formula: &[u8]) -> Result<u8, Refusal> {
-    let mut figures = [0];
+/// The type of a formula.
+pub fn check(formula: &[u8]) -> Result<Type, Refusal> {
+    let mut figures = [0; 2];
     let number = calls::check(formula, &mut figures);
-    accepted(number, figures).map(|[depth]| depth as u8)
+    let [base, depth] = accepted(number, figures)?;
+    Ok(Type { base: Base::of(base), depth: depth as u8 })
 }
 
 /// The part of the job's own bytes that holds the text of an input, counted from 0. It is empty
@@ -76,31 +79,33 @@ pub fn find(job: &[u8], input: usize) -> &[u8] {
     &job[start..start + bytes]
 }
 
-/// Writes a value's streams, data first and outermost flags last, to `elements` and their
-/// `depth + 1` lengths to `lengths`, and answers how many elements they have in all. Refused,
-/// nothing is written.
+/// Writes the streams of a value of this type, data first and outermost flags last, to `elements`
+/// and their lengths, one more than the depth, to `lengths`, and answers how many elements they have
+/// in all. Refused, nothing is written.
 pub fn text_to_streams(
     text: &[u8],
-    depth: u8,
+    value_type: Type,
     elements: &mut [i32],
     lengths: &mut [usize],
 ) -> Result<usize, Refusal> {
     let mut figures = [0];
-    let number = calls::text_to_streams(text, depth, elements, lengths, &mut figures);
+    let (base, depth) = (value_type.base.number(), value_type.depth);
+    let number = calls::text_to_streams(text, base, depth, elements, lengths, &mut figures);
     accepted(number, figures).map(|[elements]| elements as usize)
 }
 
-/// Writes the text of the value that streams represent to the start of `answer`, and answers its
-/// bytes. `elements` are all of the streams' elements and `lengths` are as [`text_to_streams`]
+/// Writes the text of the value of this type that streams represent to the start of `answer`, and
+/// answers its bytes. `elements` are all of the streams' elements and `lengths` are as [`text_to_streams`]
 /// writes them. Refused, nothing is written.
 pub fn streams_to_text(
     elements: &[i32],
     lengths: &[usize],
-    depth: u8,
+    value_type: Type,
     answer: &mut [u8],
 ) -> Result<usize, Refusal> {
     let mut figures = [0];
-    let number = calls::streams_to_text(elements, lengths, depth, answer, &mut figures);
+    let (base, depth) = (value_type.base.number(), value_type.depth);
+    let number = calls::streams_to_text(elements, lengths, base, depth, answer, &mut figures);
     accepted(number, figures).map(|[bytes]| bytes as usize)
 }
 

@@ -18,9 +18,9 @@ pub enum Refusal {
     /// 5: a variable is unbound, an input is declared twice, or a using list repeats a name or
     /// holds the loop's own; the record's offset.
     Unbound(u64),
-    /// 6: the types don't fit, or the depth passes 8; the record's offset.
+    /// 6: the types don't fit, a guard is no bool, or the depth passes 8; the record's offset.
     WrongType(u64),
-    /// 7: an input's text is no value of its depth; the VA record's offset.
+    /// 7: an input's text is no value of its type; the VA record's offset.
     NoValueText(u64),
     /// 8: iota of a negative number, or a result out of range; the id of the stream to be defined.
     NoValue(u64),
@@ -28,7 +28,8 @@ pub enum Refusal {
     NoRoom(u64),
     /// 10: the text is longer than its buffer; the bytes that it needs.
     NoAnswerRoom(u64),
-    /// 11: the streams represent no value; the number of the first stream that does not fit.
+    /// 11: the streams represent no value, also where a bool is neither 0 nor 1; the number of the
+    /// first stream that does not fit.
     NoRepresentation(u64),
     /// A number that this crate doesn't know, as a newer library may answer it.
     Unknown {
@@ -115,7 +116,7 @@ impl fmt::Display for Refusal {
                 write!(formatter, "types that don't fit in the record at byte {at}")
             }
             Refusal::NoValueText(at) => {
-                write!(formatter, "the text at byte {at} is no value of its input's depth")
+                write!(formatter, "the text at byte {at} is no value of its input's type")
             }
             Refusal::NoValue(id) => {
                 write!(

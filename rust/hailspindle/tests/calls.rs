@@ -1,6 +1,7 @@
 //! The safe functions over the linked library, on document 01's examples.
 
-use hailspindle::{check, find, list, run, streams_to_text, text_to_streams, Counts, Refusal};
+use hailspindle::{check, find, list, run, streams_to_text, text_to_streams};
+use hailspindle::{Counts, Refusal, Type};
 
 /// `IN 5 1, IN 6 0, EA 7 5 1 6, PL 7 6`
 const FORMULA: &[u8] = b"IN\x05\x01IN\x06\0EA\x07\x05\x01\x06PL\x07\x06";
@@ -38,7 +39,9 @@ fn a_refusal_has_its_place() {
 
 #[test]
 fn a_formula_is_checked_and_listed() {
-    assert_eq!(check(FORMULA), Ok(1));
+    assert_eq!(check(FORMULA), Ok(Type::ints(1)));
+    // `IB 0 0, GU 0 1 0, NO 0`
+    assert_eq!(check(b"IB\0\0GU\0\x01\0NO\0"), Ok(Type::bools(1)));
     assert_eq!(check(b"VR\x03"), Err(Refusal::Unbound(0)));
     assert_eq!(check(&[0; 65_537]), Err(Refusal::TooLong));
     let mut text = [0; 200];
@@ -61,13 +64,38 @@ fn a_text_is_found() {
 #[test]
 fn a_text_goes_to_streams_and_back() {
     let (mut elements, mut lengths) = ([0; 20], [0; 3]);
-    let count = text_to_streams(b"{{3,1},{}}", 2, &mut elements, &mut lengths);
+    let count = text_to_streams(b"{{3,1},{}}", Type::ints(2), &mut elements, &mut lengths);
     assert_eq!(count, Ok(9));
     assert_eq!(elements[..9], [3, 1, 0, 0, 1, 1, 0, 0, 1]);
     assert_eq!(lengths, [2, 4, 3]);
     let mut answer = [0; 20];
-    assert_eq!(streams_to_text(&elements[..9], &lengths, 2, &mut answer), Ok(10));
+    assert_eq!(streams_to_text(&elements[..9], &lengths, Type::ints(2), &mut answer), Ok(10));
     assert_eq!(&answer[..10], b"{{3,1},{}}");
-    let misfit = streams_to_text(&elements[..8], &lengths, 2, &mut answer);
+    let misfit = streams_to_text(&elements[..8], &lengths, Type::ints(2), &mut answer);
     assert_eq!(misfit, Err(Refusal::NoRepresentation(3)));
+}
+
+#[test]
+fn bools_go_to_streams_and_back() {
+    let (mut elements, mut lengths) = ([0; 9], [0; 3]);
+    let count = text_to_streams(b"{{T,F},{}}", Type::bools(2), &mut elements, &mut lengths);
+    assert_eq!((count, elements, lengths), (Ok(9), [1, 0, 0, 0, 1, 1, 0, 0, 1], [2, 4, 3]));
+    let mut answer = [0; 10];
+    assert_eq!(streams_to_text(&elements, &lengths, Type::bools(2), &mut answer), Ok(10));
+    assert_eq!(&answer, b"{{T,F},{}}");
+    elements[1] = 2;
+    let misfit = streams_to_text(&elements, &lengths, Type::bools(2), &mut answer);
+    assert_eq!(misfit, Err(Refusal::NoRepresentation(0)));
+}
+
+#[test]
+fn a_guard_keeps_a_value_or_none() {
+    // `IN 0 0, IB 1 0, GU 1 1 0, VR 0`
+    let formula = b"IN\0\0IB\x01\0GU\x01\x01\0VR\0";
+    for (truth, answer) in [(b'T', b"{7}".as_slice()), (b'F', b"{}")] {
+        let job = [formula.as_slice(), b"VA\x01\x007VA\x01\0", &[truth]].concat();
+        let mut text = [0; 3];
+        let counts = run(&job, &mut [0; 9], &mut text).expect("a value");
+        assert_eq!(&text[..counts.text_bytes], answer);
+    }
 }
