@@ -50,9 +50,9 @@ static void empty_buffers(void)
     EXPECT(hailspindle_list(NULL, 0, NULL, 0, NULL, 0) == HAILSPINDLE_NO_RECORD);
     EXPECT(hailspindle_run(NULL, 0, NULL, 0, NULL, 0, NULL, 0) == HAILSPINDLE_NO_RECORD);
     EXPECT(hailspindle_find(NULL, 0, 0, NULL, 0) == HAILSPINDLE_ACCEPTED);
-    EXPECT(hailspindle_text_to_streams(NULL, 0, 0, NULL, 0, NULL, 0, NULL, 0) ==
+    EXPECT(hailspindle_text_to_streams(NULL, 0, HAILSPINDLE_INT, 0, NULL, 0, NULL, 0, NULL, 0) ==
            HAILSPINDLE_NO_VALUE_TEXT);
-    EXPECT(hailspindle_streams_to_text(NULL, 0, NULL, 0, 0, NULL, 0, NULL, 0) ==
+    EXPECT(hailspindle_streams_to_text(NULL, 0, NULL, 0, HAILSPINDLE_INT, 0, NULL, 0, NULL, 0) ==
            HAILSPINDLE_NO_REPRESENTATION);
     EXPECT(hailspindle_run(constant, sizeof constant, NULL, 0, NULL, 0, figures, 4) ==
            HAILSPINDLE_NO_ROOM);

@@ -14,7 +14,7 @@ pub fn list(formula: &[u8], text: &mut [u8], figures: &mut [u64]) -> u64 {
 }
 
 pub fn check(formula: &[u8], figures: &mut [u64]) -> u64 {
-    let told = |checked: Type| [u64::from(base_number(checked.base)), u64::from(checked.depth)];
+    let told = |checked: Type| [u64::from(checked.depth), u64::from(base_number(checked.base))];
     reply(reference::check(formula).map(told), figures)
 }
 

@@ -102,7 +102,7 @@ pub fn list(formula: &[u8], text: &mut [u8], figures: &mut [u64]) -> u64 {
     }
 }
 
-/// Figures: base and depth of the formula's type; refused, the place and 0. The base is 0 for ints
+/// Figures: depth and base of the formula's type; refused, the place and 0. The base is 0 for ints
 /// and 1 for bools, as in the two conversions.
 pub fn check(formula: &[u8], figures: &mut [u64]) -> u64 {
     // SAFETY: as for `run`.

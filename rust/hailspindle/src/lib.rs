@@ -66,7 +66,7 @@ pub fn list(formula: &[u8], text: &mut [u8]) -> Result<usize, Refusal> {
 pub fn check(formula: &[u8]) -> Result<Type, Refusal> {
     let mut figures = [0; 2];
     let number = calls::check(formula, &mut figures);
-    let [base, depth] = accepted(number, figures)?;
+    let [depth, base] = accepted(number, figures)?;
     Ok(Type { base: Base::of(base), depth: depth as u8 })
 }
 
