@@ -1,5 +1,5 @@
-//! Runs every line of the vectors against the model: those that the program `vectors` reads too
-//! (crates/vectors/stdin), and those of document 02's request 1.
+//! Runs every line of the vectors against the model: those of request 1, which the program `vectors`
+//! reads too (crates/vectors/stdin), and those of the base, document 01.
 //!
 //! Each line is `INPUT | OUTPUT`, as the program's sources say.
 
@@ -7,16 +7,16 @@ use reference::lent;
 use reference::vectors::{answer, bytes};
 
 const OF_THE_PROGRAM: &str = include_str!("../../../crates/vectors/stdin");
-const OF_REQUEST_1: &str = include_str!("request-1.txt");
+const OF_THE_BASE: &str = include_str!("base.txt");
 
 #[test]
 fn every_line_of_the_program_holds() {
-    holds(OF_THE_PROGRAM, 826);
+    holds(OF_THE_PROGRAM, 823);
 }
 
 #[test]
-fn every_line_of_request_1_holds() {
-    holds(OF_REQUEST_1, 823);
+fn every_line_of_the_base_holds() {
+    holds(OF_THE_BASE, 826);
 }
 
 fn holds(vectors: &str, count: usize) {
