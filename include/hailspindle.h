@@ -98,8 +98,9 @@ enum {
     HAILSPINDLE_VALUE_BYTES = 65535,
     /* the most elements of a stream buffer that are used; more may be lent and are left alone */
     HAILSPINDLE_STREAM_ELEMENTS = 16384,
-    /* what the run program lends for an answer and the list program for a listing. No job and no
-     * formula is known that needs more, and 10 tells where one does */
+    /* what the run program lends for an answer and the list program for a listing. No job is known
+     * that needs more; guards in one another that list deep values can have a longer listing (seven
+     * that list eight of depth 8 each: 71,160 bytes), and 10 tells how much it needs */
     HAILSPINDLE_ANSWER_BYTES = 65536,
     HAILSPINDLE_LISTING_BYTES = 65536,
     /* the deepest value, and one more than that: the most lengths of a value's streams */
