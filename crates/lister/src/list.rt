@@ -40,8 +40,9 @@ const SMALL: usize = 512;
 
 const MIDDLE: usize = 4096;
 
-const LARGEST: usize =
-    NESTING_WORDS * (Formula::NESTING + 1) + SPREAD_WORDS + INPUT_WORDS * Formula::INPUTS;
+const LARGEST: usize = NESTING_WORDS * (Formula::NESTING + 1)
+    + SPREAD_WORDS
+    + INPUT_WORDS * Formula::INPUTS;
 
 // The counters of a walk that lists, with room for the ids that a body takes in: at most those of the listed variables of a GU, each of the deepest type.
 const COUNTERS: usize = FIXED + Formula::LISTED * (Formula::DEPTH as usize + 1);
