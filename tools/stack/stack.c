@@ -41,16 +41,19 @@ static void put_inputs(void)
         PUT("IN", x, x < INPUTS / 2 ? 8 : 0);
 }
 
+static void put_text(const char *text)
+{
+    size_t length = strlen(text);
+    PUT("VA", (uint8_t)length, 0);
+    memcpy(job + job_length, text, length);
+    job_length += length;
+}
+
 static void put_texts(void)
 {
     formula_length = job_length;
-    for (int x = 0; x < INPUTS; x++) {
-        const char *text = x < INPUTS / 2 ? "{{{{{{{{1}}}}}}}}" : "1";
-        size_t length = strlen(text);
-        PUT("VA", (uint8_t)length, 0);
-        memcpy(job + job_length, text, length);
-        job_length += length;
-    }
+    for (int x = 0; x < INPUTS; x++)
+        put_text(x < INPUTS / 2 ? "{{{{{{{{1}}}}}}}}" : "1");
 }
 
 /* LT in the second part of LT, down to the limit; the input of depth 8 is the value. */
@@ -130,6 +133,32 @@ static void lets_and_a_loop(void)
     put_texts();
 }
 
+/*
+ * A guard in the first part of a let, its body the next such let: 32 guards, each of which lists its bool and seven values of
+ * the greatest depth. Its inputs are those, and ints.
+ */
+static void guards_in_lets(void)
+{
+    job_length = 0;
+    for (uint8_t x = 0; x < INPUTS; x++) {
+        if (x == 7)
+            PUT("IB", x, 0);
+        else
+            PUT("IN", x, x < 7 ? 8 : 0);
+    }
+    for (int i = 0; i < NESTING / 2; i++) {
+        PUT("LT", 23);
+        PUT("GU", 7, 8, 7, 0, 1, 2, 3, 4, 5, 6);
+    }
+    for (int i = 0; i <= NESTING / 2; i++)
+        PUT("KN", 1, 0, 0, 0);
+    formula_length = job_length;
+    for (int x = 0; x < INPUTS; x++) {
+        const char *text = x < 7 ? "{{{{{{{{1}}}}}}}}" : x == 7 ? "T" : "1";
+        put_text(text);
+    }
+}
+
 static void *nothing(void *unused)
 {
     return unused;
@@ -183,6 +212,7 @@ int main(void)
         {"8 loops in one another, 56 lets", loops_in_loops},
         {"21 loops in one another with sums, 43 lets", loops_and_sums},
         {"63 lets, then a loop that lists 8", lets_and_a_loop},
+        {"32 guards in 32 lets, each listing 8", guards_in_lets},
     };
     size_t base = stack_of(nothing);
     for (size_t i = 0; i < sizeof jobs / sizeof *jobs; i++) {
