@@ -7,7 +7,7 @@ use crate::show::word;
 use snesl::code::Operation;
 use streams::Output;
 
-pub fn run(
+pub(crate) fn run(
     kind: u8,
     buf: &mut [i32],
     out: usize,
@@ -64,7 +64,7 @@ fn call(
     }
 }
 
-pub fn clear(buf: &mut [i32], from: usize) {
+pub(crate) fn clear(buf: &mut [i32], from: usize) {
     io::write_all(1, b"clear");
     streams::clear(buf, from);
     elements(buf);

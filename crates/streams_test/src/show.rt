@@ -1,5 +1,5 @@
 // Text on standard output.
-pub fn word(kind: u8) {
+pub(crate) fn word(kind: u8) {
     match kind {
         0 => io::write_all(1, b"Const"),
         1 => io::write_all(1, b"ToFlags"),
@@ -17,13 +17,13 @@ pub fn word(kind: u8) {
     ;
 }
 
-pub fn number(before: &[u8], n: usize) {
+pub(crate) fn number(before: &[u8], n: usize) {
     io::write_all(1, before);
     io::print_decimal(1, n as u64);
 }
 
 // The elements, and the line's end.
-pub fn elements(buf: &[i32]) {
+pub(crate) fn elements(buf: &[i32]) {
     io::write_all(1, b":");
     let mut i = 0;
     while i < buf.len() {
