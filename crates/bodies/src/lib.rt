@@ -1,4 +1,6 @@
 // Before a comprehension's body: the flags' place, the count of their units, and the entries that the body sees.
+#![tactic(auto)]
+
 ghost use Rattle.std.specs.Prelude.{◌≡◌, [], ◌∷◌, ◌+◌, ◌-◌, ◌≤◌, ◌<◌, length};
 ghost use Rattle.laws.specs.Parts.{part, written};
 ghost use Rattle.environment.specs.Words.{tree_size};
@@ -11,14 +13,14 @@ use snesl::refusal::Refusal;
 use steps::{Executed, Operands};
 
 // Whether every listed variable has its entry.
-#[derive(Drop)]
+#[derive(Clone, Copy)]
 pub enum Listed {
     Bound,
     Stopped(Refusal),
 }
 
 // Where the body's environment starts, and under how many units it is walked.
-#[derive(Drop)]
+#[derive(Clone, Copy)]
 pub enum Entered {
     Body(usize, usize),
     Stopped(Refusal),

@@ -19,28 +19,28 @@ use snesl::limits::Formula;
 use snesl::refusal::Refusal;
 
 // What checking answers.
-#[derive(Drop)]
+#[derive(Clone, Copy)]
 pub enum Checked {
     Typed(ValueType),
     Refused(Refusal),
 }
 
 // What the check of a formula that was read answers: its type, and how many words the walk of its expression takes.
-#[derive(Drop)]
+#[derive(Clone, Copy)]
 pub enum Judged {
     Typed(ValueType, usize),
     Refused(Refusal),
 }
 
 // What a record without expressions inside answers: its type as one byte, as scopes has it.
-#[derive(Drop)]
+#[derive(Clone, Copy)]
 enum Single {
     Word(u8),
     Refused(Refusal),
 }
 
 // What a record asks of the walk: a leaf's answer with the position behind it, or an expression inside.
-#[derive(Drop)]
+#[derive(Clone, Copy)]
 enum Turn {
     Refused(Refusal),
     Found(usize, u8),
@@ -50,14 +50,14 @@ enum Turn {
 }
 
 // The position behind an expression, its type, and the words of its walk.
-#[derive(Drop)]
+#[derive(Clone, Copy)]
 enum Judging {
     Refused(Refusal),
     Found(usize, u8, usize),
 }
 
 // The inputs as a scope: the place of one whose name was declared before, or where the scope starts.
-#[derive(Drop)]
+#[derive(Clone, Copy)]
 enum Opened {
     Refused(Refusal),
     Scope(usize),

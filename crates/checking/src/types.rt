@@ -6,7 +6,7 @@ use scopes::types::{BRACES, INT};
 use snesl::code::Base;
 
 // So many braces round a base.
-#[derive(Drop)]
+#[derive(Clone, Copy)]
 pub struct ValueType {
     pub base: Base,
     pub depth: u8,

@@ -1,2 +1,4 @@
 // Whole numbers as text.
+#![tactic(auto)]
+
 pub mod numbers;

@@ -5,21 +5,21 @@ ghost use Rattle.decimals.specs.Numbers.{digit_at, digits_at, int_at, Sure};
 ghost use Rattle.decimals.specs.Writing.{Writes};
 
 // What stands at a place: a digit's value, or the end of a number.
-#[derive(Drop)]
+#[derive(Clone, Copy)]
 pub enum Digit {
     Of(u64),
     End,
 }
 
 // Digits at the front of a text: their number and how many they are; or no number, or one past 2,147,483,648.
-#[derive(Drop)]
+#[derive(Clone, Copy)]
 pub enum Digits {
     Number(u64, usize),
     No,
 }
 
 // An int at the front of a text, with the bytes it takes.
-#[derive(Drop)]
+#[derive(Clone, Copy)]
 pub enum ReadInt {
     Int(i32, usize),
     No,

@@ -1,4 +1,6 @@
 // The stack of words that a walk over a formula's bytes keeps its environment on (specs/Words.antt).
+#![tactic(auto)]
+
 ghost use Rattle.std.specs.Prelude.{◌≡◌, [], ◌∷◌, ◌⊎◌, ◌+◌, ◌-◌, ◌≤◌, ◌<◌, length};
 ghost use Rattle.laws.specs.Parts.{part, written};
 ghost use Rattle.snesl.specs.Terms.{lookup};

@@ -6,7 +6,7 @@ ghost use Rattle.finder.specs.Parts.{Held, part_from, located, start_of};
 use formula::read::{JobRead, Text, read_job, text_at};
 
 // So many bytes of the job from a start on.
-#[derive(Drop)]
+#[derive(Clone, Copy)]
 pub struct Part {
     pub start: usize,
     pub bytes: usize,

@@ -6,7 +6,7 @@ ghost use Rattle.flags.specs.Segments.{leading, wholes};
 ghost use Rattle.flags.specs.Flags.{flag_for, shape_for};
 
 // An element read as a flag.
-#[derive(Drop)]
+#[derive(Clone, Copy)]
 pub enum Flag {
     F,
     T,
@@ -14,7 +14,7 @@ pub enum Flag {
 }
 
 // So many whole segments, or flags that are none: the last T is missing, or an element is no flag.
-#[derive(Drop)]
+#[derive(Clone, Copy)]
 pub enum Shape {
     Whole(usize),
     Ragged,

@@ -8,7 +8,7 @@ use records::marks;
 use snesl::code::{Base, Variable};
 
 // An input record's place, and what it says: so many braces round its base.
-#[derive(Drop)]
+#[derive(Clone, Copy)]
 pub struct Declaration {
     pub place: usize,
     pub name: Variable,

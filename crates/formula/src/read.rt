@@ -12,7 +12,7 @@ use snesl::limits::{Formula, Job};
 use snesl::refusal::Refusal;
 
 // What the record at a position asks: nothing behind it, two expressions behind a LT, one behind an EA or a GU; each with the position behind the record.
-#[derive(Drop)]
+#[derive(Clone, Copy)]
 enum Asks {
     Refused(Refusal),
     Leaf(usize),
@@ -21,28 +21,28 @@ enum Asks {
 }
 
 // An expression's end, and how many records have been read with it.
-#[derive(Drop)]
+#[derive(Clone, Copy)]
 enum Scanned {
     Refused(Refusal),
     Found(usize, usize),
 }
 
 // How many input records there are, and the position behind them.
-#[derive(Drop)]
+#[derive(Clone, Copy)]
 enum Declared {
     Refused(Refusal),
     Found(usize, usize),
 }
 
 // The position behind the VA records.
-#[derive(Drop)]
+#[derive(Clone, Copy)]
 enum Texts {
     Refused(Refusal),
     Found(usize),
 }
 
 // What stands where an input record may stand: none, one within all limits, or one that is refused.
-#[derive(Drop)]
+#[derive(Clone, Copy)]
 enum Entry {
     Last,
     One,
@@ -50,19 +50,19 @@ enum Entry {
 }
 
 // What stands where a VA record is due: none that is whole, or one, with the position behind its text.
-#[derive(Drop)]
+#[derive(Clone, Copy)]
 pub enum Text {
     Cut,
     Found(usize),
 }
 
-#[derive(Drop)]
+#[derive(Clone, Copy)]
 pub enum FormulaRead {
     Found(Formula),
     Refused(Refusal),
 }
 
-#[derive(Drop)]
+#[derive(Clone, Copy)]
 pub enum JobRead {
     Found(Job),
     Refused(Refusal),

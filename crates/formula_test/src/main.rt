@@ -1,5 +1,7 @@
 // Runs cases through reading, checking and finding, and prints what came out, a line each. A case is a line of standard input: `check HEX` or `find I HEX`,
 // with I one digit, as in the vectors for document 01 (`-` for no bytes); a part is printed as its bytes.
+#![tactic(auto)]
+
 ghost use Rattle.std.specs.Prelude.{◌≡◌, ◌≤◌, length};
 ghost use Rattle.snesl.specs.Refusals as refusals;
 

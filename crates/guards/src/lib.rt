@@ -1,4 +1,6 @@
 // Before a guard's body: its flags and the count of their units, and each listed variable packed by the guard's bools, with the entries that the body sees.
+#![tactic(auto)]
+
 ghost use Rattle.std.specs.Prelude.{◌≡◌, List, ℕ, ◌+◌, ◌≤◌, length};
 ghost use Rattle.snesl.specs.declared.code.Base.{Base};
 ghost use Rattle.snesl.specs.Trees.{Tree, leaf, node};
@@ -22,7 +24,7 @@ use snesl::refusal::Refusal;
 use steps::{Executed, Operands};
 
 // A tree whose words stand at `from`, to be packed by the bools whose place stands at `bools`, with its packed words at `to`. Below `low` the stack is free.
-#[derive(Drop)]
+#[derive(Clone, Copy)]
 pub struct Packing {
     pub depth: usize,
     pub from: usize,
@@ -31,14 +33,14 @@ pub struct Packing {
     pub low: usize,
 }
 
-#[derive(Drop)]
+#[derive(Clone, Copy)]
 pub enum Packed {
     Whole,
     Stopped(Refusal),
 }
 
 // Where the environment starts that lists are looked up in, where the place of the guard's bools stands, and where the lowest entry is to stand.
-#[derive(Drop)]
+#[derive(Clone, Copy)]
 pub struct Guarding {
     pub sp: usize,
     pub bools: usize,
@@ -46,7 +48,7 @@ pub struct Guarding {
 }
 
 // Where the entry of a listed variable ends.
-#[derive(Drop)]
+#[derive(Clone, Copy)]
 pub enum Bound {
     Until(usize),
     Stopped(Refusal),

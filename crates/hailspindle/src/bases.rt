@@ -5,7 +5,7 @@ ghost use Rattle.hailspindle.specs.Bases.{byte_of, base_from};
 use snesl::code::Base;
 
 // What a byte says of a base.
-#[derive(Drop)]
+#[derive(Clone, Copy)]
 pub enum Read {
     Known(Base),
     No,

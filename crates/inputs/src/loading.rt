@@ -14,7 +14,7 @@ use snesl::limits::Formula;
 use valuetext::storing::fill_text;
 
 // Where the newest binding starts, or the first id of the input whose streams pass the room.
-#[derive(Drop)]
+#[derive(Clone, Copy)]
 pub enum Loaded {
     At(usize),
     Full(usize),

@@ -14,7 +14,7 @@ use valuetext::storing::{Measured, measure_text};
 pub const COUNTS: usize = LEVELS * Formula::INPUTS;
 
 // Each text is a value of its input's type, or the VA record of the first that is none.
-#[derive(Drop)]
+#[derive(Clone, Copy)]
 pub enum Texts {
     Good,
     Bad(usize),

@@ -1,4 +1,6 @@
 // The line of an instruction, from its value.
+#![tactic(auto)]
+
 ghost use Rattle.std.specs.Prelude.{[], ◌∷◌};
 ghost use Rattle.snesl.specs.Transducers.{operands, operation_name, bool_name};
 ghost use Rattle.snesl.specs.Ascii.{ascii};

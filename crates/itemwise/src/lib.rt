@@ -1,5 +1,7 @@
 // The transducers that go item by item, one for each unit of the control stream: MapTwo, MapOneNot, Pack and ToFlags, which is B2u too. Their answers are
 // those of crate streams. A bool is an item: F is 0, and all else is read as T.
+#![tactic(auto)]
+
 mod negations;
 mod operations;
 mod packs;

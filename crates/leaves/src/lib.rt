@@ -1,5 +1,7 @@
 // The walk's records with no expression behind them: a variable, those that stand for one instruction, and iota's four. What a walk answers is declared here,
 // since each of them answers it.
+#![tactic(auto)]
+
 ghost use Rattle.std.specs.Prelude.{◌≡◌, List, [], ◌∷◌, ◌++◌, ℕ, ◌+◌, ◌-◌, ◌≤◌, ◌<◌, ℤ, pos, length, get_or, drop};
 ghost use Rattle.laws.specs.Parts.{written};
 ghost use Rattle.snesl.specs.declared.code.Transducer.TheVariants.{Const};
@@ -23,14 +25,14 @@ use snesl::refusal::Refusal;
 use steps::{Executed, Operands, execute};
 
 // The depth of an expression's type and the position behind it, with its tree left on the stack; or why the run stops.
-#[derive(Drop)]
+#[derive(Clone, Copy)]
 pub enum Walked {
     Tree(usize, usize),
     Stopped(Refusal),
 }
 
 // A record that stands for one instruction.
-#[derive(Drop)]
+#[derive(Clone, Copy)]
 pub enum Form {
     Const(i32),
     Truth(bool),

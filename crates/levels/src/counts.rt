@@ -9,7 +9,7 @@ use snesl::limits::Formula;
 pub const LEVELS: usize = Formula::DEPTH as usize + 1;
 
 // A total, unless it passes a limit.
-#[derive(Drop)]
+#[derive(Clone, Copy)]
 pub enum Total {
     Of(usize),
     Over,

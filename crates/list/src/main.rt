@@ -1,4 +1,6 @@
 // The listing program (document 01, "Two programs, one job"): a formula from standard input, and its listing or the line of its refusal to standard output.
+#![tactic(auto)]
+
 use libc::{STDIN_FILENO, STDOUT_FILENO};
 use lister::report::list_lines;
 use snesl::limits::Formula;

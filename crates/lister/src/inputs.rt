@@ -9,7 +9,7 @@ use environment::{put_name, put_place};
 use snesl::code::Variable;
 
 // Where the inputs' bindings start, and the first id behind theirs.
-#[derive(Drop)]
+#[derive(Clone, Copy)]
 pub struct Inputs {
     pub sp: usize,
     pub id: usize,

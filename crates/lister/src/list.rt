@@ -17,7 +17,7 @@ use sink::words::{AT, FIXED, LISTING, MODE};
 use snesl::limits::Formula;
 use snesl::refusal::Refusal;
 
-#[derive(Drop)]
+#[derive(Clone, Copy)]
 pub enum Listed {
     Length(usize),
     Refused(Refusal),
@@ -43,7 +43,7 @@ const LARGEST: usize = NESTING_WORDS * (Formula::NESTING + 1)
 const COUNTERS: usize = FIXED + Formula::LISTED * (Formula::DEPTH as usize + 1);
 
 // The depth of the expression's result, and where its lines end.
-#[derive(Drop)]
+#[derive(Clone, Copy)]
 pub struct Lines {
     pub depth: usize,
     pub at: usize,

@@ -12,7 +12,7 @@ use snesl::limits::Formula;
 
 // An expression record: none that is whole, one over a limit, or its fields. Each's count says how many listed variables follow its first five bytes,
 // Guard's how many follow its first four.
-#[derive(Drop)]
+#[derive(Clone, Copy)]
 pub enum Head {
     Absent,
     Over,
@@ -87,7 +87,7 @@ fn int_at(bytes: &[u8], k: usize) -> i32
 }
 
 // Is a record whole, and then within its limits?
-#[derive(Drop)]
+#[derive(Clone, Copy)]
 pub enum Shape {
     Cut,
     Over,

@@ -8,14 +8,14 @@ use flags::segments;
 use snesl::code::Base;
 
 // How many items flags have, if they fit.
-#[derive(Drop)]
+#[derive(Clone, Copy)]
 pub enum Fit {
     Items(usize),
     No,
 }
 
 // The level that does not fit, outermost first.
-#[derive(Drop)]
+#[derive(Clone, Copy)]
 pub enum Fitting {
     Fits,
     Misfit(usize),

@@ -11,7 +11,7 @@ use snesl::limits::{Buffer, Formula};
 use snesl::refusal::Refusal;
 
 // What streams to text answers: how many bytes it wrote, or why it wrote none.
-#[derive(Drop)]
+#[derive(Clone, Copy)]
 pub enum Written {
     Bytes(usize),
     Refused(Refusal),

@@ -1,4 +1,6 @@
 // The run program (document 01, "Two programs, one job"): a job from standard input, and the lines of its outcome to standard output.
+#![tactic(auto)]
+
 use libc::{STDIN_FILENO, STDOUT_FILENO};
 use report::printing::{ANSWER, BESIDE, run_lines};
 use snesl::limits::{Buffer, Formula};

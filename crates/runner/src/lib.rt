@@ -1,6 +1,8 @@
 // The walk: one pass over a checked formula's bytes that makes each instruction, executes it and tells it, one arm at each record. Only LT, EA and GU have
 // expressions behind them, and only they call the walk again. No code is stored and no table by stream id is kept: what can be used again stands in the environment (crate
 // environment), and the streams in the stream buffer. What is done with an instruction besides is the sink's (crate sink): so one walk runs a formula and lists it.
+#![tactic(auto)]
+
 ghost use Rattle.std.specs.Prelude.{◌≤◌, ◌≡◌};
 ghost use Rattle.snesl.specs.Records.{head_at};
 ghost use Rattle.snesl.specs.Terms as terms;
@@ -23,7 +25,7 @@ use snesl::code::{Instruction, StreamId, Variable};
 use snesl::refusal::Refusal;
 
 // The arm of the walk that a record goes to, and the position behind a record that stands for one instruction.
-#[derive(Drop)]
+#[derive(Clone, Copy)]
 pub enum Route {
     Missing,
     Name(Variable),
@@ -35,7 +37,7 @@ pub enum Route {
 }
 
 // A comprehension's body: where it stands, the id of its control, under how many units it is, and where its environment starts.
-#[derive(Drop)]
+#[derive(Clone, Copy)]
 pub struct Body {
     pub at: usize,
     pub control: usize,

@@ -11,7 +11,7 @@ use snesl::code::Variable;
 use snesl::refusal::Refusal;
 
 // What an EA or GU record says before its body: a refusal, or where the body's scope starts; its floor is the scope outside.
-#[derive(Drop)]
+#[derive(Clone, Copy)]
 pub enum Prepared {
     Refused(Refusal),
     Scope(usize),

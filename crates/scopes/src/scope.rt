@@ -6,7 +6,7 @@ ghost use Rattle.scopes.specs.Scopes.{scope, word_in, Pushed};
 use snesl::code::Variable;
 
 // What a scope says of a name: its type, as types.rt has it.
-#[derive(Drop)]
+#[derive(Clone, Copy)]
 pub enum Kind {
     Missing,
     Word(u8),

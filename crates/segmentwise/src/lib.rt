@@ -1,4 +1,6 @@
 // The transducers that go segment by segment, each some F's and a T: ScanPlus, Distr, SumPlus and UPack. Their answers are those of crate streams.
+#![tactic(auto)]
+
 mod packs;
 mod scans;
 mod spread;

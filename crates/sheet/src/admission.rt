@@ -12,14 +12,14 @@ use snesl::limits::Formula;
 use snesl::refusal::Refusal;
 
 // What a job that meets none of 1 to 7 asks for: its formula, the base of its result's type, and how many words the walk of its expression takes.
-#[derive(Drop)]
+#[derive(Clone, Copy)]
 pub struct Task {
     pub formula: Formula,
     pub base: Base,
     pub words: usize,
 }
 
-#[derive(Drop)]
+#[derive(Clone, Copy)]
 pub enum Admission {
     Admitted(Task),
     Refused(Refusal),

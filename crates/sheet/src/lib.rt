@@ -1,4 +1,6 @@
 // Running a job (document 01): read, checked, its inputs loaded, its formula walked, its answer shown.
+#![tactic(auto)]
+
 use snesl::refusal::Refusal;
 
 mod admission;
@@ -9,7 +11,7 @@ mod running;
 pub use running::run;
 
 // What a run that has a value answers: the bytes of its text, and what it cost.
-#[derive(Drop)]
+#[derive(Clone, Copy)]
 pub struct Counts {
     pub text: usize,
     pub work: usize,
@@ -18,7 +20,7 @@ pub struct Counts {
 }
 
 // A value, or the one refusal.
-#[derive(Drop)]
+#[derive(Clone, Copy)]
 pub enum Ran {
     Value(Counts),
     Refused(Refusal),

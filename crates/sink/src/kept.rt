@@ -9,7 +9,7 @@ use crate::uses::Used;
 use crate::words::{FIXED, OWN, TAKEN};
 
 // Where an id stands among those that are kept: it is one of them, or how many of them are less.
-#[derive(Drop)]
+#[derive(Clone, Copy)]
 pub enum Rank {
     Held,
     New(usize),

@@ -1,5 +1,7 @@
 // What a walk does with each instruction that it makes, besides executing it (specs/Sinks.antt): where it lists it writes the instruction's line, where it surveys a
 // body it keeps the ids that are used and stand before the body's own. The words of a sink stand behind the machine's four in one slice (specs/Sunk.antt).
+#![tactic(auto)]
+
 pub mod kept;
 pub mod openings;
 pub mod trees;

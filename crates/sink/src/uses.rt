@@ -4,7 +4,7 @@ ghost use Rattle.sink.specs.Uses.{Operates};
 
 use snesl::code::{StreamId, Transducer};
 
-#[derive(Drop)]
+#[derive(Clone, Copy)]
 pub enum Used {
     Nothing,
     One(usize),

@@ -4,7 +4,7 @@ ghost use Rattle.std.specs.Prelude.{◌≡◌};
 ghost use Rattle.snesl.specs.Limits.{most_bytes, most_inputs, most_records, most_nesting, most_listed, most_depth, last_variable, most_elements, formula_limits, no_formula, no_job, no_streams};
 
 // What reading finds of a formula: how many inputs it declares, where its expression starts, and where it ends.
-#[derive(Drop)]
+#[derive(Clone, Copy)]
 pub struct Formula {
     pub inputs: usize,
     pub expression: usize,
@@ -12,7 +12,7 @@ pub struct Formula {
 }
 
 // The limits of a formula, as numbers.
-#[derive(Drop)]
+#[derive(Clone, Copy)]
 pub struct FormulaLimits {
     pub bytes: usize,
     pub inputs: usize,
@@ -65,7 +65,7 @@ impl Formula {
 }
 
 // What reading finds of a job: its formula, and where its inputs' texts end.
-#[derive(Drop)]
+#[derive(Clone, Copy)]
 pub struct Job {
     pub formula: Formula,
     pub end: usize,
@@ -92,7 +92,7 @@ impl Job {
 }
 
 // How far a stream buffer is filled: how many streams stand in it, and their room.
-#[derive(Drop)]
+#[derive(Clone, Copy)]
 pub struct Buffer {
     pub streams: usize,
     pub room: usize,

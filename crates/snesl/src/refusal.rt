@@ -1,5 +1,5 @@
 // Why a call has no answer, and where (document 01, "Refusal numbers"). specs/Refusals.antt gives each its number and its place.
-#[derive(Drop)]
+#[derive(Clone, Copy)]
 pub enum Refusal {
     // 1: over the byte limit.
     TooLong,

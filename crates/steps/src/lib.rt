@@ -1,5 +1,7 @@
 // One instruction of a run: its transducer, with its streams' ids, is executed here over the stream buffer. What it does to the machine is what
 // specs/Walking.antt's `stepped` says.
+#![tactic(auto)]
+
 ghost use Rattle.std.specs.Prelude.{◌≡◌, length};
 ghost use Rattle.snesl.specs.declared.code.Base.{Base};
 ghost use Rattle.snesl.specs.Streams.{Store, bit};
@@ -13,27 +15,27 @@ use snesl::refusal::Refusal;
 use streams::Output;
 
 // Where the places of an instruction's operands stand on the stack of words, in their order. Those that its transducer doesn't have are not read.
-#[derive(Drop)]
+#[derive(Clone, Copy)]
 pub struct Operands {
     pub first: usize,
     pub second: usize,
 }
 
 // How long the stream is that an instruction made, or why the run stops at it.
-#[derive(Drop)]
+#[derive(Clone, Copy)]
 pub enum Executed {
     Made(usize),
     Stopped(Refusal),
 }
 
 // Where a stream's elements stand in the stream buffer.
-#[derive(Drop)]
+#[derive(Clone, Copy)]
 pub struct Span {
     pub start: usize,
     pub length: usize,
 }
 
-#[derive(Drop)]
+#[derive(Clone, Copy)]
 pub struct Spans {
     pub first: Span,
     pub second: Span,

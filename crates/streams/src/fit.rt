@@ -8,14 +8,14 @@ use flags::reading::{Flag, Shape};
 use flags::{flag_at, segments};
 
 // The first element at which streams don't fit, if there is one.
-#[derive(Drop)]
+#[derive(Clone, Copy)]
 pub enum Misfit {
     Nowhere,
     At(usize),
 }
 
 // What a flag does to a walk: it takes so many items and ends so many segments, or it doesn't fit.
-#[derive(Drop)]
+#[derive(Clone, Copy)]
 pub enum Turn {
     On(usize, usize),
     Stop,

@@ -2,6 +2,8 @@
 // a unit stream is only a length. An operand is given by where it stands and how long it is; the output is written from `out`, the first free
 // element. What each answers and leaves behind is said in specs/Answers.antt, by the definitions of snesl.
 // This crate has what all of them share, and the two that read no items, Const and Usum; the others stand in itemwise and segmentwise.
+#![tactic(auto)]
+
 pub mod buffer;
 mod constants;
 pub mod fit;

@@ -1,6 +1,6 @@
 // What a transducer answers: how many elements it made, or why it stopped and at which element. NoRoom comes last: it is answered only
 // where the streams fit and every element has a value.
-#[derive(Drop)]
+#[derive(Clone, Copy)]
 pub enum Output {
     Made(usize),
     Unfit(usize),

@@ -1,5 +1,7 @@
 // Runs each transducer on empty segments at the start, in the middle and at the end, on lengths 0, 1 and a buffer that is just full, and at both ends of the
 // number range. Each line has the transducer, its answer and the whole buffer after the call; `stdout` was worked out by hand from documents 01 and 001.
+#![tactic(auto)]
+
 mod call;
 mod show;
 

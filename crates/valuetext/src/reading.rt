@@ -7,14 +7,14 @@ use decimals::numbers::{ReadInt, byte_at, quick_int, read_int};
 use snesl::code::Base;
 
 // What a reader took of the text, from its first byte on.
-#[derive(Drop)]
+#[derive(Clone, Copy)]
 pub enum Taken {
     Bytes(usize),
     No,
 }
 
 // How a text begins: with an empty list, with a list that has items, or with none.
-#[derive(Drop)]
+#[derive(Clone, Copy)]
 pub enum Opening {
     Empty,
     Items,
@@ -22,7 +22,7 @@ pub enum Opening {
 }
 
 // What stands behind an item.
-#[derive(Drop)]
+#[derive(Clone, Copy)]
 pub enum After {
     Comma,
     Close,

@@ -12,7 +12,7 @@ use snesl::limits::{Buffer, Formula};
 use snesl::refusal::Refusal;
 
 // How many elements a text's streams have in all.
-#[derive(Drop)]
+#[derive(Clone, Copy)]
 pub enum Measured {
     Elements(usize),
     // more than a stream buffer's used part can ever hold
@@ -22,7 +22,7 @@ pub enum Measured {
 }
 
 // What text to streams answers: how many elements it wrote, or why it wrote none.
-#[derive(Drop)]
+#[derive(Clone, Copy)]
 pub enum Stored {
     Elements(usize),
     Refused(Refusal),

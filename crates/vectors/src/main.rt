@@ -1,5 +1,7 @@
 // Runs the vectors for document 01, a case a line of standard input, through the library, and compares what comes out with what the line names. Prints the number
 // of each line that differs, and last how many of each kind came out as named.
+#![tactic(auto)]
+
 mod checks;
 mod fields;
 mod finding;

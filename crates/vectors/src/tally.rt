@@ -3,7 +3,7 @@ use decimals::numbers::byte_at;
 use libc::STDOUT_FILENO;
 
 // In the order of the counts; a line of none of them is of the last.
-#[derive(Drop)]
+#[derive(Clone, Copy)]
 pub enum Kind {
     Run,
     Streams,

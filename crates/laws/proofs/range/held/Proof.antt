@@ -30,14 +30,14 @@ module _ (z : ℤ) (fits : SFits w64 z) {b : Bool} (q : b ≡ fitting (to_z w64 
   replaced : b ≡ false → pos 0 ≡ held_of z
   replaced e = sym (held-outside z (tells e))
 
-in-range-requires : tie.Need-in-range-requires
+in-range-requires : tie.Need-in_range-requires
 in-range-requires c κs = tt
 
-cast-result : tie.Need-overflow-cast-result
-cast-result c = cast _ c.before.before.ranges.z c.before.in-range.ensures c.if1.true
+cast-result : tie.Need-overflow_cast-result
+cast-result c = cast _ c.before.before.ranges.z c.before.in_range.ensures c.if1.true
 
 returns : tie.Need-returns
-returns c = kept _ c.before.before.ranges.z c.before.in-range.ensures c.if1.true
+returns c = kept _ c.before.before.ranges.z c.before.in_range.ensures c.if1.true
 
 returns-2 : tie.Need-returns-2
 returns-2 c = replaced _ c.before.before.ranges.z c.before.in-range.ensures c.if1.false
