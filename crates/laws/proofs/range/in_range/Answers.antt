@@ -12,8 +12,7 @@ use mir.Syntax.{w64}
 use mir.Val.{SFits, to_z, of_z}
 use Rattle.laws.specs.Range.{fitting}
 use Rattle.laws.proofs.Never.{never}
-use Rattle.laws.proofs.range.in_range.Statement.{statement}
-use Rattle.laws.proofs.range.in_range.Tie as tie
+use Rattle.laws.proofs.range.in_range.Goals as goal
 
 low : (z : ℤ) → lt_z z (negsuc 2147483647) ≡ true → fitting z ≡ false
 low (pos a) e = never (cc)
@@ -37,14 +36,11 @@ module _ (z : ℤ) (fits : SFits w64 z) where
   inside : lt_z (to_z w64 (of_z w64 z)) (negsuc 2147483647) ≡ false → lt_z (pos 2147483647) (to_z w64 (of_z w64 z)) ≡ false → true ≡ fitting z
   inside l h = sym (lt-ltb (mag z) 2147483648 (between z (rw (to_z-of_z fits) at l) (rw (to_z-of_z fits) at h)))
 
-returns : tie.Need-returns
-returns c = out-low _ c.before.ranges.z c.if1.true
+pub returns-then-z-ltminus2147483648 : goal.returns-then-z-ltminus2147483648
+returns-then-z-ltminus2147483648 c = out-low _ c.ranges.z c.if-z-ltminus2147483648.true
 
-returns-2 : tie.Need-returns-2
-returns-2 c = out-high _ c.before.before.ranges.z c.if2.true
+pub returns-then-z-gt2147483647 : goal.returns-then-z-gt2147483647
+returns-then-z-gt2147483647 c = out-high _ c.ranges.z c.if-z-gt2147483647.true
 
-returns-3 : tie.Need-returns-3
-returns-3 c = inside _ c.before.before.ranges.z c.before.if1.false c.if2.false
-
-pub in-range-spec : {M : Type 1} → statement M
-in-range-spec = tie.close (tie.spec returns returns-2 returns-3)
+pub returns : goal.returns
+returns c = inside _ c.ranges.z c.if-z-ltminus2147483648.false c.if-z-gt2147483647.false
