@@ -21,8 +21,8 @@ DROPPED = re.compile(
 
 
 def norm(name):
-    name = re.sub(r"^overflow[-_]", "", name)
-    return name.replace("-", "_").removesuffix("_lem")
+    name = re.sub(r"^overflow[-_]", "", name).replace("-", "_").removesuffix("_lem")
+    return re.sub(r"^slice_bounds_", "part_", name)
 
 
 class Walk:
@@ -72,17 +72,11 @@ def split_top(text, sep):
 class Term:
     def __init__(self, walk, place, notes, where, pre):
         self.walk, self.place, self.notes, self.where = walk, place, notes, where
-        self.alias = {"c": place}
+        self.alias = {"c"}
         self.pre = pre
 
     def note(self, text):
         self.notes.append(f"{self.where}: {text}")
-
-    def up(self, place, parts):
-        while parts and parts[0] == "before":
-            parts = parts[1:]
-            place = self.walk.parent[place] if place is not None else None
-        return place, parts
 
     def lets(self, text):
         """Takes out `let NAME = c.before.. in` where it names a place."""
@@ -95,8 +89,7 @@ class Term:
                     break
             if not found:
                 return text
-            place, _ = self.up(self.alias[found.group(2)], found.group(3).split(".")[1:])
-            self.alias[found.group(1)] = place
+            self.alias.add(found.group(1))
             text = text[: found.start()] + text[found.end():]
 
     def path(self, m):
@@ -104,10 +97,9 @@ class Term:
         if root not in self.alias:
             return m.group(0)
         w = self.walk
-        place, rest = self.up(self.alias[root], rest)
-        if place is None:
-            self.note(f"no place for {m.group(0)}")
-            return m.group(0)
+        place = self.place
+        while rest and rest[0] == "before":
+            rest = rest[1:]
         if not rest:
             self.note(f"a place is passed whole: {m.group(0)}")
             return "TODO-" + m.group(0)
@@ -121,6 +113,12 @@ class Term:
         q = place
         while q is not None and norm(w.step[q][0]) != norm(s):
             q = w.parent[q]
+        if q is None:
+            q, bare = place, {"type_inv": "typed"}.get(norm(s), norm(s)).rstrip("0123456789")
+            while q is not None and norm(w.step[q][0]).rstrip("0123456789") != bare:
+                q = w.parent[q]
+            if q is not None:
+                s = w.step[q][0]
         if q is None:
             self.note(f"no step {s} in {m.group(0)}")
             return "TODO-" + m.group(0)
@@ -207,6 +205,16 @@ def blocks(text):
     if cur:
         out.append("\n".join(cur).rstrip())
     return [b for b in out if b.strip()]
+
+
+def public(b):
+    """The same piece, with its name and a record's fields pub."""
+    b = re.sub(r"^(record|data) ", r"pub \1 ", b)
+    b = re.sub(r"^(abbrev|unfoldable) (?!pub )", r"\1 pub ", b)
+    b = re.sub(rf"^({NAME} :)", r"pub \1", b)
+    if b.startswith("pub record"):
+        b = re.sub(rf"^(  )(?!pub )({NAME} :)", r"\1pub \2", b, flags=re.M)
+    return b
 
 
 def turn(crate, folder, names, notes):
@@ -319,7 +327,7 @@ def turn(crate, folder, names, notes):
             if "c" not in binders:
                 cname = [x for x in binders if x not in ("κs", "t")]
                 if cname:
-                    term.alias[cname[0]] = place
+                    term.alias.add(cname[0])
             body = term.turn(body)
             fields = w.data["asked"].get(old)
             if fields:
@@ -337,7 +345,14 @@ def turn(crate, folder, names, notes):
         m = re.match(rf"(?:pub |abbrev |unfoldable |data |record )*({NAME})", b)
         if m:
             helper_names[m.group(1)] = b
-    shared = [b for n, b in helper_names.items() if re.search(rf"(?<![\w'.-]){re.escape(n)}(?![\w'-])", inv_text)]
+    shared, grown = [], inv_text
+    while True:
+        more = [b for n, b in helper_names.items() if b not in shared and re.search(rf"(?<![\w'.-]){re.escape(n)}(?![\w'-])", grown)]
+        if not more:
+            break
+        shared += more
+        grown += "\n".join(more)
+    shared = [b for b in helpers if b in shared]
     if shared:
         notes.append(f"{crate} {folder}: the invariant names helpers of the proof: {[n for n, b in helper_names.items() if b in shared]}")
     title = "\n".join(head)
@@ -376,7 +391,7 @@ def turn(crate, folder, names, notes):
             f"abbrev pub {n} : goal.{n}\n" + (f"{extra}\n" if extra and extra != "measure" else "") + f"{n} l = {b}" for n, b, extra in out_inv
         )
         if shared:
-            body = "\n\n".join(shared) + "\n\n" + body
+            body = "\n\n".join(public(b) for b in shared) + "\n\n" + body
         us = used([u if not any(u.startswith(f"use {md}.") for md in mods) else u for u in kept], body)
         with open(os.path.join(base, "Invariants.antt"), "w", encoding="utf-8") as f:
             f.write(title + "\n" + "".join(f"pub mod {md}\n" for md in mods) + "\n".join(us + [f"use {module}.Given as goal"]) + "\n\n" + body + "\n")

@@ -1,0 +1,5 @@
+-- A scan goes on as its first record asks, with one nesting less.
+use Rattle.formula.proofs.read.+scan.Given as goal
+
+abbrev pub decreases-scan : goal.decreases-scan
+decreases-scan l = a.1.1.1.0

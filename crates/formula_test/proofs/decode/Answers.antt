@@ -1,0 +1,23 @@
+-- The position stays within the line, and the count within the room.
+use Prim.Native.Nat.{◌-◌}
+use native.Mathlib.Omega.{arith}
+use lib.ListN.{length, length-set}
+use Rattle.formula_test.proofs.decode.Goals as goal
+
+pub shape_of-out-then-line-at-lt2 : goal.shape_of-out-then-line-at-lt2
+shape_of-out-then-line-at-lt2 c = c.loop-n.invariant.2
+
+pub overflow_mul-out : goal.overflow_mul-out
+overflow_mul-out c = omega (arith, c.digit.ensures)
+
+pub overflow_add-out : goal.overflow_add-out
+overflow_add-out c = omega (arith, c.digit.ensures, c.digit-in-loop-n.ensures)
+
+pub loop-n-smaller : goal.loop-n-smaller
+loop-n-smaller c = simp length-set (omega arith)
+
+pub loop-n-preserved : goal.loop-n-preserved
+loop-n-preserved c = simp length-set (omega arith)
+
+pub shape_of-out : goal.shape_of-out
+shape_of-out c = c.loop-n.invariant.2

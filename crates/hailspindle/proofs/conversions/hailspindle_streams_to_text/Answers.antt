@@ -1,0 +1,28 @@
+-- A base that is none is refused; with one, it is what `show` leaves.
+use mathlib.Core.Path.{sym, ap, ◌∙◌}
+use Rattle.rendering.specs.Rendering.{Rendering}
+use Rattle.hailspindle.specs.declared.bases.Read.{Read}
+use Rattle.hailspindle.specs.Replies.{noted, to_text_by, text_reply}
+use Rattle.hailspindle.proofs.conversions.hailspindle_streams_to_text.Goals as goal
+
+pub returns-in-No : goal.returns-in-No
+returns-in-No c = let given = c.args in
+    let q = sym c.in-No.is ∙ c.base_from.ensures in
+    let shown : Read → Rendering = λ k. to_text_by k given.elements.now given.lengths.now given.depth given.answer.now in let both = (
+      c.refuse.ensures.value ∙ ap (λ (k : Read). (text_reply (shown k).answer).number) q,
+      (
+        c.refuse.ensures.figures_after ∙ ap (λ (k : Read). noted (text_reply (shown k).answer).figures given.figures.now) q,
+        ap (λ (k : Read). (shown k).bytes) q,
+      ),
+    ) in record { value = both.0; figures_after = both.1; answer_after = both.2; }
+
+pub returns-in-Known : goal.returns-in-Known
+returns-in-Known c = let given = c.args in
+    let q = sym c.in-Known.is ∙ c.base_from.ensures in
+    let shown : Read → Rendering = λ k. to_text_by k given.elements.now given.lengths.now given.depth given.answer.now in let both = (
+      c.show.ensures.value ∙ ap (λ (k : Read). (text_reply (shown k).answer).number) q,
+      (
+        c.show.ensures.figures_after.0 ∙ ap (λ (k : Read). noted (text_reply (shown k).answer).figures given.figures.now) q,
+        c.show.ensures.figures_after.1 ∙ ap (λ (k : Read). (shown k).bytes) q,
+      ),
+    ) in record { value = both.0; figures_after = both.1; answer_after = both.2; }

@@ -1,0 +1,11 @@
+-- The answer of `streams_to_text` is the reply's.
+use mathlib.Core.Path.{sym, ap, ◌∙◌}
+use Rattle.rendering.specs.declared.showing.Written.{Written}
+use Rattle.hailspindle.specs.Replies.{noted, text_reply}
+use Rattle.hailspindle.proofs.conversions.show.Goals as goal
+
+pub returns-in-Refused : goal.returns-in-Refused
+returns-in-Refused c = let both = (c.refuse.ensures.value ∙ ap (λ (w : Written). (text_reply w).number) (sym c.in-Refused.is ∙ c.streams_to_text.ensures.value), (c.refuse.ensures.figures_after ∙ ap (λ (w : Written). noted (text_reply w).figures c.args.figures.now) (sym c.in-Refused.is ∙ c.streams_to_text.ensures.value), c.streams_to_text.ensures.answer_after)) in record { value = both.0; figures_after = both.1; answer_after = both.2; }
+
+pub returns-in-Bytes : goal.returns-in-Bytes
+returns-in-Bytes c = let both = (ap (λ (w : Written). (text_reply w).number) (sym c.in-Bytes.is ∙ c.streams_to_text.ensures.value), (c.one.ensures ∙ ap (λ (w : Written). noted (text_reply w).figures c.args.figures.now) (sym c.in-Bytes.is ∙ c.streams_to_text.ensures.value), c.streams_to_text.ensures.answer_after)) in record { value = both.0; figures_after = both.1; answer_after = both.2; }

@@ -1,0 +1,11 @@
+-- `negations::negate`: the walk of Turn.antt.
+pub mod Turn
+use Prim.Native.Nat.{◌-◌}
+use Turn.{Head}
+use Rattle.itemwise.proofs.negations.negate.Given as goal
+
+abbrev pub invariant-loop-i : goal.invariant-loop-i
+invariant-loop-i l = Head l.initial.buf l.out l.n l.at l.buf l.i
+
+abbrev pub decreases-loop-i : goal.decreases-loop-i
+decreases-loop-i l = l.n - l.i

@@ -1,0 +1,11 @@
+-- `pluses::add`: the walk of Turn.antt.
+pub mod Turn
+use Prim.Native.Nat.{◌-◌}
+use Turn.{Head}
+use Rattle.itemwise.proofs.pluses.add.Given as goal
+
+abbrev pub invariant-loop-i : goal.invariant-loop-i
+invariant-loop-i l = Head l.initial.buf l.out l.n l.at1 l.at2 l.buf l.i l.inside
+
+abbrev pub decreases-loop-i : goal.decreases-loop-i
+decreases-loop-i l = l.n - l.i

@@ -1,0 +1,88 @@
+-- The flags with their place, what follows them, and the place of the numbers (proofs/Iotas.antt).
+use Prim.Native.Nat.{◌+◌}
+use native.Mathlib.Omega.{arith}
+use Rattle.leaves.proofs.Operands.{sought}
+use Rattle.leaves.proofs.Iotas.{flags-ready, flags-push, flagged, iota-push, iota-runs, count-stopped, flags-stopped}
+use Rattle.leaves.proofs.iota.Goals as goal
+
+pub find-p-requires : goal.find-p-requires
+find-p-requires c = sought c.requires.scene c.requires.pointer c.requires.finds
+
+pub overflow_add-p : goal.overflow_add-p
+overflow_add-p c = omega (arith, (c.find-p.ensures (sought c.requires.scene c.requires.pointer c.requires.finds)).within)
+
+pub offset_bounds-env-p : goal.offset_bounds-env-p
+offset_bounds-env-p c = omega (arith, (c.find-p.ensures (sought c.requires.scene c.requires.pointer c.requires.finds)).within)
+
+pub bounds-env-p : goal.bounds-env-p
+bounds-env-p c = omega (arith, (c.find-p.ensures (sought c.requires.scene c.requires.pointer c.requires.finds)).within)
+
+pub overflow_cast-t : goal.overflow_cast-t
+overflow_cast-t c = omega (arith, c.slice_known-4-1.given (c.find-p.result + 2))
+
+pub make-requires : goal.make-requires
+make-requires c = (
+  _,
+  _,
+  flags-ready c.requires (c.find-p.ensures (sought c.requires.scene c.requires.pointer
+      c.requires.finds)) _,
+)
+
+pub push-requires : goal.push-requires
+push-requires c = let q = flags-push c.requires (c.find-p.ensures (sought c.requires.scene c.requires.pointer c.requires.finds)) _ (c.make.ensures _ _ (flags-ready c.requires (c.find-p.ensures (sought c.requires.scene c.requires.pointer
+    c.requires.finds)) _)) c.in-Made.is in (
+      omega (
+        arith,
+        c.requires.low,
+      ),
+      c.requires.scene.within,
+      q.0,
+      q.1,
+      q.2,
+      q.3,
+      q.4,
+    )
+
+pub count_up-requires : goal.count_up-requires
+count_up-requires c = (
+  _,
+  _,
+  _,
+  flagged c.requires (c.find-p.ensures (sought c.requires.scene c.requires.pointer c.requires.finds)) _ (c.make.ensures _ _ (flags-ready c.requires (c.find-p.ensures (sought c.requires.scene c.requires.pointer c.requires.finds)) _)) c.in-Made.is c.push.ensures,
+)
+
+pub overflow_sub-sp : goal.overflow_sub-sp
+overflow_sub-sp c = omega (
+  arith,
+  c.requires.low,
+)
+
+pub push-requires-in-Made-count_up : goal.push-requires-in-Made-count_up
+push-requires-in-Made-count_up c = let q = iota-push c.requires (c.find-p.ensures (sought c.requires.scene c.requires.pointer c.requires.finds)) _ (c.make.ensures _ _ (flags-ready c.requires (c.find-p.ensures (sought c.requires.scene c.requires.pointer c.requires.finds)) _)) c.in-Made.is c.push.ensures c.make.auto.buf (c.count_up.ensures _ _ _ (flagged c.requires (c.find-p.ensures (sought c.requires.scene c.requires.pointer c.requires.finds)) _ (c.make.ensures _ _ (flags-ready c.requires (c.find-p.ensures (sought c.requires.scene c.requires.pointer c.requires.finds)) _)) c.in-Made.is c.push.ensures)) c.in-Made-count_up.is in (
+  omega (
+    arith,
+    c.requires.low,
+  ),
+  omega (
+    arith,
+    c.count_up.auto.env,
+    c.push.auto.env,
+    c.requires.scene.within,
+  ),
+  q.0,
+  q.1,
+  q.2,
+  q.3,
+  q.4,
+)
+
+pub returns-in-Made-count_up : goal.returns-in-Made-count_up
+returns-in-Made-count_up c = λ g. iota-runs g (c.find-p.ensures (sought g.scene g.pointer g.finds)) _ (c.make.ensures _ _ (flags-ready g (c.find-p.ensures (sought g.scene g.pointer g.finds)) _)) c.in-Made.is c.push.ensures c.make.auto.buf (c.count_up.ensures _
+    _ _ (flagged g (c.find-p.ensures (sought g.scene g.pointer g.finds))
+    _ (c.make.ensures _ _ (flags-ready g (c.find-p.ensures (sought g.scene g.pointer g.finds)) _)) c.in-Made.is c.push.ensures)) c.in-Made-count_up.is _ c.count_up.auto.env c.push-in-Made-count_up.ensures
+
+pub returns-in-Stopped-count_up : goal.returns-in-Stopped-count_up
+returns-in-Stopped-count_up c = λ g. count-stopped g (c.find-p.ensures (sought g.scene g.pointer g.finds)) _ (c.make.ensures _ _ (flags-ready g (c.find-p.ensures (sought g.scene g.pointer g.finds)) _)) c.in-Made.is c.push.ensures c.make.auto.buf (c.count_up.ensures _ _ _ (flagged g (c.find-p.ensures (sought g.scene g.pointer g.finds)) _ (c.make.ensures _ _ (flags-ready g (c.find-p.ensures (sought g.scene g.pointer g.finds)) _)) c.in-Made.is c.push.ensures)) _ c.in-Stopped-count_up.is
+
+pub returns-in-Stopped : goal.returns-in-Stopped
+returns-in-Stopped c = λ g. flags-stopped g (c.find-p.ensures (sought g.scene g.pointer g.finds)) _ (c.make.ensures _ _ (flags-ready g (c.find-p.ensures (sought g.scene g.pointer g.finds)) _)) _ c.in-Stopped.is

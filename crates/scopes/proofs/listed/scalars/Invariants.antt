@@ -1,0 +1,12 @@
+-- Each variable that was passed by is a scalar.
+use Prim.Native.Nat.{◌-◌}
+use Rattle.scopes.specs.Scopes.{scope}
+use Rattle.scopes.specs.UsingLists.{scalars_in}
+use Rattle.scopes.proofs.Listing.{Passing}
+use Rattle.scopes.proofs.listed.scalars.Given as goal
+
+abbrev pub invariant-loop-i : goal.invariant-loop-i
+invariant-loop-i l = Passing l.bytes (scalars_in (scope l.sp l.floor l.env)) l.at l.count l.i
+
+abbrev pub decreases-loop-i : goal.decreases-loop-i
+decreases-loop-i l = l.count - l.i

@@ -1,0 +1,42 @@
+-- Measured, and written where it fits.
+use native.Mathlib.Omega.{arith}
+use Rattle.sheet.proofs.Answering.{words-within, shallow, four, value-stands, too_long, written}
+use Rattle.sheet.proofs.result.show.Goals as goal
+
+pub overflow_add-depth : goal.overflow_add-depth
+overflow_add-depth c = omega (arith, shallow c.args.base c.args.depth c.requires)
+
+pub tree_starts-requires : goal.tree_starts-requires
+tree_starts-requires c = (words-within c.args.base c.args.depth c.requires, omega (arith, shallow c.args.base c.args.depth c.requires))
+
+pub overflow_cast-depth : goal.overflow_cast-depth
+overflow_cast-depth c = omega (arith, shallow c.args.base c.args.depth c.requires)
+
+pub value_text-bytes-requires : goal.value_text-bytes-requires
+value_text-bytes-requires c = let starts = c.tree_starts in
+    value-stands c.args.base c.args.depth c.requires starts.new.1.1.1.0 starts.ensures starts.auto.1.1.1.0
+
+pub returns-then-bytes-answer : goal.returns-then-bytes-answer
+returns-then-bytes-answer c = let starts = c.tree_starts in
+    λ g. too_long c.args.base c.args.depth g starts.new.1.1.1.0 starts.ensures c.value_text-bytes.ensures c.args.answer.now c.if-bytes-answer.true
+
+pub overflow_cast-depth-2 : goal.overflow_cast-depth-2
+overflow_cast-depth-2 c = omega (arith, shallow c.args.base c.args.depth c.requires)
+
+pub value_text-room-requires : goal.value_text-room-requires
+value_text-room-requires c = let starts = c.tree_starts in
+    value-stands c.args.base c.args.depth c.requires starts.new.1.1.1.0 starts.ensures starts.auto.1.1.1.0
+
+pub bounds-state-1 : goal.bounds-state-1
+bounds-state-1 c = omega (arith, four c.requires)
+
+pub bounds-state-2 : goal.bounds-state-2
+bounds-state-2 c = omega (arith, four c.requires)
+
+pub bounds-state-3 : goal.bounds-state-3
+bounds-state-3 c = omega (arith, four c.requires)
+
+pub returns : goal.returns
+returns c = let starts = c.tree_starts in
+    λ g.
+    written c.args.base c.args.depth g starts.new.1.1.1.0 starts.ensures c.value_text-bytes.ensures c.args.answer.now c.value_text-room.new.answer c.if-bytes-answer.false c.value_text-room.ensures

@@ -1,0 +1,29 @@
+-- Refused by 1 to 7, or executed on the used part: either way the demands are kept, and `exact` follows from them alone.
+use mathlib.Core.Path.{sym, ◌∙◌}
+use native.Mathlib.Omega.{arith}
+use lib.ListN.{replicate}
+use lib.Seq.{length-take-le}
+use Rattle.sheet.specs.declared.Ran.TheVariants.{Refused}
+use Rattle.sheet.proofs.Admitting.{turned, taken_in}
+use Rattle.sheet.proofs.Performing.{counted_of}
+use Rattle.sheet.proofs.OneAnswer.{exacted}
+use Rattle.sheet.proofs.Whole.{kept-untouched, kept_whole}
+use Rattle.sheet.proofs.running.run.Goals as goal
+
+pub slice_bounds-execute-end-in-Admitted-2 : goal.slice_bounds-execute-end-in-Admitted-2
+slice_bounds-execute-end-in-Admitted-2 c = sym (length-take-le c.used_part-used.result c.args.streams.now (omega (arith, c.used_part-used.ensures)))
+
+pub execute-requires : goal.execute-requires
+execute-requires c = let taken = taken_in c.args.job.now c.in-Admitted.task (sym c.in-Admitted.is ∙ c.admit.ensures.value) in
+    let long = length-take-le c.used_part-used.result c.args.streams.now (omega (arith, c.used_part-used.ensures)) in record { admitted = (taken.0, counted_of taken.0 (replicate 144 0) c.admit.ensures.counts_after (omega arith) c.admit.auto.counts); task_bound = (taken.1, omega (arith, long, c.used_part-used.ensures)); }
+
+pub returns-in-Refused : goal.returns-in-Refused
+returns-in-Refused c = let refusal = c.refusal-1.given in
+    let k = kept-untouched refusal.0.0 c.args.streams.now c.args.answer.now (turned c.args.job.now refusal.0.0 (sym refusal.1 ∙ c.admit.ensures.value)) in let both = search (k, exacted (Refused refusal.0.0) k) in record { exact = both.0; demands = both.1; }
+
+pub returns-in-Admitted : goal.returns-in-Admitted
+returns-in-Admitted c = let executed = c.execute in
+    let streams = c.args.streams.now in
+    let used = c.used_part-used in
+    let long = length-take-le used.result streams (omega (arith, used.ensures)) in
+    let k = kept_whole streams executed.new.1.1.1.0 used.result used.ensures long executed.auto.1.1.1.0 executed.result executed.ensures in let both = search (k, exacted executed.result k) in record { exact = both.0; demands = both.1; }

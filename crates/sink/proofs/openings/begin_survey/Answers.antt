@@ -1,0 +1,30 @@
+-- The three words that are stored.
+use native.Mathlib.Omega.{arith}
+use lib.ListN.{length-set}
+use Rattle.sink.proofs.Sinking as sinking
+use borrow.Author.Rules.{rules}
+use Rattle.sink.proofs.openings.begin_survey.Goals as goal
+
+-- src/openings.rt:61:14
+slice-read-id : tie.Need-slice-read-id
+slice-read-id c = omega (arith, sinking.long c.before.requires.2)
+
+-- src/openings.rt:62:5
+slice-write-state : tie.Need-slice-write-state
+slice-write-state c = omega (arith, sinking.long c.before.requires.2)
+
+-- src/openings.rt:63:5
+slice-write-state-2 : tie.Need-slice-write-state-2
+slice-write-state-2 c = simp length-set (omega (arith, sinking.long c.before.requires.2))
+
+-- src/openings.rt:64:5
+slice-write-state-3 : tie.Need-slice-write-state-3
+slice-write-state-3 c = simp length-set (omega (arith, sinking.long c.before.requires.2))
+
+-- src/openings.rt:57:1
+same_length : tie.Need-same-length
+same_length c = search rules
+
+-- src/openings.rt:57:1
+returns : tie.Need-returns
+returns c = λ text k s. sinking.survey-begun s _
