@@ -209,10 +209,10 @@ def blocks(text):
 
 def public(b):
     """The same piece, with its name and a record's fields pub."""
-    b = re.sub(r"^(record|data) ", r"pub \1 ", b)
-    b = re.sub(r"^(abbrev|unfoldable) (?!pub )", r"\1 pub ", b)
-    b = re.sub(rf"^({NAME} :)", r"pub \1", b)
-    if b.startswith("pub record"):
+    b = re.sub(r"^(record|data) ", r"pub \1 ", b, flags=re.M)
+    b = re.sub(r"^(abbrev|unfoldable) (?!pub )", r"\1 pub ", b, flags=re.M)
+    b = re.sub(rf"^({NAME} :)", r"pub \1", b, flags=re.M)
+    if re.search("^pub record", b, re.M):
         b = re.sub(rf"^(  )(?!pub )({NAME} :)", r"\1pub \2", b, flags=re.M)
     return b
 
@@ -342,7 +342,7 @@ def turn(crate, folder, names, notes):
     pub_helpers = []
     helper_names = {}
     for b in helpers:
-        m = re.match(rf"(?:pub |abbrev |unfoldable |data |record )*({NAME})", b)
+        m = re.match(rf"(?:--[^\n]*\n)*(?:pub |abbrev |unfoldable |data |record )*({NAME})", b)
         if m:
             helper_names[m.group(1)] = b
     shared, grown = [], inv_text

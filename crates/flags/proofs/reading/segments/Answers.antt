@@ -2,7 +2,7 @@
 use Prim.Native.Nat.{ℕ, ◌+◌, ◌-◌, ◌≤◌, ◌<◌, ◌^◌}
 use mathlib.Core.Bool.{Bool, true, false}
 use mathlib.Core.List.{List, [], ◌∷◌}
-use mathlib.Core.Option.{Option, none}
+use mathlib.Core.Option.{none}
 use mathlib.Core.Path.{◌≡◌, refl, sym, ◌∙◌, ap}
 use native.Mathlib.Numerals.{add-one}
 use native.Mathlib.Omega.{arith}
@@ -19,13 +19,8 @@ use Rattle.flags.specs.Flags.{shape_for}
 use Rattle.flags.specs.declared.reading.Shape.TheVariants.{Whole, Ragged}
 use Rattle.flags.proofs.Clauses as clause
 use Rattle.flags.proofs.Stored.{zero_flag, one-flag, no_flag}
-use Rattle.flags.proofs.reading.segments.Invariants.{Head}
+use Rattle.flags.proofs.reading.segments.Invariants.{told, Head}
 use Rattle.flags.proofs.reading.segments.Goals as goal
-
--- what is told of flags, so far clean or not
-abbrev told : (clean : Bool) → Option ℕ → Option ℕ
-told true o = o
-told false o = none
 
 begin : {buf : List ℤ} {at len : ℕ} → at + len ≤ length buf → Head buf at len 0 0 false true
 begin h = record { within = h; few = omega arith; flags = omega arith; same = refl }

@@ -1,20 +1,15 @@
 -- `writing::put_segment`: the F's one by one, then the T.
 use Prim.Native.Nat.{ℕ, suc, ◌+◌, ◌-◌, ◌≤◌, ◌<◌}
 use mathlib.Core.Bool.{true, false}
-use mathlib.Core.List.{List, [], ◌∷◌, ◌++◌, map}
+use mathlib.Core.List.{List}
 use mathlib.Core.Path.{◌≡◌, refl, ◌∙◌, ap}
 use native.Mathlib.Omega.{arith}
 use lib.IntN.{ℤ, pos}
-use lib.ListN.{length, replicate, set, length-set}
+use lib.ListN.{length, set, length-set}
 use lib.Seq.{sets}
 use Rattle.laws.proofs.Emits as E
-use Rattle.snesl.specs.Streams.{bit}
-use Rattle.flags.proofs.writing.put_segment.Invariants.{Head}
+use Rattle.flags.proofs.writing.put_segment.Invariants.{rest, Head}
 use Rattle.flags.proofs.writing.put_segment.Goals as goal
-
--- what is still to come
-abbrev rest : ℕ → List ℤ
-rest m = map bit (replicate m false ++ true ∷ [])
 
 begin : {old : List ℤ} {at n : ℕ} → at + n < length old → Head old at n old 0
 begin {old} {at} {n} h = let e : n ≡ n - 0 = omega arith in record { room = h; made = omega arith; emits = E.again E.start (ap rest e) }

@@ -1,10 +1,17 @@
 -- `writing::put_segment`: the F's one by one, then the T.
 use Prim.Native.Nat.{ℕ, ◌+◌, ◌-◌, ◌≤◌, ◌<◌}
-use mathlib.Core.List.{List}
+use mathlib.Core.Bool.{true, false}
+use mathlib.Core.List.{List, [], ◌∷◌, ◌++◌, map}
+use mathlib.Core.Path.{ap}
 use lib.IntN.{ℤ}
-use lib.ListN.{length}
+use lib.ListN.{length, replicate}
 use Rattle.laws.proofs.Emits.{Emits}
+use Rattle.snesl.specs.Streams.{bit}
 use Rattle.flags.proofs.writing.put_segment.Given as goal
+
+-- what is still to come
+abbrev pub rest : ℕ → List ℤ
+rest m = map bit (replicate m false ++ true ∷ [])
 
 pub record Head (old : List ℤ) (at n : ℕ) (buf : List ℤ) (i : ℕ) : Type 0 where
   pub room : at + n < length old
