@@ -67,6 +67,11 @@ calls-once calls-negation calls-negation h = h
 calls-once calls-sum calls-sum h = h
 
 called : {ρ : Env Value} {e : Raw} {φ : BuiltIn} {xs : List Variable} {v : Value} → Calls e φ xs → Evaluates ρ e v → OfCall ρ φ xs v
+called c (evaluates-var _) = elim c [ ]
+called c (evaluates-let _ _) = elim c [ ]
+called c (evaluates-each _ _ _) = elim c [ ]
+called c (evaluates-guard-T _ _ _) = elim c [ ]
+called c (evaluates-guard-F _) = elim c [ ]
 called c (evaluates-call c' m g) = calls-once c c' (of-call m g)
 
 call-once : {ρ : Env Value} {φ : BuiltIn} {xs : List Variable} {v w : Value} → OfCall ρ φ xs v → OfCall ρ φ xs w → v ≡ w

@@ -25,6 +25,7 @@ data Seen : List Variable → Env ValueType → Type 0 where
 
 unseen : {xs : List Variable} {Γ : Env ValueType} → Seen xs Γ → (x : Variable) → names x xs ≡ false → (τ : ValueType) → Maps Γ x τ → ⊥
 unfolding names
+unseen seen_none x q τ m = elim m [ ]
 unseen (seen_more {x = y} {xs = xs} s) x q τ (newest e) = go (same x y) refl q
   where
     go : (b : Bool) → same x y ≡ b → (b || names x xs) ≡ false → ⊥

@@ -160,7 +160,7 @@ mix-old outs τ σ u h = go (member u outs) refl
 
 -- ---- a mapping that has what a list has at known ids
 
-fetched : {ids ss : List ℕ} {σ : Stores} {τ : Store} {xs : List Stream} → Agree ids σ τ → Within ss ids → Fetches (λ s. τ ! s) ss xs → Fetches σ ss xs
+fetched : {ids : List ℕ} {σ : Stores} {τ : Store} {ss : List ℕ} {xs : List Stream} → Agree ids σ τ → Within ss ids → Fetches (λ s. τ ! s) ss xs → Fetches σ ss xs
 fetched a w fetches-none = fetches-none
 fetched a w (fetches-more {s = s} q f) = fetches-more (a.agree s (w s (Memᴰ.head refl)) ∙ q) (fetched a (λ u h. w u (Memᴰ.tail h)) f)
 

@@ -97,6 +97,10 @@ calls-once calls-negation calls-negation h = h
 calls-once calls-sum calls-sum h = h
 
 called : {e : Raw} {φ : BuiltIn} {xs : List Variable} {δ : Env STree} {s₀ s₁ : ℕ} {p : Svcode} {st : STree} → Calls e φ xs → Translates δ e s₀ s₁ p st → OfCall δ φ xs s₀ s₁ p st
+called c (translates-var _ _) = elim c [ ]
+called c (translates-let _ _) = elim c [ ]
+called c (translates-each _ _ _ _ _) = elim c [ ]
+called c (translates-guard _ _ _ _ _ _ _) = elim c [ ]
 called c (translates-call c' m b) = calls-once c c' (of-call m b)
 
 call-once : {φ : BuiltIn} {xs : List Variable} {δ : Env STree} {s₀ s s' : ℕ} {p p' : Svcode} {st st' : STree}

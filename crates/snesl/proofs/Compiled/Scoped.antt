@@ -164,7 +164,7 @@ scoped-packs {b = b} {ks = ks} (v ∷ us) δ s h all =
     let t = lookup v.1 δ in
     let made = dv s (pack_code b t s) in
     scoped-seq (scoped-pack t s h (λ u m. all u (ids-lookup v.1 δ u m))) (ap (λ k. s + k) (count-pack b t s))
-    (scoped-packs us δ (s + pack_size (depth_of v.0)) (Memᴰ.append_right made h) (λ u m. Memᴰ.append_right made (all u m)))
+    (scoped-packs {ks = made ++ ks} us δ (s + pack_size (depth_of v.0)) (Memᴰ.append_right made h) (λ u m. Memᴰ.append_right made (all u m)))
 
 scoped-gate : {Γ : List ValueType} {ks : List ℕ} (g : Γ ∋ bool) (us : Listing Γ) (δ : All IdTree Γ) (s : ℕ) → Within (ids_of δ) ks → Scoped ks s (gate g us δ s)
 scoped-gate g us δ s all =

@@ -135,8 +135,8 @@ split {s} done q from w =
       rest-well = subst (λ k. WellFormed k q) (sym (add-zero s) ∙ from) w;
       parted = λ u m n. Memᴰ.not-nil m;
     }
-split (define t p) q from w = split-define (omega arith) (split p q (omega arith)) w
-split (with_ctrl outs c ins b p) q from w = split-with_ctrl (omega arith) (split p q (omega arith)) w
+split {s = s} (define t p) q from w = split-define (omega arith) (split {s = suc s} p q (omega arith)) w
+split {s = s} (with_ctrl outs c ins b p) q from w = split-with_ctrl (omega arith) (split {s = s + count b} p q (omega arith)) w
 
 pub well-seq-iff : {s a : ℕ} (p q : Program) → s + count p ≡ a
     → WellFormed s (p ⨾ q) ↔ (WellFormed s p × WellFormed a q × Apart (fv s p ++ dv s p) (dv a q))
@@ -277,7 +277,7 @@ well-packs {b = b} {s = s} (v ∷ us) δ low below =
     let n = pack_size (depth_of v.0) in
     let t = lookup v.1 δ in
     well-seq (well-pack t low (λ u m. below u (ids-lookup v.1 δ u m))) (ap (λ k. s + k) (count-pack b t s))
-    (well-packs us δ (omega arith) (λ u m. let l = below u m in omega arith))
+    (well-packs {s = s + n} us δ (omega arith) (λ u m. let l = below u m in omega arith))
     (apart-at (s + n) (below-append (λ u m. ⊎_elim (λ e. omega arith) (λ k. let l = below u (ids-lookup v.1 δ u k) in omega arith) (Memᴰ.cases_cons (free-pack b t s u m))) (λ u m. (defined-pack b t s m).1))
     (λ u m. (defined-packs b us δ (s + n) m).0))
 

@@ -80,5 +80,7 @@ module _ {A B : Type 0} (f : A → Option B) where
           → Flattened (l ∷ ls) (and_then o (λ b. and_then os (λ bs. some (b ∷ bs)))) (and_then o (λ bs. and_then p (λ cs. some (bs ++ cs))))
       go none os p q h = neither
       go (some b) none none q neither = neither
+      go (some b) none (some cs) q h = elim h [ ]
+      go (some b) (some rs) none q h = elim h [ ]
       go (some b) (some rs) (some cs) q (flat h) =
           flat {rs = b ∷ rs} (rw (each-length f (each_of f l q), h))

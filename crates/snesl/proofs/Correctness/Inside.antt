@@ -52,6 +52,7 @@ module _ {Γ : List ValueType} {υ : ValueType} (y : Γ ∋ braces υ) (ρs : Li
       → {τ : ValueType} (x : listed_types (any_type us) ∋ τ)
       → Holds (σ ++ copies us) τ (lookup x (numbered s us)) (concat (map (λ ρ. map (λ v. lookup x (listed (any_type us) ρ)) (lookup y ρ)) ρs))
   unfolding lookup numbered listed
+  numbered-hold [] σ s h {τ = τ} x = elim x [ ]
   numbered-hold (u ∷ us) σ s h here =
       holds-leaf
       (subst (λ s. (σ ++ copied u ∷ copies us) ! s ≡ some (copied u)) h (get_elem?-append-seam σ (copied u) (copies us)))

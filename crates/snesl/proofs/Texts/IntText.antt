@@ -28,8 +28,8 @@ int_by accept t =
       | false ↦ provided (well_digited t) (accept (digits 0 t) (some (pos (number_from 0 t))))
     ]
 
-pub read_int : (t : List ℕ) → read_int t ≡ int_by ranged t
-read_int t = go (eqb (get_or t 0 0) minus) (well_digited (drop 1 t)) (well_digited t)
+pub read-int : (t : List ℕ) → read_int t ≡ int_by ranged t
+read-int t = go (eqb (get_or t 0 0) minus) (well_digited (drop 1 t)) (well_digited t)
   where
     signed : Option (ℤ × ℕ)
     signed = ranged (1 + digits 0 (drop 1 t)) (negated (number_from 0 (drop 1 t)))

@@ -17,7 +17,7 @@ use Rattle.snesl.specs.declared.code.Base.TheVariants as base
 use Rattle.snesl.specs.Values.{ValueType, scalar, braces, int, Element, Val, in_range, EachInt, InRange, Each, each_none, each_more}
 use Rattle.snesl.specs.Text.{close_brace, show_int, show, is_digit, ranged, read_list, read_bool, read_value, value_of}
 use Rattle.snesl.proofs.Texts.Reading.{Begun, Complete, Sound}
-use Rattle.snesl.proofs.Texts.IntText.{int_by, read_int, int-opens, int-complete, int-sound}
+use Rattle.snesl.proofs.Texts.IntText.{int_by, read-int, int-opens, int-complete, int-sound}
 use Rattle.snesl.proofs.Texts.BoolText.{bool-opens, bool-complete, bool-sound}
 use Rattle.snesl.proofs.Texts.ListText.{list-complete, list-sound}
 
@@ -72,7 +72,7 @@ ranged-tested k z v n h = go (in_range z) refl
 
 value-reader : (τ : ValueType) (t : List ℕ) → read_value τ t ≡ read_by (int_by ranged) τ t
 unfolding read_value
-value-reader (scalar base.Int) t = read_int t
+value-reader (scalar base.Int) t = read-int t
 value-reader (scalar base.Bool) t = refl
 value-reader (braces τ) t = ap (λ item. read_list item t) (fun_ext (value-reader τ))
 
