@@ -129,6 +129,9 @@ class Term:
                 for new, old, path in arm[2]:
                     if norm(old) == norm(s) and path and r[: len(path)] == path:
                         return "c." + ".".join([arm[0], new] + r[len(path):])
+                for new, old, path in arm[2]:
+                    if norm(old) == norm(s) and not path and r and (r[0] == "rest" or r[0].startswith("keys")):
+                        return "c." + ".".join([arm[0], new] + r)
             if x == q:
                 break
             x = w.parent[x]

@@ -36,4 +36,4 @@ pub returns-in-Usum : goal.returns-in-Usum
 returns-in-Usum c = λ b. sym (ap (λ t. taking (signature b t).output c.args.made) c.in-Usum.is)
 
 pub returns-in_default : goal.returns-in_default
-returns-in_default c = all c.args.t c.in_default.keys2 c.args.made
+returns-in_default c = all c.args.t c.in_default.in_default-own.keys2 c.args.made

@@ -71,13 +71,13 @@ pub step-requires : goal.step-requires
 step-requires t c = (c.requires.1.order, c.requires.1.high)
 
 pub enum_known-refusal : goal.enum_known-refusal
-enum_known-refusal t c = c.in-Refused.keys1
+enum_known-refusal t c = c.in-Refused.in-Refused-own.keys1
 
 pub enum_known-next : goal.enum_known-next
-enum_known-next t c = c.in-Found.keys2
+enum_known-next t c = c.in-Found.in-Found-own.keys2
 
 pub enum_known-x : goal.enum_known-x
-enum_known-x t c = c.in-Let.keys3
+enum_known-x t c = c.in-Let.in-Let-own.keys3
 
 pub overflow_add-k : goal.overflow_add-k
 overflow_add-k t c = omega (
@@ -107,10 +107,10 @@ walk-requires t c = (
 )
 
 pub enum_known-refusal-in-Refused-walk : goal.enum_known-refusal-in-Refused-walk
-enum_known-refusal-in-Refused-walk t c = c.in-Refused-walk.keys1
+enum_known-refusal-in-Refused-walk t c = c.in-Refused-walk.in-Refused-walk-own.keys1
 
 pub enum_known-next-in-Found-walk : goal.enum_known-next-in-Found-walk
-enum_known-next-in-Found-walk t c = c.in-Found-walk.keys2
+enum_known-next-in-Found-walk t c = c.in-Found-walk.in-Found-walk-own.keys2
 
 pub push-inner-requires : goal.push-inner-requires
 push-inner-requires t c = omega (
@@ -149,7 +149,7 @@ pub bound-requires : goal.bound-requires
 bound-requires t c = inner-few c.requires.1 c.walk-second.ensures
 
 pub enum_known-x-in-Each-1 : goal.enum_known-x-in-Each-1
-enum_known-x-in-Each-1 t c = c.in-Each.keys4
+enum_known-x-in-Each-1 t c = c.in-Each.in-Each-own.keys4
 
 pub prepare-requires : goal.prepare-requires
 prepare-requires t c = let both = omega (
@@ -163,10 +163,10 @@ prepare-requires t c = let both = omega (
 ) in record { fact_1 = both.0; fact_2 = both.1; }
 
 pub enum_known-refusal-in-Refused-prepare : goal.enum_known-refusal-in-Refused-prepare
-enum_known-refusal-in-Refused-prepare t c = c.in-Refused-prepare.keys1
+enum_known-refusal-in-Refused-prepare t c = c.in-Refused-prepare.in-Refused-prepare-own.keys1
 
 pub enum_known-inner : goal.enum_known-inner
-enum_known-inner t c = c.in-Scope.keys2
+enum_known-inner t c = c.in-Scope.in-Scope-own.keys2
 
 pub overflow_add-element : goal.overflow_add-element
 overflow_add-element t c = omega (
@@ -224,7 +224,7 @@ close-requires t c = record { fact_1 = inner-few c.requires.1 c.walk-body.ensure
       (sym c.in-Each.is ∙ c.step.ensures)).3; }
 
 pub enum_known-g : goal.enum_known-g
-enum_known-g t c = c.in-Guard.keys5
+enum_known-g t c = c.in-Guard.in-Guard-own.keys5
 
 pub prepare_guard-requires : goal.prepare_guard-requires
 prepare_guard-requires t c = let both = omega (
@@ -238,10 +238,10 @@ prepare_guard-requires t c = let both = omega (
 ) in record { fact_1 = both.0; fact_2 = both.1; }
 
 pub enum_known-refusal-in-Refused-prepare_guard : goal.enum_known-refusal-in-Refused-prepare_guard
-enum_known-refusal-in-Refused-prepare_guard t c = c.in-Refused-prepare_guard.keys1
+enum_known-refusal-in-Refused-prepare_guard t c = c.in-Refused-prepare_guard.in-Refused-prepare_guard-own.keys1
 
 pub enum_known-inner-in-Scope-prepare_guard : goal.enum_known-inner-in-Scope-prepare_guard
-enum_known-inner-in-Scope-prepare_guard t c = c.in-Scope-prepare_guard.keys2
+enum_known-inner-in-Scope-prepare_guard t c = c.in-Scope-prepare_guard.in-Scope-prepare_guard-own.keys2
 
 pub listed_size-size-requires : goal.listed_size-size-requires
 listed_size-size-requires t c = size-asked c.requires.1

@@ -11,10 +11,10 @@ pub enter-requires : goal.enter-requires
 enter-requires c = record { fact_1 = declared-here c.args.bytes.now c.args.formula c.requires; fact_2 = omega (arith, few-inputs c.args.bytes.now c.args.formula c.requires); }
 
 pub enum_known-refusal : goal.enum_known-refusal
-enum_known-refusal c = c.in-Refused.keys1
+enum_known-refusal c = c.in-Refused.in-Refused-own.keys1
 
 pub enum_known-sp : goal.enum_known-sp
-enum_known-sp c = c.in-Scope.keys2
+enum_known-sp c = c.in-Scope.in-Scope-own.keys2
 
 pub slice_bounds-walk-end : goal.slice_bounds-walk-end
 slice_bounds-walk-end c = sym c.enter.auto.env
@@ -25,10 +25,10 @@ walk-requires c = walk-asked c.args.bytes.now c.args.formula c.requires
     c.enter.auto.env
 
 pub enum_known-refusal-in-Refused-walk : goal.enum_known-refusal-in-Refused-walk
-enum_known-refusal-in-Refused-walk c = c.in-Refused-walk.keys1
+enum_known-refusal-in-Refused-walk c = c.in-Refused-walk.in-Refused-walk-own.keys1
 
 pub enum_known-word : goal.enum_known-word
-enum_known-word c = c.in-Found.keys2
+enum_known-word c = c.in-Found.in-Found-own.keys2
 
 pub returns-in-Refused : goal.returns-in-Refused
 returns-in-Refused c = entry-refused c.args.bytes.now c.args.formula c.requires

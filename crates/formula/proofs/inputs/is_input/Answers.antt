@@ -6,4 +6,4 @@ pub returns-in-18766 : goal.returns-in-18766
 returns-in-18766 c = marks-input _ c.in-18766.is
 
 pub returns-in_default : goal.returns-in_default
-returns-in_default c = marks-other _ c.in_default.rest.1
+returns-in_default c = marks-other _ c.in_default.in_default-own.rest.1

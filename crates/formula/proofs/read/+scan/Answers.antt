@@ -39,16 +39,16 @@ pub +scan-spec : {M : Type 1} → statement M
     (scan-returns-5 t)
 
 pub enum_known-refusal : goal.enum_known-refusal
-enum_known-refusal t c = c.in-Refused.keys1
+enum_known-refusal t c = c.in-Refused.in-Refused-own.keys1
 
 pub enum_known-next : goal.enum_known-next
-enum_known-next t c = c.in-Leaf.keys2
+enum_known-next t c = c.in-Leaf.in-Leaf-own.keys2
 
 pub overflow_add-result : goal.overflow_add-result
 overflow_add-result t c = omega (arith, (scan-by c.args.bytes.now c.args.k c.args.n c.args.levels c.asked.ensures (sym c.in-Leaf.is ∙ c.admit.ensures)).0)
 
 pub enum_known-next-in-Let-1 : goal.enum_known-next-in-Let-1
-enum_known-next-in-Let-1 t c = c.in-Let.keys3
+enum_known-next-in-Let-1 t c = c.in-Let.in-Let-own.keys3
 
 pub overflow_add-n : goal.overflow_add-n
 overflow_add-n t c = omega (arith, (scan-by c.args.bytes.now c.args.k c.args.n c.args.levels c.asked.ensures (sym c.in-Let.is ∙ c.admit.ensures)).0)
@@ -60,10 +60,10 @@ pub scan-requires : goal.scan-requires
 scan-requires t c = (omega (arith, (scan-by c.args.bytes.now c.args.k c.args.n c.args.levels c.asked.ensures (sym c.in-Let.is ∙ c.admit.ensures)).1), tt)
 
 pub enum_known-refusal-in-Refused-scan : goal.enum_known-refusal-in-Refused-scan
-enum_known-refusal-in-Refused-scan t c = c.in-Refused-scan.keys1
+enum_known-refusal-in-Refused-scan t c = c.in-Refused-scan.in-Refused-scan-own.keys1
 
 pub enum_known-body : goal.enum_known-body
-enum_known-body t c = c.in-Found.keys2
+enum_known-body t c = c.in-Found.in-Found-own.keys2
 
 pub overflow_sub-levels-in-Found : goal.overflow_sub-levels-in-Found
 overflow_sub-levels-in-Found t c = omega (arith, (scan-by c.args.bytes.now c.args.k c.args.n c.args.levels c.asked.ensures (sym c.in-Let.is ∙ c.admit.ensures)).1)
@@ -72,7 +72,7 @@ pub scan-requires-in-Found : goal.scan-requires-in-Found
 scan-requires-in-Found t c = (omega (arith, (scan-by c.args.bytes.now c.args.k c.args.n c.args.levels c.asked.ensures (sym c.in-Let.is ∙ c.admit.ensures)).1), tt)
 
 pub enum_known-next-in-Nested-1 : goal.enum_known-next-in-Nested-1
-enum_known-next-in-Nested-1 t c = c.in-Nested.keys4
+enum_known-next-in-Nested-1 t c = c.in-Nested.in-Nested-own.keys4
 
 pub overflow_add-n-in-Nested : goal.overflow_add-n-in-Nested
 overflow_add-n-in-Nested t c = omega (arith, (scan-by c.args.bytes.now c.args.k c.args.n c.args.levels c.asked.ensures (sym c.in-Nested.is ∙ c.admit.ensures)).0)

@@ -17,4 +17,4 @@ pub returns-in-1 : goal.returns-in-1
 returns-in-1 c = sym (ap base_from c.in-1.is)
 
 pub returns-in_default : goal.returns-in_default
-returns-in_default c = none_other _ c.in_default.rest.0.1 c.in_default.rest.1
+returns-in_default c = none_other _ c.in_default.in_default-own.rest.0.1 c.in_default.in_default-own.rest.1

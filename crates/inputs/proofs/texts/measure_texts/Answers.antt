@@ -81,7 +81,7 @@ loop-i-preserved c = let back = counts-back c.declared-input.result.base c.decla
     let long = same_len_mid (9 * c.loop-i.i) (length c.loop-i.counts - 9 * c.loop-i.i) c.loop-i.counts c.measure_text.new.counts c.measure_text.auto.counts in (
       long ∙ c.loop-i.invariant.0,
       λ is ss s. told-on (c.loop-i.invariant.1 is ss s) c.loop-i-test.true c.text_end-next.result c.text_end-next.ensures base depth back
-          c.measure_text.result c.measure_text.ensures.value (λ e. ⊎_elim (λ a. omega (arith, a, ap (tag_of the_type) e)) (λ a. omega (arith, a, ap (tag_of the_type) e)) c.in-Elements.keys2) long,
+          c.measure_text.result c.measure_text.ensures.value (λ e. ⊎_elim (λ a. omega (arith, a, ap (tag_of the_type) e)) (λ a. omega (arith, a, ap (tag_of the_type) e)) c.in-Elements.in-Elements-own.keys2) long,
     )
 
 pub shape_of-counts : goal.shape_of-counts

@@ -134,4 +134,4 @@ returns-in-Made c = let k = call c.args.buf.now c.args.out c.args.n c.args.at c.
 
 pub returns : goal.returns
 returns c = let k = call c.args.buf.now c.args.out c.args.n c.args.at c.args.len c.requires c.lengths-misfit.ensures in
-    refused k c.in_default.is c.measure-needed.ensures (not_made _ c.in_default-needed.keys2)
+    refused k c.in_default.is c.measure-needed.ensures (not_made _ c.in_default-needed.in_default-needed-own.keys2)

@@ -52,7 +52,7 @@ pub overflow_cast-result-in-18261 : goal.overflow_cast-result-in-18261
 overflow_cast-result-in-18261 c = omega (arith, c.type_inv.bytes (c.args.k + 3))
 
 pub operation_of-requires : goal.operation_of-requires
-operation_of-requires c = let o = (let r = c.in_default.rest in at_rest c.args.bytes.now c.args.k c.args.mark c.requires.0
+operation_of-requires c = let o = (let r = c.in_default.in_default-own.rest in at_rest c.args.bytes.now c.args.k c.args.mark c.requires.0
     c.requires.1 r.0.0.0.0.0.0.0.0.1 r.0.0.0.0.0.0.0.1 r.0.0.0.0.0.0.1 r.0.0.0.0.0.1 r.0.0.0.0.1 r.0.0.0.1 r.0.0.1 r.0.1 r.1) in
     (o.0, o.1)
 
@@ -60,7 +60,7 @@ pub overflow_add-result-in_default : goal.overflow_add-result-in_default
 overflow_add-result-in_default c = omega (arith, three c.args.bytes.now c.args.k c.args.mark c.requires.0 c.requires.1)
 
 pub bounds-bytes-k-in_default : goal.bounds-bytes-k-in_default
-bounds-bytes-k-in_default c = let o = (let r = c.in_default.rest in at_rest c.args.bytes.now c.args.k
+bounds-bytes-k-in_default c = let o = (let r = c.in_default.in_default-own.rest in at_rest c.args.bytes.now c.args.k
     c.args.mark c.requires.0 c.requires.1 r.0.0.0.0.0.0.0.0.1
     r.0.0.0.0.0.0.0.1 r.0.0.0.0.0.0.1 r.0.0.0.0.0.1 r.0.0.0.0.1 r.0.0.0.1 r.0.0.1 r.0.1 r.1) in
     omega (arith, o.3)
@@ -94,7 +94,7 @@ pub returns-in-18261 : goal.returns-in-18261
 returns-in-18261 c = (at_mark c.args.bytes.now c.args.k c.args.mark c.requires.0 c.requires.1 mark_gu refl c.in-18261.is).0
 
 pub returns-in_default : goal.returns-in_default
-returns-in_default c = let o = (let r = c.in_default.rest in at_rest c.args.bytes.now c.args.k
+returns-in_default c = let o = (let r = c.in_default.in_default-own.rest in at_rest c.args.bytes.now c.args.k
     c.args.mark c.requires.0 c.requires.1 r.0.0.0.0.0.0.0.0.1
     r.0.0.0.0.0.0.0.1 r.0.0.0.0.0.0.1 r.0.0.0.0.0.1 r.0.0.0.0.1 r.0.0.0.1 r.0.0.1 r.0.1 r.1) in
     at-operates c.args.bytes.now c.args.k c.args.mark c.requires.0 c.requires.1 o _ c.operation_of.ensures

@@ -11,4 +11,4 @@ pub returns-in-19525 : goal.returns-in-19525
 returns-in-19525 c = ap operation_of c.in-19525.is
 
 pub returns-in_default : goal.returns-in_default
-returns-in_default c = last-operation _ c.requires c.in_default.rest.0.1 c.in_default.rest.1
+returns-in_default c = last-operation _ c.requires c.in_default.in_default-own.rest.0.1 c.in_default.in_default-own.rest.1

@@ -24,5 +24,5 @@ pub returns-in-18261 : goal.returns-in-18261
 returns-in-18261 c = c.list_shape-in-18261.ensures ∙ of_guard _ _ _ c.in-18261.is
 
 pub returns-in_default : goal.returns-in_default
-returns-in_default c = let r = c.in_default.rest in
+returns-in_default c = let r = c.in_default.in_default-own.rest in
     of_none _ _ _ r.0.0.0.0.0.1 r.0.0.0.0.1 r.0.0.0.1 r.0.0.1 r.0.1 r.1

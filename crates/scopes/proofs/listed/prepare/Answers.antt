@@ -8,10 +8,10 @@ pub look-requires : goal.look-requires
 look-requires c = (c.requires.fact_2.1, c.requires.fact_2.2)
 
 pub enum_told-1 : goal.enum_told-1
-enum_told-1 c = c.in-Missing.keys1
+enum_told-1 c = c.in-Missing.in-Missing-own.keys1
 
 pub enum_known-word : goal.enum_known-word
-enum_known-word c = c.in-Word.keys2
+enum_known-word c = c.in-Word.in-Word-own.keys2
 
 pub scalars-requires : goal.scalars-requires
 scalars-requires c = let both = omega (arith, c.requires) in record { fact_1 = both.0; fact_2 = both.1; }
