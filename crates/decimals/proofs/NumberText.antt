@@ -1,8 +1,7 @@
 -- Laws of snesl's digits: reading one digit on, and the digits of a number from the last one on.
-use Rattle.std.proofs.Common.{◌≡◌, ℕ, zero, suc, ◌+◌, ◌-◌, ◌*◌, ◌/◌, ◌%◌, ◌^◌, ◌<◌, ◌≤◌, Bool, true, false, not, ◌&&◌, ◌||◌, ltb, leb, List, [], ◌∷◌, ◌++◌, length, get_or, take, drop, sym, refl, ap, ◌∙◌, subst, ap₂, append_assoc, le_trans, le_refl, add-one, arith, length-append, ltb-false, ltb-true, le-ltb, lt-ltb, eq-eqb, ne_eqb, le-leb, leb-true}
+use Rattle.std.proofs.Common.{◌≡◌, ℕ, zero, suc, ◌+◌, ◌-◌, ◌*◌, ◌%◌, ◌^◌, ◌<◌, ◌≤◌, Bool, true, false, ◌&&◌, ltb, leb, List, [], ◌∷◌, length, get_or, drop, sym, refl, ap, ◌∙◌, ap₂, le_refl, add-one, arith, ltb-true, le-ltb, lt-ltb, eq-eqb, ne_eqb, le-leb, leb-true}
 use borrow.Author.Tests.{lt-leb}
-use lib.ListN.{get_or-eq_default}
-use Rattle.snesl.specs.Text.{is_digit, digits, number_from, well_digited, digits_then, show_number}
+use Rattle.snesl.specs.Text.{is_digit, digits, number_from, well_digited}
 use Rattle.decimals.specs.Numbers.{pick, digit_at, digits_at}
 use Rattle.decimals.specs.declared.numbers.Digit.TheVariants.{Of, End}
 use Rattle.decimals.specs.declared.numbers.Digits.TheVariants.{Number, No}

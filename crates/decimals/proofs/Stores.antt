@@ -1,6 +1,6 @@
 -- Runs of stores into a list, clipped at its end (`sets` of lib.Seq): one after another, in front of one another, and side by side. Over any element type.
-use Rattle.std.proofs.Common.{◌≡◌, ℕ, zero, suc, ◌+◌, ◌<◌, ◌≤◌, List, [], ◌∷◌, ◌++◌, length, take, drop, set, sym, refl, ap, ◌∙◌, subst, add-zero, add-suc, suc-add, arith, length-append}
-use lib.Seq.{sets, sets-eq, set_comm}
+use Rattle.std.proofs.Common.{◌≡◌, ℕ, suc, ◌+◌, ◌<◌, ◌≤◌, List, [], ◌∷◌, ◌++◌, length, set, sym, refl, ap, ◌∙◌, subst, add-zero, add-suc, suc-add, arith, length-append}
+use lib.Seq.{sets, set_comm}
 use Rattle.decimals.specs.Writing.{Writes}
 
 module _ {A : Type 0} where

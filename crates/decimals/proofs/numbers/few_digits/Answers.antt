@@ -1,5 +1,5 @@
 -- The first digit is no zero; from there on digit by digit, up to ten.
-use Rattle.std.proofs.Common.{◌-◌, sym, ◌∙◌, arith}
+use Rattle.std.proofs.Common.{sym, ◌∙◌, arith}
 use Rattle.decimals.proofs.NumberText.{is_digit_lem, is-end}
 use Rattle.decimals.proofs.ShortInts.{short-first, short-small, short_on, short-end}
 use Rattle.decimals.proofs.numbers.few_digits.Goals as goal

@@ -1,5 +1,5 @@
 -- Digit by digit, with the number so far; past 2,147,483,648 it stops.
-use Rattle.std.proofs.Common.{◌-◌, sym, ◌∙◌, arith}
+use Rattle.std.proofs.Common.{sym, ◌∙◌, arith}
 use Rattle.decimals.proofs.NumberText.{is_digit_lem, is-end, reading-start, reading-on, reading-over, reading-none, reading-one, reading-leading, reading-several}
 use Rattle.decimals.proofs.numbers.read_digits.Goals as goal
 

@@ -3,6 +3,7 @@ use Prim.Native.Nat.{◌+◌}
 use mathlib.Core.Path.{refl, ap, ◌∙◌}
 use native.Mathlib.Omega.{arith}
 use mir.Facts.{to_z-of_z}
+use mir.Syntax.{w32}
 use borrow.Author.Rules.{sfits_of}
 use Rattle.records.specs.declared.head.Head.TheVariants.{Const}
 use Rattle.snesl.specs.Records.{mark_vr, mark_lt, mark_io, mark_no, mark_sm, mark_kn, mark_kb, mark_ea, mark_gu}
@@ -81,7 +82,7 @@ pub returns-in-21325 : goal.returns-in-21325
 returns-in-21325 c = (at_mark c.args.bytes.now c.args.k c.args.mark c.requires.0 c.requires.1 mark_sm refl c.in-21325.is).0
 
 pub returns-in-19278 : goal.returns-in-19278
-returns-in-19278 c = ap Const (to_z-of_z (sfits_of c.int_at.type_inv) ∙ c.int_at.ensures)
+returns-in-19278 c = ap Const (to_z-of_z {w = w32} (sfits_of c.int_at.type_inv) ∙ c.int_at.ensures)
     ∙ (at_mark c.args.bytes.now c.args.k c.args.mark c.requires.0 c.requires.1 mark_kn refl c.in-19278.is).0
 
 pub returns-in-19266 : goal.returns-in-19266

@@ -3,6 +3,7 @@ use Prim.Native.Nat.{◌+◌}
 use native.Mathlib.Omega.{arith}
 use mathlib.Core.Path.{◌∙◌}
 use mir.Facts.{to_z-of_z}
+use mir.Syntax.{w32}
 use borrow.Author.Rules.{sfits_of}
 use Rattle.records.proofs.head.int_at.Goals as goal
 
@@ -37,4 +38,4 @@ pub overflow_add-bytes-3 : goal.overflow_add-bytes-3
 overflow_add-bytes-3 c = omega (arith, c.type_inv.bytes c.args.k, c.type_inv.bytes (c.args.k + 1), c.type_inv.bytes (c.args.k + 2), c.type_inv.bytes (c.args.k + 3))
 
 pub returns : goal.returns
-returns c = to_z-of_z (sfits_of c.signed.type_inv) ∙ c.signed.ensures
+returns c = to_z-of_z {w = w32} (sfits_of c.signed.type_inv) ∙ c.signed.ensures

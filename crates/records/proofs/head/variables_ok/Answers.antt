@@ -1,5 +1,4 @@
 -- What is left of the row is as good as the whole row, as long as each byte passed is a variable's.
-use Prim.Native.Nat.{◌-◌}
 use mathlib.Core.Path.{sym}
 use Rattle.records.proofs.Variables.{start, turn, stop, done}
 use Rattle.records.proofs.head.variables_ok.Goals as goal
