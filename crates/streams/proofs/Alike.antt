@@ -1,9 +1,9 @@
 -- A call works on elements, whatever they are: an answer with the same elements is the same to it. So Const, Distr and Pack on ints serve bools too.
 use Prim.Native.Nat.{ℕ, ◌-◌}
 use mathlib.Core.Bool.{true, false}
-use mathlib.Core.List.{List, map}
+use mathlib.Core.List.{List}
 use mathlib.Core.Option.{Option, some, none}
-use mathlib.Core.Path.{◌≡◌, refl, sym, ◌∙◌, ap}
+use mathlib.Core.Path.{◌≡◌, refl, ◌∙◌, ap}
 use lib.Dec.{leb}
 use lib.IntN.{ℤ}
 use lib.ListN.{length, length-map}

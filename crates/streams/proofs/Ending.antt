@@ -21,7 +21,7 @@ use Rattle.streams.specs.Walks.{told, told_outside}
 use Rattle.streams.specs.declared.fit.Misfit.{Misfit}
 use Rattle.streams.specs.declared.fit.Misfit.TheVariants.{Nowhere, At}
 use Rattle.streams.specs.declared.output.Output.{Output}
-use Rattle.streams.specs.declared.output.Output.TheVariants.{Made, Unfit, Outside, NoRoom}
+use Rattle.streams.specs.declared.output.Output.TheVariants.{Made, Unfit, NoRoom}
 
 -- ---- what a test of the streams told
 

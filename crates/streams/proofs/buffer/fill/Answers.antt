@@ -5,10 +5,9 @@ use mathlib.Core.List.{List}
 use native.Mathlib.Numerals.{add-one}
 use native.Mathlib.Omega.{arith}
 use lib.IntN.{ℤ}
-use lib.ListN.{length, replicate, set, length-set}
+use lib.ListN.{replicate, set, length-set}
 use lib.Seq.{sets}
 use mir.Facts.{to_z-of_z}
-use mir.Val.{to_z}
 use Rattle.streams.proofs.buffer.fill.Goals as goal
 
 turn : (buf : List ℤ) (i to : ℕ) (z : ℤ) → i < to → sets (set buf i z) (i + 1) (replicate (to - (i + 1)) z) ≡ sets buf i (replicate (to - i) z)
