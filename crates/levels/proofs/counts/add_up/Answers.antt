@@ -1,5 +1,4 @@
 -- Sum after sum, never past the limit.
-use Prim.Native.Nat.{◌-◌}
 use native.Mathlib.Omega.{arith}
 use Rattle.levels.proofs.Counting.{adding-start, adding-on, adding-over, adding-end}
 use Rattle.levels.proofs.counts.add_up.Goals as goal

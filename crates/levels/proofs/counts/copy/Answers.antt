@@ -1,9 +1,9 @@
 -- The first i are copied.
-use Prim.Native.Nat.{ℕ, ◌-◌}
+use Prim.Native.Nat.{ℕ}
 use mathlib.Core.Path.{◌≡◌, ◌∙◌, ap, refl}
 use mathlib.Core.List.{List, ◌++◌}
 use native.Mathlib.Omega.{arith}
-use lib.ListN.{length, get_or, set, take, drop, length-set}
+use lib.ListN.{get_or, set, take, drop, length-set}
 use Rattle.levels.proofs.Counting.{copy-on}
 use Rattle.levels.proofs.counts.copy.Goals as goal
 

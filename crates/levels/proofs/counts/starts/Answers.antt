@@ -1,8 +1,7 @@
 -- Each start is the one before and that stream's length.
-use Prim.Native.Nat.{◌-◌}
 use mathlib.Core.Path.{refl, ◌∙◌}
 use native.Mathlib.Omega.{arith}
-use lib.ListN.{length, drop, length-set}
+use lib.ListN.{length-set}
 use lib.Seq.{drop-set-lt}
 use Rattle.levels.proofs.Counting.{placing-start, placing-fits, placing-on}
 use Rattle.levels.proofs.counts.starts.Goals as goal
@@ -32,4 +31,4 @@ pub shape_of-places : goal.shape_of-places
 shape_of-places c = c.loop-i.invariant.1
 
 pub returns : goal.returns
-returns c = record { by_index = λ j h. c.loop-i.invariant.2.done j (omega (arith, c.loop-i-test.false)); places_unchanged = c.loop-i.invariant.3; }
+returns c = record { by_index = λ j h. c.loop-i.invariant.2.done j (omega (arith, c.loop-i-test.false)); places_unchanged = c.loop-i.invariant.3 }
