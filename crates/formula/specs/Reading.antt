@@ -1,5 +1,5 @@
 -- What the readers answer of what snesl's definitions read: positions and counts, since the records stay in the bytes.
-use Rattle.std.specs.Prelude.{ℕ, ◌+◌, Bool, true, false, ◌&&◌, List, eqb, ltb, leb, length}
+use Rattle.std.specs.Prelude.{ℕ, ◌+◌, true, false, ◌&&◌, List, eqb, ltb, leb, length}
 use Rattle.snesl.specs.declared.refusal.Refusal.TheVariants.{NoRecord, OverLimit, TooMany}
 use Rattle.snesl.specs.Limits.{most_records, most_inputs, most_depth, last_variable}
 use Rattle.snesl.specs.Records as records

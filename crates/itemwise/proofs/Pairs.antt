@@ -1,14 +1,13 @@
 -- The sum of two items, as code has it: in 64 bits it is exact.
-use Prim.Native.Nat.{ℕ, ◌+◌, ◌≤◌, ◌<◌, ◌^◌}
-use mathlib.Core.List.{List, [], ◌∷◌}
-use mathlib.Core.Path.{◌≡◌, refl, sym, ◌∙◌, ap}
+use Prim.Native.Nat.{◌<◌, ◌^◌}
+use mathlib.Core.Path.{◌≡◌}
 use native.Mathlib.Omega.{arith}
 use lib.IntN.{ℤ, ◌+ℤ◌}
 use lib.Signed.{mag}
 use mir.Facts.{to_z-of_z}
 use mir.Syntax.{w32, w64}
 use mir.Val.{SFits, to_z, of_z}
-use Rattle.laws.proofs.Whole.{mag_sum, wide, fits-wide}
+use Rattle.laws.proofs.Whole.{mag_sum, wide}
 
 module _ (x y : ℤ) (hx : mag x < 2 ^ 31) (hy : mag y < 2 ^ 31) where
   fits : SFits w64 (x +ℤ y)

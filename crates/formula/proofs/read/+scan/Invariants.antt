@@ -2,4 +2,4 @@
 use Rattle.formula.proofs.read.+scan.Given as goal
 
 abbrev pub decreases-scan : goal.decreases-scan
-decreases-scan l = a.1.1.1.0
+decreases-scan l = l.levels

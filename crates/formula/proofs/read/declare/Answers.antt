@@ -1,5 +1,4 @@
 -- What is left of the input records, behind those that are read, is what the definition makes of them.
-use Prim.Native.Nat.{◌-◌}
 use mathlib.Core.Path.{sym, ◌∙◌}
 use native.Mathlib.Omega.{arith}
 use Rattle.formula.proofs.Declaring.{start, fits, turn, last, stopped}

@@ -1,5 +1,4 @@
 -- `negations::negate`: the walk of Turn.antt.
-use Prim.Native.Nat.{◌-◌}
 use native.Mathlib.Omega.{arith}
 use Rattle.itemwise.proofs.negations.negate.Invariants.Turn.{begin, turn, done}
 use Rattle.itemwise.proofs.negations.negate.Goals as goal

@@ -61,11 +61,12 @@ module _ (equal : Bool) {old : List ℤ} {out n at1 len1 at2 len2 : ℕ} {r : Mi
           (makes c output long1 long2 e n results stored h is, ap (drop (out + n)) is ∙ drop-sets (map bit (pairwise (compared equal) (part at1 len1 old) (part at2 len2 old))) old (out + n) out (omega (arith, stored)))
 
 pub returns-in-At : goal.returns-in-At
-returns-in-At c = let s = c.args in let k = call s.buf.now s.out s.n s.at1 s.len1 s.at2 s.len2 c.requires c.lengths-misfit.ensures in uneven s.equal k _ c.in let both = -At.is in record { answers = both.0; buf_unchanged = both.1; }
+returns-in-At c = let s = c.args in let k = call s.buf.now s.out s.n s.at1 s.len1 s.at2 s.len2 c.requires c.lengths-misfit.ensures in
+    let both = uneven s.equal k _ c.in-At.is in record { answers = both.0; buf_unchanged = both.1 }
 
 pub returns-then-buf-out : goal.returns-then-buf-out
 returns-then-buf-out c = let s = c.args in
-    let k = call s.buf.now s.out s.n s.at1 s.len1 s.at2 s.len2 c.requires c.lengths-misfit.ensures in let both = no_room s.equal k c.in_default.is c.if-buf-out.true in record { answers = both.0; buf_unchanged = both.1; }
+    let k = call s.buf.now s.out s.n s.at1 s.len1 s.at2 s.len2 c.requires c.lengths-misfit.ensures in let both = no_room s.equal k c.in_default.is c.if-buf-out.true in record { answers = both.0; buf_unchanged = both.1 }
 
 pub write_tests-requires : goal.write_tests-requires
 write_tests-requires c = let s = c.args in
@@ -74,4 +75,4 @@ write_tests-requires c = let s = c.args in
 
 pub returns : goal.returns
 returns c = let s = c.args in
-    let k = call s.buf.now s.out s.n s.at1 s.len1 s.at2 s.len2 c.requires c.lengths-misfit.ensures in let both = wrote s.equal k c.in_default.is c.if-buf-out.false c.write_tests.ensures in record { answers = both.0; buf_unchanged = both.1; }
+    let k = call s.buf.now s.out s.n s.at1 s.len1 s.at2 s.len2 c.requires c.lengths-misfit.ensures in let both = wrote s.equal k c.in_default.is c.if-buf-out.false c.write_tests.ensures in record { answers = both.0; buf_unchanged = both.1 }

@@ -1,5 +1,4 @@
 -- `operations::write_tests`: the walk of Turn.antt.
-use Prim.Native.Nat.{◌-◌}
 use native.Mathlib.Omega.{arith}
 use Rattle.itemwise.proofs.operations.write_tests.Invariants.Turn.{begin, turn, done}
 use Rattle.itemwise.proofs.operations.write_tests.Goals as goal

@@ -1,5 +1,4 @@
 -- `packs::keep`: the walk of Turn.antt.
-use Prim.Native.Nat.{◌-◌}
 use native.Mathlib.Omega.{arith}
 use Rattle.itemwise.proofs.packs.keep.Invariants.Turn.{begin, enough, turn-F, turn-T, done}
 use Rattle.itemwise.proofs.packs.keep.Goals as goal

@@ -61,22 +61,22 @@ module _ {old : List ℤ} {out n bat blen at len : ℕ} {r : Misfit} (c : Call o
         wrote w = makes c output long1 long2 e m made made h (w ∙ ap (sets old out) (sym these))
 
 pub returns-in-At : goal.returns-in-At
-returns-in-At c = let s = c.args in let k = call s.buf.now s.out s.n s.bools-at s.bools-len s.at s.len c.requires c.lengths-misfit.ensures in uneven k _ c.in-At.is
+returns-in-At c = let s = c.args in let k = call s.buf.now s.out s.n s.bools_at s.bools_len s.at s.len c.requires c.lengths-misfit.ensures in uneven k _ c.in-At.is
 
 pub trues-made-requires : goal.trues-made-requires
-trues-made-requires c = let s = c.args in let k = call s.buf.now s.out s.n s.bools-at s.bools-len s.at s.len c.requires c.lengths-misfit.ensures in countable k c.in_default.is
+trues-made-requires c = let s = c.args in let k = call s.buf.now s.out s.n s.bools_at s.bools_len s.at s.len c.requires c.lengths-misfit.ensures in countable k c.in_default.is
 
 pub returns-then-buf-out : goal.returns-then-buf-out
 returns-then-buf-out c = let s = c.args in
-    let k = call s.buf.now s.out s.n s.bools-at s.bools-len s.at s.len c.requires c.lengths-misfit.ensures in
+    let k = call s.buf.now s.out s.n s.bools_at s.bools_len s.at s.len c.requires c.lengths-misfit.ensures in
     no_room k c.in_default.is c.trues-made.ensures c.if-buf-out.true
 
 pub keep-requires : goal.keep-requires
 keep-requires c = let s = c.args in
-    let k = call s.buf.now s.out s.n s.bools-at s.bools-len s.at s.len c.requires c.lengths-misfit.ensures in
+    let k = call s.buf.now s.out s.n s.bools_at s.bools_len s.at s.len c.requires c.lengths-misfit.ensures in
     writable k c.in_default.is c.trues-made.ensures c.if-buf-out.false
 
 pub returns : goal.returns
 returns c = let s = c.args in
-    let k = call s.buf.now s.out s.n s.bools-at s.bools-len s.at s.len c.requires c.lengths-misfit.ensures in
+    let k = call s.buf.now s.out s.n s.bools_at s.bools_len s.at s.len c.requires c.lengths-misfit.ensures in
     wrote k c.in_default.is c.trues-made.ensures c.if-buf-out.false c.keep.ensures

@@ -1,5 +1,5 @@
 -- `packs::trues`: how many T's were met, and those that are still to come.
-use Prim.Native.Nat.{ℕ, ◌+◌, ◌-◌, ◌≤◌, ◌<◌, ◌^◌}
+use Prim.Native.Nat.{ℕ, ◌+◌, ◌≤◌, ◌<◌, ◌^◌}
 use mathlib.Core.List.{List, ◌∷◌, map}
 use mathlib.Core.Path.{◌≡◌, ◌∙◌, ap}
 use native.Mathlib.Omega.{arith}

@@ -1,5 +1,4 @@
 -- `pluses::add`: the walk of Turn.antt.
-use Prim.Native.Nat.{◌-◌}
 use native.Mathlib.Omega.{arith}
 use Rattle.itemwise.proofs.pluses.add.Invariants.Turn.{begin, cast1, cast2, cast, turn, done}
 use Rattle.itemwise.proofs.pluses.add.Goals as goal

@@ -96,25 +96,25 @@ module _ {old : List ℤ} {out n at1 len1 at2 len2 : ℕ} {r : Misfit} (c : Call
           (p ∙ (λ i. told_outside (first_outside (pluses 0 (same1 i) (same2 i)))) ∙ ap (λ l. told_outside (first_outside l)) these) f.before
 
 pub returns-in-At : goal.returns-in-At
-returns-in-At c = let k = call c.args.buf.now c.args.out c.args.n c.args.at1 c.args.len1 c.args.at2 c.args.len2 c.requires c.lengths-misfit.ensures in record { answers = unfit k _ c.in-At.is; buf_unchanged = refl; }
+returns-in-At c = let k = call c.args.buf.now c.args.out c.args.n c.args.at1 c.args.len1 c.args.at2 c.args.len2 c.requires c.lengths-misfit.ensures in record { answers = unfit k _ c.in-At.is; buf_unchanged = refl }
 
 pub first_outside-requires : goal.first_outside-requires
 first_outside-requires c = let k = call c.args.buf.now c.args.out c.args.n c.args.at1 c.args.len1 c.args.at2 c.args.len2 c.requires c.lengths-misfit.ensures in
     omega (arith, inside k c.in_default.is, k.room)
 
 pub returns-then-buf-out : goal.returns-then-buf-out
-returns-then-buf-out c = let k = call c.args.buf.now c.args.out c.args.n c.args.at1 c.args.len1 c.args.at2 c.args.len2 c.requires c.lengths-misfit.ensures in record { answers = full k c.in_default.is c.if-buf-out.true c.first_outside.ensures; buf_unchanged = refl; }
+returns-then-buf-out c = let k = call c.args.buf.now c.args.out c.args.n c.args.at1 c.args.len1 c.args.at2 c.args.len2 c.requires c.lengths-misfit.ensures in record { answers = full k c.in_default.is c.if-buf-out.true c.first_outside.ensures; buf_unchanged = refl }
 
 pub add-requires : goal.add-requires
 add-requires c = let k = call c.args.buf.now c.args.out c.args.n c.args.at1 c.args.len1 c.args.at2 c.args.len2 c.requires c.lengths-misfit.ensures in
     omega (arith, inside k c.in_default.is, k.room, c.if-buf-out.false)
 
 pub returns-then-add : goal.returns-then-add
-returns-then-add c = let k = call c.args.buf.now c.args.out c.args.n c.args.at1 c.args.len1 c.args.at2 c.args.len2 c.requires c.lengths-misfit.ensures in record { answers = made k c.in_default.is c.add.ensures c.if-buf-out.false c.if-add.true; buf_unchanged = c.add.ensures.behind; }
+returns-then-add c = let k = call c.args.buf.now c.args.out c.args.n c.args.at1 c.args.len1 c.args.at2 c.args.len2 c.requires c.lengths-misfit.ensures in record { answers = made k c.in_default.is c.add.ensures c.if-buf-out.false c.if-add.true; buf_unchanged = c.add.ensures.behind }
 
 pub first_outside-requires-2 : goal.first_outside-requires-2
 first_outside-requires-2 c = let k = call c.args.buf.now c.args.out c.args.n c.args.at1 c.args.len1 c.args.at2 c.args.len2 c.requires c.lengths-misfit.ensures in
     omega (arith, inside k c.in_default.is, k.room, c.add.auto.buf)
 
 pub returns : goal.returns
-returns c = let k = call c.args.buf.now c.args.out c.args.n c.args.at1 c.args.len1 c.args.at2 c.args.len2 c.requires c.lengths-misfit.ensures in record { answers = refuses k c.in_default.is c.add.ensures c.if-add.false c.first_outside-2.ensures; buf_unchanged = c.add.ensures.behind; }
+returns c = let k = call c.args.buf.now c.args.out c.args.n c.args.at1 c.args.len1 c.args.at2 c.args.len2 c.requires c.lengths-misfit.ensures in record { answers = refuses k c.in_default.is c.add.ensures c.if-add.false c.first_outside-2.ensures; buf_unchanged = c.add.ensures.behind }

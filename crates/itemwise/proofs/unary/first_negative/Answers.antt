@@ -1,5 +1,4 @@
 -- `unary::first_negative`: the walk of Turn.antt.
-use Prim.Native.Nat.{◌-◌}
 use Rattle.itemwise.proofs.unary.first_negative.Invariants.Turn.{begin, turn, stop, over}
 use Rattle.itemwise.proofs.unary.first_negative.Goals as goal
 

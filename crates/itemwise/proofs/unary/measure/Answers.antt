@@ -16,7 +16,7 @@ use mir.Val.{Fits, SFits, to_z, of_z}
 use Rattle.laws.specs.Parts.{part}
 use Rattle.laws.proofs.Parts.{part-next, part-over}
 use Rattle.laws.proofs.Whole.{read}
-use Rattle.snesl.specs.Streams.{bit, flags, len}
+use Rattle.snesl.specs.Streams.{bit, flags}
 use Rattle.snesl.specs.Transducers.{first_negative, made, negative, unary, unless}
 use Rattle.streams.specs.Answers.{answered}
 use Rattle.streams.specs.Walks.{told_negative}

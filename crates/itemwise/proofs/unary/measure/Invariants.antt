@@ -2,12 +2,10 @@
 use Prim.Native.Nat.{ℕ, ◌+◌, ◌-◌, ◌≤◌}
 use mathlib.Core.List.{List}
 use mathlib.Core.Path.{◌≡◌}
-use lib.Dec.{T}
 use lib.IntN.{ℤ}
 use lib.ListN.{length, drop}
 use Rattle.laws.specs.Parts.{part}
-use Rattle.snesl.specs.Streams.{len}
-use Rattle.snesl.specs.Transducers.{first_negative, negative, unary}
+use Rattle.snesl.specs.Transducers.{first_negative, unary}
 use Rattle.itemwise.proofs.unary.measure.Given as goal
 
 pub record Head (buf : List ℤ) (at len room i free : ℕ) : Type 0 where

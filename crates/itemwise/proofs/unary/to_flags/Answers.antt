@@ -1,7 +1,7 @@
 -- `unary::to_flags`: what the test of the lengths told, what `measure` answered, and what `write_flags` left.
 use Prim.Native.Nat.{ℕ, ◌+◌, ◌-◌, ◌≤◌}
 use mathlib.Core.Bool.{Bool, true, false}
-use mathlib.Core.List.{List, [], ◌∷◌, map}
+use mathlib.Core.List.{List, map}
 use mathlib.Core.Option.{Option, some, none}
 use mathlib.Core.Path.{◌≡◌, refl, sym, ◌∙◌, ap}
 use native.Mathlib.Omega.{arith}
@@ -10,8 +10,6 @@ use lib.Dec.{leb}
 use lib.IntN.{ℤ}
 use lib.ListN.{length, length-map}
 use lib.Seq.{sets}
-use types.Run.{OneOf, miss}
-use denote.Enum.Declared.{tag_of}
 use Rattle.laws.specs.Parts.{part}
 use Rattle.laws.proofs.Never.{never}
 use Rattle.laws.proofs.Parts.{length_part}
@@ -23,7 +21,6 @@ use Rattle.streams.specs.declared.fit.Misfit.{Misfit}
 use Rattle.streams.specs.declared.fit.Misfit.TheVariants.{Nowhere, At}
 use Rattle.streams.specs.declared.output.Output.{Output}
 use Rattle.streams.specs.declared.output.Output.TheVariants.{Made, Unfit, Negative, NoRoom}
-use Rattle.streams.specs.contracts.output.Output as output
 use Rattle.streams.proofs.Ending.{unfits, makes, lacks-room, refuses}
 use Rattle.itemwise.proofs.Lengths as L
 use Rattle.itemwise.proofs.unary.to_flags.Goals as goal
@@ -36,9 +33,6 @@ record Call (old : List ℤ) (out n at len : ℕ) (r : Misfit) : Type 0 where
 
 call : (old : List ℤ) (out n at len : ℕ) {r : Misfit} → (at + len ≤ out) × (out ≤ length old) → r ≡ told (length_misfit n len len) → Call old out n at len r
 call old out n at len p q = record { items = p.0; room = p.1; tells = q }
-
-not_made : (o : Output) → OneOf (1 ∷ 2 ∷ 3 ∷ 4 ∷ []) (tag_of output.the_type o) → (m : ℕ) → o ≡ Made m → ⊥
-not_made o h m e = absurd (miss (1 ∷ 2 ∷ 3 ∷ 4 ∷ []) 0 tt (rw e at h))
 
 -- what a measure says of the items
 record Measured (zs : List ℤ) (room m : ℕ) : Type 0 where
@@ -134,4 +128,4 @@ returns-in-Made c = let k = call c.args.buf.now c.args.out c.args.n c.args.at c.
 
 pub returns : goal.returns
 returns c = let k = call c.args.buf.now c.args.out c.args.n c.args.at c.args.len c.requires c.lengths-misfit.ensures in
-    refused k c.in_default.is c.measure-needed.ensures (not_made _ c.in_default-needed.in_default-needed-own.keys2)
+    refused k c.in_default.is c.measure-needed.ensures c.in_default-needed.not-Made

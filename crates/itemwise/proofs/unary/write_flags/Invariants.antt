@@ -2,8 +2,7 @@
 use Prim.Native.Nat.{ℕ, ◌+◌, ◌-◌, ◌≤◌}
 use mathlib.Core.List.{List, map}
 use mathlib.Core.Option.{none}
-use mathlib.Core.Path.{◌≡◌, ap}
-use lib.Dec.{T}
+use mathlib.Core.Path.{◌≡◌}
 use lib.IntN.{ℤ}
 use lib.ListN.{length, drop}
 use Rattle.laws.specs.Parts.{part}
