@@ -6,10 +6,11 @@ ghost use Rattle.std.specs.Prelude.{◌≡◌, ◌≤◌, length};
 ghost use Rattle.snesl.specs.Refusals as refusals;
 
 use checking::check::{Checked, check};
+use console::read_full;
 use finder::find::find;
-use libc::{STDIN_FILENO, STDOUT_FILENO};
 use snesl::code::Base;
 use snesl::refusal::Refusal;
+use std::io;
 
 // A hexadecimal digit, and 0 for anything else.
 fn digit(c: u8) -> u8
@@ -77,76 +78,65 @@ fn place(refusal: Refusal) -> usize
 }
 
 // A base is told where it is bool.
-fn print_base(base: Base) {
+fn print_base(rt: &impl Print, base: Base) -> io::Result<()> {
     match base {
-        Base::Int => {}
-        Base::Bool => {
-            io::write_all(STDOUT_FILENO, b"bool ");
-        }
+        Base::Int => Ok(()),
+        Base::Bool => print!(rt; "bool "),
     }
 }
 
-fn print_checked(checked: Checked) {
+fn print_checked(rt: &impl Print, checked: Checked) -> io::Result<()> {
     match checked {
         Checked::Typed(found) => {
-            let base = found.base;
-            print_base(base);
-            io::write_all(STDOUT_FILENO, b"depth ");
-            io::print_decimal(STDOUT_FILENO, found.depth as u64);
+            print_base(rt, found.base)?;
+            print!(rt; "depth {}", found.depth)
         }
-        Checked::Refused(refusal) => {
-            io::write_all(STDOUT_FILENO, b"refused ");
-            io::print_decimal(STDOUT_FILENO, number(refusal));
-            io::write_all(STDOUT_FILENO, b" at ");
-            io::print_decimal(STDOUT_FILENO, place(refusal) as u64);
-        }
+        Checked::Refused(refusal) => print!(rt; "refused {} at {}", number(refusal), place(refusal)),
     }
 }
 
-fn print_part(part: &[u8]) {
-    io::write_all(STDOUT_FILENO, b"part ");
+fn print_part(rt: &impl Print, part: &[u8]) -> io::Result<()> {
+    print!(rt; "part ")?;
     if part.len() == 0 {
-        io::write_all(STDOUT_FILENO, b"-");
+        print!(rt; "-")?;
     }
-    print_bytes(part);
+    print_bytes(rt, part)
 }
 
-fn print_bytes(part: &[u8]) {
-    let mut i = 0;
-    while i < part.len() {
-        let byte = part[i];
-        io::print_hex(STDOUT_FILENO, byte as u64, 2);
-        i += 1;
+fn print_bytes(rt: &impl Print, part: &[u8]) -> io::Result<()> {
+    for byte in part {
+        print!(rt; "{byte:02x}")?;
     }
+    Ok(())
 }
 
 // `check HEX`
-fn run_check(line: &[u8], bytes: &mut [u8])
+fn run_check(rt: &impl Print, line: &[u8], bytes: &mut [u8]) -> io::Result<()>
     requires { 7 ≤ length line.now }
 {
     let n = decode(line, 6, bytes);
-    print_checked(check(&bytes[..n]));
-    io::write_all(STDOUT_FILENO, b"\n");
+    print_checked(rt, check(&bytes[..n]))?;
+    println!(rt; "")
 }
 
 // `find I HEX`
-fn run_find(line: &[u8], bytes: &mut [u8])
+fn run_find(rt: &impl Print, line: &[u8], bytes: &mut [u8]) -> io::Result<()>
     requires { 7 ≤ length line.now }
 {
     let n = decode(line, 7, bytes);
     let i = digit(line[5]);
-    print_part(find(&bytes[..n], i as usize));
-    io::write_all(STDOUT_FILENO, b"\n");
+    print_part(rt, find(&bytes[..n], i as usize))?;
+    println!(rt; "")
 }
 
-fn run_case(line: &[u8], bytes: &mut [u8]) {
+fn run_case(rt: &impl Print, line: &[u8], bytes: &mut [u8]) -> io::Result<()> {
     if line.len() < 7 {
-        return;
+        return Ok(());
     }
     if line[0] == b'c' {
-        run_check(line, bytes);
+        run_check(rt, line, bytes)
     } else {
-        run_find(line, bytes);
+        run_find(rt, line, bytes)
     }
 }
 
@@ -165,18 +155,19 @@ fn line_end(text: &[u8], from: usize) -> usize
     i
 }
 
-fn run_cases(text: &[u8], bytes: &mut [u8]) {
+fn run_cases(rt: &impl Print, text: &[u8], bytes: &mut [u8]) -> io::Result<()> {
     let mut at = 0;
     while at < text.len() {
         let end = line_end(text, at);
-        run_case(&text[at..end], bytes);
+        run_case(rt, &text[at..end], bytes)?;
         at = end + 1;
     }
+    Ok(())
 }
 
-fn main() {
+fn main(rt: HostRuntime) -> io::Result<()> {
     let mut text = [0u8; 131072];
-    let n = io::read_full(STDIN_FILENO, &mut text);
+    let n = read_full(&mut rt.stdin(), &mut text)?;
     let mut bytes = [0u8; 2048];
-    run_cases(&text[..n], &mut bytes);
+    run_cases(&rt, &text[..n], &mut bytes)
 }

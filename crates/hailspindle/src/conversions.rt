@@ -35,8 +35,7 @@ fn store(
 }
 
 // One figure: the elements written, or the refusal's place.
-#[unsafe(no_mangle)]
-pub extern "C" fn hailspindle_text_to_streams(
+pub fn hailspindle_text_to_streams(
     text: &[u8],
     base: u8,
     depth: u8,
@@ -77,8 +76,7 @@ fn show(
 }
 
 // One figure: the bytes of the answer, or the refusal's place.
-#[unsafe(no_mangle)]
-pub extern "C" fn hailspindle_streams_to_text(
+pub fn hailspindle_streams_to_text(
     elements: &[i32],
     lengths: &[usize],
     base: u8,

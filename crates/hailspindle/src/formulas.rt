@@ -12,8 +12,7 @@ use lister::list::{Listed, list};
 use refusals::line::{number, place};
 
 // Two figures: the depth of the formula's type and its base, or the refusal's place and 0.
-#[unsafe(no_mangle)]
-pub extern "C" fn hailspindle_check(formula: &[u8], figures: &mut [u64]) -> u64
+pub fn hailspindle_check(formula: &[u8], figures: &mut [u64]) -> u64
     ensures value { result ≡ (check_reply formula.now).number }
     ensures figures_after { figures.new ≡ noted (check_reply formula.now).figures figures.old }
 {
@@ -33,8 +32,7 @@ pub extern "C" fn hailspindle_check(formula: &[u8], figures: &mut [u64]) -> u64
 }
 
 // One figure: the bytes of the listing, which stands from the start of the text on, or the refusal's place.
-#[unsafe(no_mangle)]
-pub extern "C" fn hailspindle_list(formula: &[u8], text: &mut [u8], figures: &mut [u64]) -> u64
+pub fn hailspindle_list(formula: &[u8], text: &mut [u8], figures: &mut [u64]) -> u64
     ensures value { result ≡ (list_reply (listing (length text.old) formula.now)).number }
     ensures figures_after { figures.new ≡ noted (list_reply (listing (length text.old) formula.now)).figures figures.old }
     ensures text_after { text.new ≡ text_after text.old (listing (length text.old) formula.now) }
@@ -49,8 +47,7 @@ pub extern "C" fn hailspindle_list(formula: &[u8], text: &mut [u8], figures: &mu
 }
 
 // Two figures: where in the job the text of input number `input` starts, from 0 on, and its bytes; both 0 where there is none. Nothing is refused.
-#[unsafe(no_mangle)]
-pub extern "C" fn hailspindle_find(job: &[u8], input: usize, figures: &mut [u64]) -> u64
+pub fn hailspindle_find(job: &[u8], input: usize, figures: &mut [u64]) -> u64
     ensures value { result ≡ (find_reply input job.now).number }
     ensures figures_after { figures.new ≡ noted (find_reply input job.now).figures figures.old }
 {

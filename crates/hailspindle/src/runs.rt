@@ -6,8 +6,7 @@ use refusals::line::{number, place};
 use sheet::{Ran, run};
 
 // Four figures: the answer's bytes, work, steps and room, or the refusal's place and three times 0.
-#[unsafe(no_mangle)]
-pub extern "C" fn hailspindle_run(
+pub fn hailspindle_run(
     job: &[u8],
     streams: &mut [i32],
     answer: &mut [u8],

@@ -1,6 +1,5 @@
 -- The pieces of a listing's lines that functions write one by one.
 use Rattle.std.specs.Prelude.{ℕ, Bool, true, false, List, [], ◌∷◌, ◌++◌}
-use Rattle.snesl.specs.declared.code.Instruction.TheVariants.{WithCtrl}
 use Rattle.snesl.specs.Ascii.{ascii, pieces}
 use Rattle.snesl.specs.Text.{comma}
 use Rattle.snesl.specs.Listing.{id_text}

@@ -3,9 +3,11 @@ ghost use Rattle.std.specs.Prelude.{◌+◌, ◌≤◌, length};
 
 use crate::show::{elements, number, word};
 use snesl::code::Operation;
+use std::io;
 use streams::Output;
 
 pub(crate) fn run(
+    rt: &impl Print,
     kind: u8,
     buf: &mut [i32],
     out: usize,
@@ -15,22 +17,23 @@ pub(crate) fn run(
     len1: usize,
     at2: usize,
     len2: usize,
-) {
+) -> io::Result<()> {
     if out <= buf.len() {
         if at1 <= out {
             if len1 <= out - at1 {
                 if at2 <= out {
                     if len2 <= out - at2 {
                         if buf.len() <= 65536 {
-                            word(kind);
-                            answer(call(kind, buf, out, n, z, at1, len1, at2, len2));
-                            elements(buf);
+                            word(rt, kind)?;
+                            answer(rt, call(kind, buf, out, n, z, at1, len1, at2, len2))?;
+                            elements(rt, buf)?;
                         }
                     }
                 }
             }
         }
     }
+    Ok(())
 }
 
 fn call(
@@ -62,20 +65,18 @@ fn call(
     }
 }
 
-pub(crate) fn clear(buf: &mut [i32], from: usize) {
-    io::write_all(1, b"clear");
+pub(crate) fn clear(rt: &impl Print, buf: &mut [i32], from: usize) -> io::Result<()> {
+    print!(rt; "clear")?;
     streams::clear(buf, from);
-    elements(buf);
+    elements(rt, buf)
 }
 
-fn answer(o: Output) {
+fn answer(rt: &impl Print, o: Output) -> io::Result<()> {
     match o {
-        Output::Made(n) => number(b" made ", n),
-        Output::Unfit(k) => number(b" unfit ", k),
-        Output::Negative(k) => number(b" negative ", k),
-        Output::Outside(k) => number(b" outside ", k),
-        Output::NoRoom => {
-            io::write_all(1, b" no room");
-        }
+        Output::Made(n) => number(rt, " made ", n),
+        Output::Unfit(k) => number(rt, " unfit ", k),
+        Output::Negative(k) => number(rt, " negative ", k),
+        Output::Outside(k) => number(rt, " outside ", k),
+        Output::NoRoom => print!(rt; " no room"),
     }
 }

@@ -17,12 +17,13 @@ mod writing;
 ghost use Rattle.std.specs.Prelude.{◌≤◌, length};
 
 use checks::check_case;
+use console::read_full;
 use finding::find_case;
 use holding::streams_case;
-use libc::{STDIN_FILENO, STDOUT_FILENO};
 use listing::list_case;
 use running::run_case;
 use showing::show_case;
+use std::io;
 use storing::store_case;
 use tally::{Kind, count, kind_of, print_counts};
 
@@ -42,18 +43,17 @@ fn agrees(line: &[u8], kind: Kind) -> bool {
     }
 }
 
-fn print_difference(number: u64) {
-    io::write_all(STDOUT_FILENO, b"line ");
-    io::print_decimal(STDOUT_FILENO, number);
-    io::write_all(STDOUT_FILENO, b" differs\n");
+fn print_difference(rt: &impl Print, number: u64) -> io::Result<()> {
+    println!(rt; "line {number} differs")
 }
 
-fn run_line(line: &[u8], number: u64, counts: &mut [u64]) {
+fn run_line(rt: &impl Print, line: &[u8], number: u64, counts: &mut [u64]) -> io::Result<()> {
     let kind = kind_of(line);
     if agrees(line, kind) {
         count(counts, kind);
+        Ok(())
     } else {
-        print_difference(number);
+        print_difference(rt, number)
     }
 }
 
@@ -72,32 +72,31 @@ fn line_end(text: &[u8], from: usize) -> usize
     i
 }
 
-fn run_lines(text: &[u8], counts: &mut [u64]) {
+fn run_lines(rt: &impl Print, text: &[u8], counts: &mut [u64]) -> io::Result<()> {
     let mut number: u64 = 0;
     let mut at = 0;
     while at < text.len() {
         let end = line_end(text, at);
-        number = std::num::wrapping_add_u64(number, 1);
-        run_line(&text[at..end], number, counts);
+        number = number.wrapping_add(1);
+        run_line(rt, &text[at..end], number, counts)?;
         at = end + 1;
     }
+    Ok(())
 }
 
 // Of a longer input the rest is not read, and so not run.
-fn print_cut(read: usize) {
+fn print_cut(rt: &impl Print, read: usize) -> io::Result<()> {
     if read == VECTORS {
-        io::write_all(
-            STDOUT_FILENO,
-            b"the input is longer than what is read of it\n",
-        );
+        println!(rt; "the input is longer than what is read of it")?;
     }
+    Ok(())
 }
 
-fn main() {
+fn main(rt: HostRuntime) -> io::Result<()> {
     let mut text = [0u8; VECTORS];
     let mut counts = [0u64; 7];
-    let n = io::read_full(STDIN_FILENO, &mut text);
-    print_cut(n);
-    run_lines(&text[..n], &mut counts);
-    print_counts(&counts);
+    let n = read_full(&mut rt.stdin(), &mut text)?;
+    print_cut(&rt, n)?;
+    run_lines(&rt, &text[..n], &mut counts)?;
+    print_counts(&rt, &counts)
 }

@@ -1,6 +1,6 @@
 // The kinds of lines, and how many of each came out as named.
 use decimals::numbers::byte_at;
-use libc::STDOUT_FILENO;
+use std::io;
 
 // In the order of the counts; a line of none of them is of the last.
 #[derive(Clone, Copy)]
@@ -46,24 +46,23 @@ fn place_of(kind: Kind) -> usize {
 pub(crate) fn count(counts: &mut [u64], kind: Kind) {
     let place = place_of(kind);
     if place < counts.len() {
-        counts[place] = std::num::wrapping_add_u64(counts[place], 1);
+        counts[place] = counts[place].wrapping_add(1);
     }
 }
 
-fn print_count(name: &[u8], counts: &[u64], place: usize) {
+fn print_count(rt: &impl Print, name: &str, counts: &[u64], place: usize) -> io::Result<()> {
     if place < counts.len() {
-        io::write_all(STDOUT_FILENO, name);
-        io::print_decimal(STDOUT_FILENO, counts[place]);
-        io::write_all(STDOUT_FILENO, b"\n");
+        println!(rt; "{name} {}", counts[place])?;
     }
+    Ok(())
 }
 
-pub(crate) fn print_counts(counts: &[u64]) {
-    print_count(b"run ", counts, 0);
-    print_count(b"streams ", counts, 1);
-    print_count(b"list ", counts, 2);
-    print_count(b"check ", counts, 3);
-    print_count(b"find ", counts, 4);
-    print_count(b"t2s ", counts, 5);
-    print_count(b"s2t ", counts, 6);
+pub(crate) fn print_counts(rt: &impl Print, counts: &[u64]) -> io::Result<()> {
+    print_count(rt, "run", counts, 0)?;
+    print_count(rt, "streams", counts, 1)?;
+    print_count(rt, "list", counts, 2)?;
+    print_count(rt, "check", counts, 3)?;
+    print_count(rt, "find", counts, 4)?;
+    print_count(rt, "t2s", counts, 5)?;
+    print_count(rt, "s2t", counts, 6)
 }

@@ -1,5 +1,4 @@
 -- Piece after piece.
-use borrow.Author.Rules.{rules}
 use mathlib.Core.List.{[], ◌∷◌}
 use Rattle.snesl.specs.Ascii.{ascii, pieces}
 use Rattle.snesl.specs.Transducers.{operands}
@@ -8,46 +7,23 @@ use Rattle.decimals.proofs.Stores.{writes_then}
 use Rattle.lines.proofs.Writing.{countable-first, countable-next}
 use Rattle.instructions.proofs.put_define.Goals as goal
 
--- src/lib.rt:65:9
-put-id-requires : tie.Need-put-id-requires
-put-id-requires c κs = countable-first (id_text c.before.before.args.s.0) (pieces (ascii " := " ∷ name_text c.before.before.args.t ∷ ascii "(" ∷ ids_text (operands c.before.before.args.t) ∷ ascii ")\n" ∷ [])) c.before.before.requires
+pub put_id-a-requires : goal.put_id-a-requires
+put_id-a-requires c = countable-first (id_text c.args.s.0) (pieces (ascii " := " ∷ name_text c.args.t ∷ ascii "(" ∷ ids_text (operands c.args.t) ∷ ascii ")\n" ∷ [])) c.requires
 
--- src/lib.rt:66:32
-slice-aggregate-put-bytes : tie.Need-slice-aggregate-put-bytes
-slice-aggregate-put-bytes c = search rules
+pub put_bytes-b-requires : goal.put_bytes-b-requires
+put_bytes-b-requires c = countable-first (ascii " := ") (pieces (name_text c.args.t ∷ ascii "(" ∷ ids_text (operands c.args.t) ∷ ascii ")\n" ∷ [])) (countable-next {v = pieces (ascii " := " ∷ name_text c.args.t ∷ ascii "(" ∷ ids_text (operands c.args.t) ∷ ascii ")\n" ∷ [])} c.requires c.put_id-a.ensures)
 
--- src/lib.rt:66:9
-put-bytes-requires : tie.Need-put-bytes-requires
-put-bytes-requires c κs = countable-first (ascii " := ") (pieces (name_text c.before.before.before.before.before.before.before.args.t ∷ ascii "(" ∷ ids_text (operands c.before.before.before.before.before.before.before.args.t) ∷ ascii ")\n" ∷ [])) (countable-next {v = pieces (ascii " := " ∷ name_text c.before.before.before.before.before.before.before.args.t ∷ ascii "(" ∷ ids_text (operands c.before.before.before.before.before.before.before.args.t) ∷ ascii ")\n" ∷ [])} c.before.before.before.before.before.before.before.requires c.before.before.before.before.put_id.ensures)
+pub put_name-c-requires : goal.put_name-c-requires
+put_name-c-requires c = countable-first (name_text c.args.t) (pieces (ascii "(" ∷ ids_text (operands c.args.t) ∷ ascii ")\n" ∷ [])) (countable-next {v = pieces (name_text c.args.t ∷ ascii "(" ∷ ids_text (operands c.args.t) ∷ ascii ")\n" ∷ [])} (countable-next {v = pieces (ascii " := " ∷ name_text c.args.t ∷ ascii "(" ∷ ids_text (operands c.args.t) ∷ ascii ")\n" ∷ [])} c.requires c.put_id-a.ensures) c.put_bytes-b.ensures)
 
--- src/lib.rt:67:9
-put-name-requires : tie.Need-put-name-requires
-put-name-requires c κs = countable-first (name_text c.before.before.before.before.before.before.before.before.before.before.before.args.t) (pieces (ascii "(" ∷ ids_text (operands c.before.before.before.before.before.before.before.before.before.before.before.args.t) ∷ ascii ")\n" ∷ [])) (countable-next {v = pieces (name_text c.before.before.before.before.before.before.before.before.before.before.before.args.t ∷ ascii "(" ∷ ids_text (operands c.before.before.before.before.before.before.before.before.before.before.before.args.t) ∷ ascii ")\n" ∷ [])} (countable-next {v = pieces (ascii " := " ∷ name_text c.before.before.before.before.before.before.before.before.before.before.before.args.t ∷ ascii "(" ∷ ids_text (operands c.before.before.before.before.before.before.before.before.before.before.before.args.t) ∷ ascii ")\n" ∷ [])} c.before.before.before.before.before.before.before.before.before.before.before.requires c.before.before.before.before.before.before.before.before.put_id.ensures) c.before.before.before.put-bytes.ensures)
+pub put_bytes-d-requires : goal.put_bytes-d-requires
+put_bytes-d-requires c = countable-first (ascii "(") (pieces (ids_text (operands c.args.t) ∷ ascii ")\n" ∷ [])) (countable-next {v = pieces (ascii "(" ∷ ids_text (operands c.args.t) ∷ ascii ")\n" ∷ [])} (countable-next {v = pieces (name_text c.args.t ∷ ascii "(" ∷ ids_text (operands c.args.t) ∷ ascii ")\n" ∷ [])} (countable-next {v = pieces (ascii " := " ∷ name_text c.args.t ∷ ascii "(" ∷ ids_text (operands c.args.t) ∷ ascii ")\n" ∷ [])} c.requires c.put_id-a.ensures) c.put_bytes-b.ensures) c.put_name-c.ensures)
 
--- src/lib.rt:68:32
-slice-aggregate-put-bytes-2 : tie.Need-slice-aggregate-put-bytes-2
-slice-aggregate-put-bytes-2 c = search rules
+pub put_operands-e-requires : goal.put_operands-e-requires
+put_operands-e-requires c = countable-first (ids_text (operands c.args.t)) (ascii ")\n") (countable-next {v = pieces (ids_text (operands c.args.t) ∷ ascii ")\n" ∷ [])} (countable-next {v = pieces (ascii "(" ∷ ids_text (operands c.args.t) ∷ ascii ")\n" ∷ [])} (countable-next {v = pieces (name_text c.args.t ∷ ascii "(" ∷ ids_text (operands c.args.t) ∷ ascii ")\n" ∷ [])} (countable-next {v = pieces (ascii " := " ∷ name_text c.args.t ∷ ascii "(" ∷ ids_text (operands c.args.t) ∷ ascii ")\n" ∷ [])} c.requires c.put_id-a.ensures) c.put_bytes-b.ensures) c.put_name-c.ensures) c.put_bytes-d.ensures)
 
--- src/lib.rt:68:9
-put-bytes-requires-2 : tie.Need-put-bytes-requires-2
-put-bytes-requires-2 c κs = countable-first (ascii "(") (pieces (ids_text (operands c.before.before.before.before.before.before.before.before.before.before.before.before.before.before.before.before.args.t) ∷ ascii ")\n" ∷ [])) (countable-next {v = pieces (ascii "(" ∷ ids_text (operands c.before.before.before.before.before.before.before.before.before.before.before.before.before.before.before.before.args.t) ∷ ascii ")\n" ∷ [])} (countable-next {v = pieces (name_text c.before.before.before.before.before.before.before.before.before.before.before.before.before.before.before.before.args.t ∷ ascii "(" ∷ ids_text (operands c.before.before.before.before.before.before.before.before.before.before.before.before.before.before.before.before.args.t) ∷ ascii ")\n" ∷ [])} (countable-next {v = pieces (ascii " := " ∷ name_text c.before.before.before.before.before.before.before.before.before.before.before.before.before.before.before.before.args.t ∷ ascii "(" ∷ ids_text (operands c.before.before.before.before.before.before.before.before.before.before.before.before.before.before.before.before.args.t) ∷ ascii ")\n" ∷ [])} c.before.before.before.before.before.before.before.before.before.before.before.before.before.before.before.before.requires c.before.before.before.before.before.before.before.before.before.before.before.before.before.put_id.ensures) c.before.before.before.before.before.before.before.before.put-bytes.ensures) c.before.before.before.before.put-name.ensures)
+pub put_bytes-requires : goal.put_bytes-requires
+put_bytes-requires c = countable-next (countable-next {v = pieces (ids_text (operands c.args.t) ∷ ascii ")\n" ∷ [])} (countable-next {v = pieces (ascii "(" ∷ ids_text (operands c.args.t) ∷ ascii ")\n" ∷ [])} (countable-next {v = pieces (name_text c.args.t ∷ ascii "(" ∷ ids_text (operands c.args.t) ∷ ascii ")\n" ∷ [])} (countable-next {v = pieces (ascii " := " ∷ name_text c.args.t ∷ ascii "(" ∷ ids_text (operands c.args.t) ∷ ascii ")\n" ∷ [])} c.requires c.put_id-a.ensures) c.put_bytes-b.ensures) c.put_name-c.ensures) c.put_bytes-d.ensures) c.put_operands-e.ensures
 
--- src/lib.rt:69:9
-put-operands-requires : tie.Need-put-operands-requires
-put-operands-requires c κs = countable-first (ids_text (operands c.before.before.before.before.before.before.before.before.before.before.before.before.before.before.before.before.before.before.before.before.args.t)) (ascii ")\n") (countable-next {v = pieces (ids_text (operands c.before.before.before.before.before.before.before.before.before.before.before.before.before.before.before.before.before.before.before.before.args.t) ∷ ascii ")\n" ∷ [])} (countable-next {v = pieces (ascii "(" ∷ ids_text (operands c.before.before.before.before.before.before.before.before.before.before.before.before.before.before.before.before.before.before.before.before.args.t) ∷ ascii ")\n" ∷ [])} (countable-next {v = pieces (name_text c.before.before.before.before.before.before.before.before.before.before.before.before.before.before.before.before.before.before.before.before.args.t ∷ ascii "(" ∷ ids_text (operands c.before.before.before.before.before.before.before.before.before.before.before.before.before.before.before.before.before.before.before.before.args.t) ∷ ascii ")\n" ∷ [])} (countable-next {v = pieces (ascii " := " ∷ name_text c.before.before.before.before.before.before.before.before.before.before.before.before.before.before.before.before.before.before.before.before.args.t ∷ ascii "(" ∷ ids_text (operands c.before.before.before.before.before.before.before.before.before.before.before.before.before.before.before.before.before.before.before.before.args.t) ∷ ascii ")\n" ∷ [])} c.before.before.before.before.before.before.before.before.before.before.before.before.before.before.before.before.before.before.before.before.requires c.before.before.before.before.before.before.before.before.before.before.before.before.before.before.before.before.before.put_id.ensures) c.before.before.before.before.before.before.before.before.before.before.before.before.put-bytes.ensures) c.before.before.before.before.before.before.before.before.put-name.ensures) c.before.before.before.put-bytes2.ensures)
-
--- src/lib.rt:70:24
-slice-aggregate-put-bytes-3 : tie.Need-slice-aggregate-put-bytes-3
-slice-aggregate-put-bytes-3 c = search rules
-
--- src/lib.rt:70:5
-put-bytes-requires-3 : tie.Need-put-bytes-requires-3
-put-bytes-requires-3 c κs = countable-next (countable-next {v = pieces (ids_text (operands c.before.before.before.before.before.before.before.before.before.before.before.before.before.before.before.before.before.before.before.before.before.before.before.before.before.args.t) ∷ ascii ")\n" ∷ [])} (countable-next {v = pieces (ascii "(" ∷ ids_text (operands c.before.before.before.before.before.before.before.before.before.before.before.before.before.before.before.before.before.before.before.before.before.before.before.before.before.args.t) ∷ ascii ")\n" ∷ [])} (countable-next {v = pieces (name_text c.before.before.before.before.before.before.before.before.before.before.before.before.before.before.before.before.before.before.before.before.before.before.before.before.before.args.t ∷ ascii "(" ∷ ids_text (operands c.before.before.before.before.before.before.before.before.before.before.before.before.before.before.before.before.before.before.before.before.before.before.before.before.before.args.t) ∷ ascii ")\n" ∷ [])} (countable-next {v = pieces (ascii " := " ∷ name_text c.before.before.before.before.before.before.before.before.before.before.before.before.before.before.before.before.before.before.before.before.before.before.before.before.before.args.t ∷ ascii "(" ∷ ids_text (operands c.before.before.before.before.before.before.before.before.before.before.before.before.before.before.before.before.before.before.before.before.before.before.before.before.before.args.t) ∷ ascii ")\n" ∷ [])} c.before.before.before.before.before.before.before.before.before.before.before.before.before.before.before.before.before.before.before.before.before.before.before.before.before.requires c.before.before.before.before.before.before.before.before.before.before.before.before.before.before.before.before.before.before.before.before.before.before.put_id.ensures) c.before.before.before.before.before.before.before.before.before.before.before.before.before.before.before.before.before.put-bytes.ensures) c.before.before.before.before.before.before.before.before.before.before.before.before.before.put-name.ensures) c.before.before.before.before.before.before.before.before.put-bytes2.ensures) c.before.before.before.before.put-operands.ensures
-
--- src/lib.rt:61:1
-same_length : tie.Need-same-length
-same_length c = search rules
-
--- src/lib.rt:61:1
-returns : tie.Need-returns
-returns c = writes_then c.before.before.before.before.before.before.before.before.before.before.before.before.before.before.before.before.before.before.before.before.before.before.before.before.before.put_id.ensures (writes_then c.before.before.before.before.before.before.before.before.before.before.before.before.before.before.before.before.before.before.before.before.put-bytes.ensures (writes_then c.before.before.before.before.before.before.before.before.before.before.before.before.before.before.before.before.put-name.ensures (writes_then c.before.before.before.before.before.before.before.before.before.before.before.put-bytes2.ensures (writes_then c.before.before.before.before.before.before.before.put-operands.ensures c.before.before.put-bytes3.ensures))))
+pub returns : goal.returns
+returns c = writes_then c.put_id-a.ensures (writes_then c.put_bytes-b.ensures (writes_then c.put_name-c.ensures (writes_then c.put_bytes-d.ensures (writes_then c.put_operands-e.ensures c.put_bytes.ensures))))

@@ -1,4 +1,5 @@
 -- Each arm writes its name; a constant follows where there is one.
+use borrow.Author.Rules.{rules}
 use native.Mathlib.Omega.{arith}
 use mathlib.Core.List.{append-nil}
 use Rattle.snesl.specs.Ascii.{ascii}
@@ -44,8 +45,8 @@ pub put_bytes-requires-in-UPack : goal.put_bytes-requires-in-UPack
 put_bytes-requires-in-UPack c = countable-of name_text c.in-UPack.is c.requires
 
 pub returns-in-Const : goal.returns-in-Const
-returns-in-Const c = let z = c.t-1.given in
-    writes-of name_text z.1 (writes-constant (ascii "Const_") z.0.0 (record { sfits = c.known_told-1.given.0.1 }) c.put_bytes-p.ensures c.write_int.ensures)
+returns-in-Const c =
+    writes-of name_text c.in-Const.is (writes-constant (ascii "Const_") c.in-Const.z (search rules) c.put_bytes-p.ensures c.write_int.ensures)
 
 pub returns-in-ConstBool : goal.returns-in-ConstBool
 returns-in-ConstBool c = writes-of name_text c.in-ConstBool.is (writes-is (append-nil (bool_name c.in-ConstBool.c)) c.put_bool_name.ensures)
@@ -66,8 +67,8 @@ pub returns-in-MapOneNot : goal.returns-in-MapOneNot
 returns-in-MapOneNot c = writes-of name_text c.in-MapOneNot.is c.put_bytes-in-MapOneNot.ensures
 
 pub returns-in-ScanPlus : goal.returns-in-ScanPlus
-returns-in-ScanPlus c = let z = c.t-in-ScanPlus-1.given in
-    writes-of name_text z.1 (writes-constant (ascii "ScanPlus_") z.0.0 (record { sfits = c.known_told-in-ScanPlus-1.given.0.1 }) c.put_bytes-p-in-ScanPlus.ensures c.write_int-in-ScanPlus.ensures)
+returns-in-ScanPlus c =
+    writes-of name_text c.in-ScanPlus.is (writes-constant (ascii "ScanPlus_") c.in-ScanPlus.z (search rules) c.put_bytes-p-in-ScanPlus.ensures c.write_int-in-ScanPlus.ensures)
 
 pub returns-in-Distr : goal.returns-in-Distr
 returns-in-Distr c = writes-of name_text c.in-Distr.is c.put_bytes-in-Distr.ensures

@@ -1,6 +1,5 @@
 -- Each arm writes its operands' ids.
 use Rattle.snesl.specs.Text.{joined}
-use Rattle.snesl.specs.Transducers.{operands}
 use Rattle.decimals.proofs.Stores.{writes_nothing}
 use Rattle.lines.proofs.Writing.{countable-of, writes-of, operands_text}
 use Rattle.instructions.proofs.put_operands.Goals as goal

@@ -1,6 +1,5 @@
 -- The first id, a comma, the second id.
 use native.Mathlib.Omega.{arith}
-use borrow.Author.Rules.{rules}
 use mathlib.Core.List.{◌∷◌}
 use Rattle.snesl.specs.Text.{joined}
 use Rattle.snesl.specs.Listing.{id_text}
@@ -8,26 +7,18 @@ use Rattle.decimals.proofs.Stores.{writes_then}
 use Rattle.lines.proofs.Writing.{countable-first, countable-next}
 use Rattle.instructions.proofs.put_pair.Goals as goal
 
--- src/lib.rt:55:9
-put-id-requires : tie.Need-put-id-requires
+pub put_id-p-requires : goal.put_id-p-requires
 unfolding joined
-put-id-requires c κs = countable-first (id_text c.before.before.args.a.0) (44 ∷ id_text c.before.before.args.b.0) c.before.before.requires
+put_id-p-requires c = countable-first (id_text c.args.a.0) (44 ∷ id_text c.args.b.0) c.requires
 
--- src/lib.rt:56:9
-put-requires : tie.Need-put-requires
+pub put-q-requires : goal.put-q-requires
 unfolding joined
-put-requires c κs = omega (arith, (countable-next c.before.before.before.before.before.before.requires c.before.before.before.put_id.ensures).end)
+put-q-requires c = omega (arith, (countable-next c.requires c.put_id-p.ensures).end)
 
--- src/lib.rt:57:5
-put-id-requires-2 : tie.Need-put-id-requires-2
+pub put_id-requires : goal.put_id-requires
 unfolding joined
-put-id-requires-2 c κs = countable-next (countable-next c.before.before.before.before.before.before.before.before.before.before.requires c.before.before.before.before.before.before.before.put_id.ensures) c.before.before.before.put.ensures
+put_id-requires c = countable-next (countable-next c.requires c.put_id-p.ensures) c.put-q.ensures
 
--- src/lib.rt:51:1
-same_length : tie.Need-same-length
-same_length c = search rules
-
--- src/lib.rt:51:1
-returns : tie.Need-returns
+pub returns : goal.returns
 unfolding joined
-returns c = writes_then c.before.before.before.before.before.before.before.before.before.before.put_id.ensures (writes_then c.before.before.before.before.before.before.put.ensures c.before.before.put-id2.ensures)
+returns c = writes_then c.put_id-p.ensures (writes_then c.put-q.ensures c.put_id.ensures)

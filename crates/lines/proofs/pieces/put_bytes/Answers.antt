@@ -1,7 +1,5 @@
 -- The bytes before i stand written.
-use Prim.Native.Nat.{◌-◌}
 use native.Mathlib.Omega.{arith}
-use lib.ListN.{length}
 use Rattle.decimals.proofs.Stores.{writes_nothing}
 use Rattle.lines.proofs.Writing.{writes-length, writes_byte, writes-so-far, writes-all}
 use Rattle.lines.proofs.pieces.put_bytes.Goals as goal

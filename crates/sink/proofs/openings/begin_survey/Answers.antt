@@ -2,29 +2,19 @@
 use native.Mathlib.Omega.{arith}
 use lib.ListN.{length-set}
 use Rattle.sink.proofs.Sinking as sinking
-use borrow.Author.Rules.{rules}
 use Rattle.sink.proofs.openings.begin_survey.Goals as goal
 
--- src/openings.rt:61:14
-slice-read-id : tie.Need-slice-read-id
-slice-read-id c = omega (arith, sinking.long c.before.requires.2)
+pub bounds-state-0 : goal.bounds-state-0
+bounds-state-0 c = omega (arith, sinking.long c.requires.2)
 
--- src/openings.rt:62:5
-slice-write-state : tie.Need-slice-write-state
-slice-write-state c = omega (arith, sinking.long c.before.requires.2)
+pub bounds-state-4 : goal.bounds-state-4
+bounds-state-4 c = omega (arith, sinking.long c.requires.2)
 
--- src/openings.rt:63:5
-slice-write-state-2 : tie.Need-slice-write-state-2
-slice-write-state-2 c = simp length-set (omega (arith, sinking.long c.before.requires.2))
+pub bounds-state-6 : goal.bounds-state-6
+bounds-state-6 c = simp length-set (omega (arith, sinking.long c.requires.2))
 
--- src/openings.rt:64:5
-slice-write-state-3 : tie.Need-slice-write-state-3
-slice-write-state-3 c = simp length-set (omega (arith, sinking.long c.before.requires.2))
+pub bounds-state-7 : goal.bounds-state-7
+bounds-state-7 c = simp length-set (omega (arith, sinking.long c.requires.2))
 
--- src/openings.rt:57:1
-same_length : tie.Need-same-length
-same_length c = search rules
-
--- src/openings.rt:57:1
-returns : tie.Need-returns
+pub returns : goal.returns
 returns c = λ text k s. sinking.survey-begun s _

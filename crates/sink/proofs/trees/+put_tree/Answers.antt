@@ -3,217 +3,8 @@ use native.Mathlib.Omega.{arith}
 use lib.ListN.{length}
 use Rattle.lines.proofs.Writing.{writes-length}
 use Rattle.sink.proofs.TreeTexts as texts
-use Prim.Native.Nat.{ℕ, ◌+◌, ◌*◌}
+use Prim.Native.Nat.{◌+◌, ◌*◌}
 use Rattle.sink.proofs.trees.+put_tree.Goals as goal
-
--- src/lib.rt:22:42
-put-tree-mul-t13 : (t : ℕ) → put-tree-lts.Need-overflow-mul-t13 (
-  put-id-reads.Asked,
-  put-id-reads.Learnt,
-  put_reads.Asked,
-  put_reads.Learnt,
-  put-tree-below t,
-  put-tree.Post,
-) (put-tree-at t) put-tree.Post
-put-tree-mul-t13 t c = omega (arith, c.before.before.before.before.requires.1.within, c.before.before.before.before.well-formed.0.1)
-
--- src/lib.rt:22:42
-put-tree-shared-slice-read-t15 : (t : ℕ) → put-tree-lts.Need-shared-slice-read-t15 (
-  put-id-reads.Asked,
-  put-id-reads.Learnt,
-  put_reads.Asked,
-  put_reads.Learnt,
-  put-tree-below t,
-  put-tree.Post,
-) (put-tree-at t) put-tree.Post
-put-tree-shared-slice-read-t15 t c = omega (arith, c.before.before.before.before.before.requires.1.within)
-
--- src/lib.rt:22:42
-put-tree-cast-t16 : (t : ℕ) → put-tree-lts.Need-overflow-cast-t16 (
-  put-id-reads.Asked,
-  put-id-reads.Learnt,
-  put_reads.Asked,
-  put_reads.Learnt,
-  put-tree-below t,
-  put-tree.Post,
-) (put-tree-at t) put-tree.Post
-put-tree-cast-t16 t c = omega (arith, c.before.before.before.before.shared-slice-known.given c.before.before.before.before.before.args.q)
-
--- src/lib.rt:22:9
-put-tree-put-id-requires : (t : ℕ) → put-tree-lts.Need-put-id-requires (
-  put-id-reads.Asked,
-  put-id-reads.Learnt,
-  put_reads.Asked,
-  put_reads.Learnt,
-  put-tree-below t,
-  put-tree.Post,
-) (put-tree-at t) put-tree.Post
-put-tree-put-id-requires t c κs = texts.leaf-countable c.before.before.before.before.before.requires.1 c.before.before.if1.true
-
--- src/lib.rt:22:9
-put-tree-same-length : (t : ℕ) → put-tree-lts.Need-same-length (
-  put-id-reads.Asked,
-  put-id-reads.Learnt,
-  put_reads.Asked,
-  put_reads.Learnt,
-  put-tree-below t,
-  put-tree.Post,
-) (put-tree-at t) put-tree.Post
-put-tree-same-length t c = writes-length c.before.before.put_id.ensures
-
--- src/lib.rt:22:9
-put-tree-returns : (t : ℕ) → put-tree-lts.Need-returns (
-  put-id-reads.Asked,
-  put-id-reads.Learnt,
-  put_reads.Asked,
-  put_reads.Learnt,
-  put-tree-below t,
-  put-tree.Post,
-) (put-tree-at t) put-tree.Post
-put-tree-returns t c = λ g. texts.leaf-writes g c.before.before.before.before.before.if1.true c.before.before.put_id.ensures
-
--- src/lib.rt:24:9
-put-tree-put-requires : (t : ℕ) → put-tree-lts.Need-put-requires (
-  put-id-reads.Asked,
-  put-id-reads.Learnt,
-  put_reads.Asked,
-  put_reads.Learnt,
-  put-tree-below t,
-  put-tree.Post,
-) (put-tree-at t) put-tree.Post
-put-tree-put-requires t c κs = texts.open-countable c.before.before.before.before.requires.1 c.before.if1.false
-
--- src/lib.rt:25:30
-put-tree-sub-put-tree : (t : ℕ) → put-tree-lts.Need-overflow-sub-put-tree (
-  put-id-reads.Asked,
-  put-id-reads.Learnt,
-  put_reads.Asked,
-  put_reads.Learnt,
-  put-tree-below t,
-  put-tree.Post,
-) (put-tree-at t) put-tree.Post
-put-tree-sub-put-tree t c = omega arith
-
--- src/lib.rt:25:9
-put-tree-put-tree-requires : (t : ℕ) → put-tree-lts.Need-put-tree-requires (
-  put-id-reads.Asked,
-  put-id-reads.Learnt,
-  put_reads.Asked,
-  put_reads.Learnt,
-  put-tree-below t,
-  put-tree.Post,
-) (put-tree-at t) put-tree.Post
-put-tree-put-tree-requires t c κs = (omega (arith, c.before.before.before.before.before.before.before.before.requires.0), texts.inner-at c.before.before.before.before.before.before.before.before.requires.1 c.before.before.before.before.before.if1.false c.before.before.before.put.ensures)
-
--- src/lib.rt:26:9
-put-tree-put-requires-2 : (t : ℕ) → put-tree-lts.Need-put-requires-2 (
-  put-id-reads.Asked,
-  put-id-reads.Learnt,
-  put_reads.Asked,
-  put_reads.Learnt,
-  put-tree-below t,
-  put-tree.Post,
-) (put-tree-at t) put-tree.Post
-put-tree-put-requires-2 t c κs = texts.comma-countable c.before.before.before.before.before.before.before.before.before.before.before.before.requires.1 c.before.before.before.before.before.before.before.before.before.if1.false c.before.before.before.before.before.before.before.put.ensures c.before.before.before.put-tree.ensures
-
--- src/lib.rt:27:46
-put-tree-mul-t20 : (t : ℕ) → put-tree-lts.Need-overflow-mul-t20 (
-  put-id-reads.Asked,
-  put-id-reads.Learnt,
-  put_reads.Asked,
-  put_reads.Learnt,
-  put-tree-below t,
-  put-tree.Post,
-) (put-tree-at t) put-tree.Post
-put-tree-mul-t20 t c = omega (arith, c.before.before.before.before.before.before.before.before.before.before.before.before.before.before.before.before.requires.1.within, c.before.before.before.before.before.before.before.before.before.before.before.before.before.before.before.before.well-formed.0.0)
-
--- src/lib.rt:27:42
-put-tree-add-t27 : (t : ℕ) → put-tree-lts.Need-overflow-add-t27 (
-  put-id-reads.Asked,
-  put-id-reads.Learnt,
-  put_reads.Asked,
-  put_reads.Learnt,
-  put-tree-below t,
-  put-tree.Post,
-) (put-tree-at t) put-tree.Post
-put-tree-add-t27 t c = omega (arith, c.before.before.before.before.before.before.before.before.before.before.before.before.before.before.before.before.requires.1.within, c.before.before.before.before.before.before.before.before.before.before.before.before.before.before.before.before.well-formed.0.0)
-
--- src/lib.rt:27:38
-put-tree-mul-t28 : (t : ℕ) → put-tree-lts.Need-overflow-mul-t28 (
-  put-id-reads.Asked,
-  put-id-reads.Learnt,
-  put_reads.Asked,
-  put_reads.Learnt,
-  put-tree-below t,
-  put-tree.Post,
-) (put-tree-at t) put-tree.Post
-put-tree-mul-t28 t c = omega (arith, c.before.before.before.before.before.before.before.before.before.before.before.before.before.before.before.before.requires.1.within, c.before.before.before.before.before.before.before.before.before.before.before.before.before.before.before.before.well-formed.0.1)
-
--- src/lib.rt:27:38
-put-tree-shared-slice-read-t30 : (t : ℕ) → put-tree-lts.Need-shared-slice-read-t30 (
-  put-id-reads.Asked,
-  put-id-reads.Learnt,
-  put_reads.Asked,
-  put_reads.Learnt,
-  put-tree-below t,
-  put-tree.Post,
-) (put-tree-at t) put-tree.Post
-put-tree-shared-slice-read-t30 t c = omega (arith, c.before.before.before.before.before.before.before.before.before.before.before.before.before.before.before.before.before.requires.1.within)
-
--- src/lib.rt:27:38
-put-tree-cast-t31 : (t : ℕ) → put-tree-lts.Need-overflow-cast-t31 (
-  put-id-reads.Asked,
-  put-id-reads.Learnt,
-  put_reads.Asked,
-  put_reads.Learnt,
-  put-tree-below t,
-  put-tree.Post,
-) (put-tree-at t) put-tree.Post
-put-tree-cast-t31 t c = omega (arith, c.shared-slice-known3.given (c.before.before.before.before.before.before.before.before.before.before.before.before.before.before.before.before.before.args.q + 3 * c.before.before.before.before.before.before.before.before.before.before.before.before.before.before.before.before.before.args.depth))
-
--- src/lib.rt:27:9
-put-tree-put-id-requires-2 : (t : ℕ) → put-tree-lts.Need-put-id-requires-2 (
-  put-id-reads.Asked,
-  put-id-reads.Learnt,
-  put_reads.Asked,
-  put_reads.Learnt,
-  put-tree-below t,
-  put-tree.Post,
-) (put-tree-at t) put-tree.Post
-put-tree-put-id-requires-2 t c κs = texts.id-countable c.before.before.before.before.before.before.before.before.before.before.before.before.before.before.before.before.before.requires.1 c.before.before.before.before.before.before.before.before.before.before.before.before.before.before.if1.false c.before.before.before.before.before.before.before.before.before.before.before.before.put.ensures c.before.before.before.before.before.before.before.before.put-tree.ensures c.before.before.before.before.put2.ensures
-
--- src/lib.rt:28:5
-put-tree-put-requires-3 : (t : ℕ) → put-tree-lts.Need-put-requires-3 (
-  put-id-reads.Asked,
-  put-id-reads.Learnt,
-  put_reads.Asked,
-  put_reads.Learnt,
-  put-tree-below t,
-  put-tree.Post,
-) (put-tree-at t) put-tree.Post
-put-tree-put-requires-3 t c κs = texts.close-countable c.before.before.before.before.before.before.before.before.before.before.before.before.before.before.before.before.before.before.before.before.before.requires.1 c.before.before.before.before.before.before.before.before.before.before.before.before.before.before.before.before.before.before.if1.false c.before.before.before.before.before.before.before.before.before.before.before.before.before.before.before.before.put.ensures c.before.before.before.before.before.before.before.before.before.before.before.before.put-tree.ensures c.before.before.before.before.before.before.before.before.put2.ensures c.before.before.before.put-id2.ensures
-
--- src/lib.rt:17:1
-put-tree-same-length-2 : (t : ℕ) → put-tree-lts.Need-same-length-2 (
-  put-id-reads.Asked,
-  put-id-reads.Learnt,
-  put_reads.Asked,
-  put_reads.Learnt,
-  put-tree-below t,
-  put-tree.Post,
-) (put-tree-at t) put-tree.Post
-put-tree-same-length-2 t c = writes-length (texts.node-writes c.before.before.before.before.before.before.before.before.before.before.before.before.before.before.before.before.before.before.before.before.before.before.before.before.requires.1 c.before.before.before.before.before.before.before.before.before.before.before.before.before.before.before.before.before.before.before.before.before.if1.false c.before.before.before.before.before.before.before.before.before.before.before.before.before.before.before.before.before.before.before.put.ensures c.before.before.before.before.before.before.before.before.before.before.before.before.before.before.before.put-tree.ensures c.before.before.before.before.before.before.before.before.before.before.before.put2.ensures c.before.before.before.before.before.before.put-id2.ensures c.before.before.put3.ensures)
-
--- src/lib.rt:17:1
-put-tree-returns-2 : (t : ℕ) → put-tree-lts.Need-returns-2 (
-  put-id-reads.Asked,
-  put-id-reads.Learnt,
-  put_reads.Asked,
-  put_reads.Learnt,
-  put-tree-below t,
-  put-tree.Post,
-) (put-tree-at t) put-tree.Post
-put-tree-returns-2 t c = λ g. texts.node-writes g c.before.before.before.before.before.before.before.before.before.before.before.before.before.before.before.before.before.before.before.before.before.if1.false c.before.before.before.before.before.before.before.before.before.before.before.before.before.before.before.before.before.before.before.put.ensures c.before.before.before.before.before.before.before.before.before.before.before.before.before.before.before.put-tree.ensures c.before.before.before.before.before.before.before.before.before.before.before.put2.ensures c.before.before.before.before.before.before.put-id2.ensures c.before.before.put3.ensures
 
 pub +put-tree-spec : {M : Type 1} → statement M
 +put-tree-spec = close μ-put-tree λ t. put-tree-lts.spec (
@@ -245,3 +36,57 @@ pub +put-tree-spec : {M : Type 1} → statement M
     (put-tree-put-requires-3 t)
     (put-tree-same-length-2 t)
     (put-tree-returns-2 t)
+
+pub offset_bounds-env-q : goal.offset_bounds-env-q
+offset_bounds-env-q t c = omega (arith, c.requires.1.within, c.well_formed.0.1)
+
+pub bounds-env-q : goal.bounds-env-q
+bounds-env-q t c = omega (arith, c.requires.1.within)
+
+pub overflow_cast-env : goal.overflow_cast-env
+overflow_cast-env t c = omega (arith, c.type_inv.env c.args.q)
+
+pub put_id-requires : goal.put_id-requires
+put_id-requires t c = texts.leaf-countable c.requires.1 c.if-depth-eq0.true
+
+pub shape_of-text-then-depth-eq0 : goal.shape_of-text-then-depth-eq0
+shape_of-text-then-depth-eq0 t c = writes-length c.put_id.ensures
+
+pub returns-then-depth-eq0 : goal.returns-then-depth-eq0
+returns-then-depth-eq0 t c = λ g. texts.leaf-writes g c.if-depth-eq0.true c.put_id.ensures
+
+pub put-a-requires : goal.put-a-requires
+put-a-requires t c = texts.open-countable c.requires.1 c.if-depth-eq0.false
+
+pub put_tree-b-requires : goal.put_tree-b-requires
+put_tree-b-requires t c = (omega (arith, c.requires.0), texts.inner-at c.requires.1 c.if-depth-eq0.false c.put-a.ensures)
+
+pub put-c-requires : goal.put-c-requires
+put-c-requires t c = texts.comma-countable c.requires.1 c.if-depth-eq0.false c.put-a.ensures c.put_tree-b.ensures
+
+pub overflow_mul-depth : goal.overflow_mul-depth
+overflow_mul-depth t c = omega (arith, c.requires.1.within, c.well_formed.0.0)
+
+pub overflow_add-q : goal.overflow_add-q
+overflow_add-q t c = omega (arith, c.requires.1.within, c.well_formed.0.0)
+
+pub offset_bounds-env-q-2 : goal.offset_bounds-env-q-2
+offset_bounds-env-q-2 t c = omega (arith, c.requires.1.within, c.well_formed.0.1)
+
+pub bounds-env-q-2 : goal.bounds-env-q-2
+bounds-env-q-2 t c = omega (arith, c.requires.1.within)
+
+pub overflow_cast-env-2 : goal.overflow_cast-env-2
+overflow_cast-env-2 t c = omega (arith, c.type_inv.env (c.args.q + 3 * c.args.depth))
+
+pub put_id-d-requires : goal.put_id-d-requires
+put_id-d-requires t c = texts.id-countable c.requires.1 c.if-depth-eq0.false c.put-a.ensures c.put_tree-b.ensures c.put-c.ensures
+
+pub put-requires : goal.put-requires
+put-requires t c = texts.close-countable c.requires.1 c.if-depth-eq0.false c.put-a.ensures c.put_tree-b.ensures c.put-c.ensures c.put_id-d.ensures
+
+pub shape_of-text : goal.shape_of-text
+shape_of-text t c = writes-length (texts.node-writes c.requires.1 c.if-depth-eq0.false c.put-a.ensures c.put_tree-b.ensures c.put-c.ensures c.put_id-d.ensures c.put.ensures)
+
+pub returns : goal.returns
+returns t c = λ g. texts.node-writes g c.if-depth-eq0.false c.put-a.ensures c.put_tree-b.ensures c.put-c.ensures c.put_id-d.ensures c.put.ensures
