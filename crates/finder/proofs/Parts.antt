@@ -13,14 +13,13 @@ use Rattle.snesl.specs.declared.limits.Job.{Job}
 use Rattle.snesl.specs.Finder as finder
 use Rattle.snesl.specs.Records as records
 use Rattle.snesl.specs.Records.{mark_at, mark_va, Span, span_at, span_first, texts_at, texts, Front, front, texts_then, job_end, front_of, read_job}
-use Rattle.formula.specs.declared.read.Text.{Text}
 use Rattle.formula.specs.declared.read.Text.TheVariants as text
 use Rattle.formula.specs.declared.read.JobRead.{JobRead}
 use Rattle.formula.specs.declared.read.JobRead.TheVariants as job
 use Rattle.finder.specs.declared.find.Part.{Part}
-use Rattle.finder.specs.Parts.{Held, part_of, part_from, nowhere, part_among, located_in, located}
+use Rattle.finder.specs.Parts.{Held, part_from, nowhere, part_among, located_in, located}
 use Rattle.formula.specs.Reading.{text_at, job_of}
-use Rattle.records.proofs.Heads.{and_first, and_second}
+use Rattle.records.proofs.Heads.{and_second}
 
 -- the first of some texts that are read
 record First (t : List ℕ) (m k : ℕ) (ss : List Span) (end : ℕ) : Type 0 where

@@ -1,5 +1,5 @@
 -- The scope of a check as the code holds it: a list of pairs, name and type (as TypeWords.antt has it), newest first.
-use Rattle.std.specs.Prelude.{ℕ, ◌+◌, ◌-◌, Bool, true, false, List, [], ◌∷◌, ◌≡◌, eqb, take, drop}
+use Rattle.std.specs.Prelude.{ℕ, ◌+◌, ◌-◌, true, false, List, [], ◌∷◌, ◌≡◌, eqb, take, drop}
 use Rattle.scopes.specs.declared.scope.Kind.{Kind}
 use Rattle.scopes.specs.declared.scope.Kind.TheVariants.{Missing, Word}
 

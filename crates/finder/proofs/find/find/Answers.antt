@@ -18,4 +18,4 @@ slice_bounds-result-end c = omega (arith, within-job _ c.args.i c.locate-part.en
 
 pub returns : goal.returns
 returns c = let job = c.args.bytes in
-    let located-at = c.locate-part.ensures in record { result_value = finds _ c.args.i located-at; ref_ptr_value = ap (λ (n : ℕ). (job.ptr.0, n)) (add_comm _ _) ∙ ap (start_of job.ptr) located-at; }
+    let located-at = c.locate-part.ensures in record { result_value = finds _ c.args.i located-at; ref_ptr_value = ap (λ (n : ℕ). (job.ref_ptr.0, n)) (add_comm _ _) ∙ ap (start_of job.ref_ptr) located-at }

@@ -4,9 +4,6 @@ use mathlib.Core.Path.{sym, ◌∙◌}
 use Rattle.scopes.proofs.Listing.{each-off, each_on}
 use Rattle.scopes.proofs.listed.each_usable.Goals as goal
 
-pub usable-requires : goal.usable-requires
-usable-requires c = let both = c.requires in record { fact_1 = both.0; fact_2 = both.1; }
-
 pub returns-then-named : goal.returns-then-named
 returns-then-named c = each_on _ _ _ (sym c.usable.ensures ∙ c.if-usable.true) true (sym c.named.ensures ∙ c.if-named.true)
 

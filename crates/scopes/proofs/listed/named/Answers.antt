@@ -1,8 +1,6 @@
 -- The variables that were passed by are others.
-use Prim.Native.Nat.{◌-◌}
 use mathlib.Core.Bool.{true}
 use mathlib.Core.Path.{sym, ◌∙◌}
-use Rattle.snesl.specs.Checking.{names}
 use Rattle.scopes.proofs.Listing.{start, turn, stop, done, names-hit, names-miss, names-none}
 use Rattle.scopes.proofs.listed.named.Goals as goal
 

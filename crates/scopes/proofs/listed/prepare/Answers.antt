@@ -7,20 +7,8 @@ use Rattle.scopes.proofs.listed.prepare.Goals as goal
 pub look-requires : goal.look-requires
 look-requires c = (c.requires.fact_2.1, c.requires.fact_2.2)
 
-pub enum_told-1 : goal.enum_told-1
-enum_told-1 c = c.in-Missing.in-Missing-own.keys1
-
-pub enum_known-word : goal.enum_known-word
-enum_known-word c = c.in-Word.in-Word-own.keys2
-
-pub scalars-requires : goal.scalars-requires
-scalars-requires c = let both = omega (arith, c.requires) in record { fact_1 = both.0; fact_2 = both.1; }
-
 pub overflow_add-k-then-scalars : goal.overflow_add-k-then-scalars
 overflow_add-k-then-scalars c = omega (arith, c.requires)
-
-pub push_listed-top-requires : goal.push_listed-top-requires
-push_listed-top-requires c = let both = omega (arith, c.requires) in record { fact_1 = both.0; fact_2 = both.1; }
 
 pub push-requires : goal.push-requires
 push-requires c = omega (arith, room-left _ _ _ _ _ _ _ _ c.push_listed-top.ensures c.requires.fact_2.0, c.push_listed-top.auto.env, c.requires)

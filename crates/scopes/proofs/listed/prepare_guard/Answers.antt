@@ -7,20 +7,8 @@ use Rattle.scopes.proofs.listed.prepare_guard.Goals as goal
 pub look-requires : goal.look-requires
 look-requires c = (c.requires.fact_2.1, c.requires.fact_2.2)
 
-pub enum_told-1 : goal.enum_told-1
-enum_told-1 c = c.in-Missing.in-Missing-own.keys1
-
-pub enum_known-word : goal.enum_known-word
-enum_known-word c = c.in-Word.in-Word-own.keys2
-
-pub usable-requires : goal.usable-requires
-usable-requires c = let both = omega (arith, c.requires) in record { fact_1 = both.0; fact_2 = both.1; }
-
 pub overflow_add-k-then-word-eq-BOOL : goal.overflow_add-k-then-word-eq-BOOL
 overflow_add-k-then-word-eq-BOOL c = omega (arith, c.requires)
-
-pub push_listed-requires : goal.push_listed-requires
-push_listed-requires c = let both = omega (arith, c.requires) in record { fact_1 = both.0; fact_2 = both.1; }
 
 pub shape_of-env-then-word-eq-BOOL : goal.shape_of-env-then-word-eq-BOOL
 shape_of-env-then-word-eq-BOOL c = c.push_listed.auto.env

@@ -1,5 +1,4 @@
 -- Each variable that was passed by is a scalar.
-use Prim.Native.Nat.{◌-◌}
 use mathlib.Core.Bool.{false}
 use mathlib.Core.Path.{sym, ◌∙◌}
 use Rattle.scopes.proofs.Listing.{start, turn, stop, done, scalars-on, scalars-off, scalars-missing, scalars-none}

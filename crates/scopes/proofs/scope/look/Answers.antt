@@ -1,5 +1,4 @@
 -- The pairs that were passed by are none of the name's.
-use Prim.Native.Nat.{◌-◌}
 use Rattle.scopes.proofs.Scopes.{start, found, turn, missing}
 use Rattle.scopes.proofs.scope.look.Goals as goal
 
