@@ -2,13 +2,12 @@
 use Prim.Native.Nat.{ℕ, zero, suc, ◌+◌, ◌-◌, ◌≤◌, ◌<◌}
 use mathlib.Core.List.{List, [], ◌∷◌}
 use mathlib.Core.Option.{none}
-use mathlib.Core.Path.{◌≡◌, refl, sym, ◌∙◌, ap}
+use mathlib.Core.Path.{◌≡◌, sym, ◌∙◌, ap}
 use native.Mathlib.Omega.{arith}
 use lib.IntN.{ℤ, pos}
 use lib.ListN.{length, drop, replicate, length-append, length-drop, length-replicate}
 use lib.Seq.{drop-drop}
 use Rattle.laws.specs.Parts.{part}
-use Rattle.laws.proofs.Parts.{length_part}
 use Rattle.snesl.specs.Transducers.{Feed, each_f, each_t, flag_of, misfit, spread, sums}
 use Rattle.flags.specs.Segments.{leading}
 use Rattle.flags.proofs.Clauses.{spread_end, sums-end}

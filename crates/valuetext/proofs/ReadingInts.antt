@@ -1,5 +1,5 @@
 -- The loop over a list of ints is the list reader's at depth 1, with the two cursors in locals: x the data's, y the flags'.
-use Prim.Native.Nat.{ℕ, suc, ◌+◌, ◌<◌, ◌^◌}
+use Prim.Native.Nat.{ℕ, ◌+◌, ◌<◌, ◌^◌}
 use mathlib.Core.List.{List, [], ◌∷◌}
 use mathlib.Core.Path.{◌≡◌, refl, sym, ap, ◌∙◌, subst}
 use native.Mathlib.Omega.{arith}
@@ -13,8 +13,8 @@ use Rattle.decimals.specs.declared.numbers.ReadInt.TheVariants.{Int, No as NoInt
 use Rattle.valuetext.specs.Reading.{opening_at, after_at, Ready, Laid, ReadAs}
 use Rattle.valuetext.specs.declared.reading.Taken.TheVariants.{Bytes, No}
 use Rattle.valuetext.specs.declared.reading.Opening.TheVariants.{Items}
-use Rattle.valuetext.specs.declared.reading.After.TheVariants.{Comma, Close, Else}
-use Rattle.valuetext.proofs.ReadingSteps.{int_at_lem, leaf-scalar, leaf-no, leaf-ready, Listing, listing_start, listing-no, item-ready, flag-ready, listing-item, Item, item-comma, item-else, item-close, end-ready}
+use Rattle.valuetext.specs.declared.reading.After.TheVariants.{Comma, Close}
+use Rattle.valuetext.proofs.ReadingSteps.{int_at_lem, leaf-scalar, leaf-no, leaf-ready, Listing, listing_start, listing-no, item-ready, flag-ready, listing-item, Item, item-comma, item-close, end-ready}
 use Rattle.valuetext.proofs.ReadingAt.{laid_of, none_of}
 
 -- the lent cursors with the two moved on

@@ -19,7 +19,7 @@ use Rattle.snesl.specs.declared.code.Base.TheVariants as base
 use Rattle.snesl.specs.Values.{type_of, Element, Val}
 use Rattle.snesl.specs.Streams.{bit}
 use Rattle.snesl.specs.Representation.{concat, segments}
-use Rattle.snesl.specs.Text.{comma, before, read_items, read_int, read_bool, read_element, read_value}
+use Rattle.snesl.specs.Text.{before, read_items, read_int, read_bool, read_element, read_value}
 use Rattle.decimals.specs.Numbers.{pick, int_at, int_read}
 use Rattle.valuetext.specs.Laying.{cells, lay, advance, Under, Apart}
 use Rattle.valuetext.specs.Reading.{opening_at, after_at, cell, scalar_read, scalar_at, bool_at, ints_in, Clear, measuring, filling, Ready, Laid, ReadAs, read_no, read-bytes}

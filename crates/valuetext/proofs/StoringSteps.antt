@@ -25,7 +25,6 @@ use Rattle.levels.specs.Counts.{total_of}
 use Rattle.valuetext.specs.Reading.{Ready, measuring, filling, Laid, ReadAs, read_no, read-bytes}
 use Rattle.valuetext.specs.declared.reading.Taken.{Taken}
 use Rattle.valuetext.specs.Storing.{value_store, value_store_if, text_elements, measured_if, measured, counts_if, counts_after, Fillable, Conversion, refused, accepted, store_if, to_streams}
-use Rattle.valuetext.specs.declared.storing.Measured.{Measured}
 use Rattle.valuetext.specs.declared.storing.Stored.{Stored}
 use Rattle.valuetext.specs.declared.storing.Stored.TheVariants.{Elements as StoredElements, Refused}
 use Rattle.levels.specs.declared.counts.Total.TheVariants.{Of, Over}

@@ -1,5 +1,4 @@
 -- `packs::keep`: the walk of Turn.antt.
-use Prim.Native.Nat.{◌-◌}
 use native.Mathlib.Omega.{arith}
 use Rattle.segmentwise.proofs.packs.keep.Invariants.Turn.{begin, next-ends, item, bounds, fits_in, turn-F, turn-T, done}
 use Rattle.segmentwise.proofs.packs.keep.Goals as goal

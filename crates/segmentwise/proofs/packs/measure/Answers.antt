@@ -1,5 +1,4 @@
 -- `packs::measure`: the walk of Turn.antt.
-use Prim.Native.Nat.{◌-◌}
 use native.Mathlib.Omega.{arith}
 use Rattle.segmentwise.proofs.packs.measure.Invariants.Turn.{begin, next-ends, item, bounds, turn-F, turn-T, done}
 use Rattle.segmentwise.proofs.packs.measure.Goals as goal

@@ -2,7 +2,7 @@
 use Prim.Native.Nat.{ℕ, ◌+◌, ◌-◌, ◌≤◌, ◌<◌}
 use mathlib.Core.List.{List, map}
 use mathlib.Core.Option.{Option, none}
-use mathlib.Core.Path.{◌≡◌, refl, sym, ◌∙◌, ap}
+use mathlib.Core.Path.{◌≡◌, refl, sym, ◌∙◌}
 use native.Mathlib.Omega.{arith}
 use lib.IntN.{ℤ}
 use lib.ListN.{length, length-map}
@@ -72,29 +72,29 @@ module _ {old : List ℤ} {out n at len fat flen : ℕ} {r : Misfit} (c : Call o
 
 pub returns-in-At : goal.returns-in-At
 returns-in-At c = let s = c.args in
-    let k = call s.buf.now s.out s.n s.at s.len s.flags-at s.flags-len c.requires (c.fits-misfit.ensures each_t refl refl) in
+    let k = call s.buf.now s.out s.n s.at s.len s.flags_at s.flags_len c.requires (c.fits-misfit.ensures each_t refl refl) in
     unfit k _ c.in-At.is
 
 pub measure-made-requires : goal.measure-made-requires
 measure-made-requires c = let s = c.args in
-    let k = call s.buf.now s.out s.n s.at s.len s.flags-at s.flags-len c.requires (c.fits-misfit.ensures each_t refl refl) in
-    (s.flags-len, s.len, s.out, operands k c.in_default.is)
+    let k = call s.buf.now s.out s.n s.at s.len s.flags_at s.flags_len c.requires (c.fits-misfit.ensures each_t refl refl) in
+    (s.flags_len, s.len, s.out, operands k c.in_default.is)
 
 pub returns-then-buf-out : goal.returns-then-buf-out
 returns-then-buf-out c = let s = c.args in
-    let k = call s.buf.now s.out s.n s.at s.len s.flags-at s.flags-len c.requires (c.fits-misfit.ensures each_t refl refl) in
+    let k = call s.buf.now s.out s.n s.at s.len s.flags_at s.flags_len c.requires (c.fits-misfit.ensures each_t refl refl) in
     let e = c.in_default.is in
     full k e (c.measure-made.ensures _ _ _ (operands k e)) c.if-buf-out.true
 
 pub keep-requires : goal.keep-requires
 keep-requires c = let s = c.args in
-    let k = call s.buf.now s.out s.n s.at s.len s.flags-at s.flags-len c.requires (c.fits-misfit.ensures each_t refl refl) in
+    let k = call s.buf.now s.out s.n s.at s.len s.flags_at s.flags_len c.requires (c.fits-misfit.ensures each_t refl refl) in
     let e = c.in_default.is in
-    (s.flags-len, s.len, keeps k e (c.measure-made.ensures _ _ _ (operands k e)) c.if-buf-out.false)
+    (s.flags_len, s.len, keeps k e (c.measure-made.ensures _ _ _ (operands k e)) c.if-buf-out.false)
 
 pub returns : goal.returns
 returns c = let s = c.args in
-    let k = call s.buf.now s.out s.n s.at s.len s.flags-at s.flags-len c.requires (c.fits-misfit.ensures each_t refl refl) in
+    let k = call s.buf.now s.out s.n s.at s.len s.flags_at s.flags_len c.requires (c.fits-misfit.ensures each_t refl refl) in
     let e = c.in_default.is in
     let m = c.measure-made.ensures _ _ _ (operands k e) in
     wrote k e m c.if-buf-out.false (c.keep.ensures _ _ (keeps k e m c.if-buf-out.false))

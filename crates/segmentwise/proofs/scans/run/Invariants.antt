@@ -6,8 +6,6 @@ use mathlib.Core.Path.{◌≡◌}
 use lib.IntN.{ℤ}
 use lib.ListN.{length, drop}
 use lib.Signed.{mag}
-use mir.Syntax.{w32, w64}
-use mir.Val.{to_z}
 use Rattle.laws.specs.Parts.{part}
 use Rattle.laws.proofs.Emits.{Emits}
 use Rattle.flags.specs.Segments.{running}
@@ -26,7 +24,7 @@ pub record Head (old : List ℤ) (out at count : ℕ) (s : ℤ) (writes : Bool) 
   pub all : all_inside (tagged 0 (running s (part at count old))) ≡ all_inside (tagged 0 (running t (drop i (part at count old))))
 
 abbrev pub invariant-loop-i : goal.invariant-loop-i
-invariant-loop-i l = Head l.initial.buf l.out l.at l.count (to_z w32 l.start) l.writes l.buf l.i (to_z w64 l.total)
+invariant-loop-i l = Head l.initial.buf l.out l.at l.count l.start l.writes l.buf l.i l.total
 
 abbrev pub decreases-loop-i : goal.decreases-loop-i
 decreases-loop-i l = l.count - l.i

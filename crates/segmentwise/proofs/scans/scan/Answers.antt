@@ -1,9 +1,7 @@
 -- `scans::scan`: the walk of Turn.antt.
-use Prim.Native.Nat.{◌-◌}
 use mathlib.Core.Path.{◌∙◌}
 use native.Mathlib.Omega.{arith}
 use mir.Facts.{to_z-of_z}
-use mir.Val.{to_z}
 use Rattle.segmentwise.proofs.scans.scan.Invariants.Turn.{begin, next-ends, gap, bounds, runs, turn, stop, over}
 use Rattle.segmentwise.proofs.scans.scan.Goals as goal
 

@@ -7,7 +7,7 @@ use Turn.{Loop}
 use Rattle.segmentwise.proofs.scans.scan.Given as goal
 
 abbrev pub invariant-loop-k : goal.invariant-loop-k
-invariant-loop-k l = Loop l.initial.buf l.out l.n (to_z w32 l.start) l.flags_at l.at l.writes l.buf l.i l.j l.k
+invariant-loop-k l = Loop l.initial.buf l.out l.n l.start l.flags_at l.at l.writes l.buf l.i l.j l.k
 
 abbrev pub decreases-loop-k : goal.decreases-loop-k
 decreases-loop-k l = l.n - l.k

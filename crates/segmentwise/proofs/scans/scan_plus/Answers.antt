@@ -5,7 +5,7 @@ use mathlib.Core.List.{List}
 use mathlib.Core.Option.{Option, some, none}
 use mathlib.Core.Path.{◌≡◌, refl, sym, ◌∙◌, ap, transport}
 use native.Mathlib.Omega.{arith}
-use borrow.Author.Tests.{leb-true, leb-false}
+use borrow.Author.Tests.{leb-true, leb-false, le-leb, lt-leb}
 use lib.Dec.{leb}
 use lib.IntN.{ℤ}
 use lib.ListN.{length, length-map}
@@ -95,7 +95,7 @@ module _ {old : List ℤ} {out n : ℕ} {start : ℤ} {fat flen at len : ℕ} {r
             (lacks-room mis (first_outside results) outside (ints (values results)) out old fit none_out (omega (arith, leb-false len (length old - out) w, long)))
 
 pub returns-in-At : goal.returns-in-At
-returns-in-At c = let k = call c.args.buf.now c.args.out c.args.n c.args.start c.args.flags_at c.args.flags_len c.args.at c.args.len c.requires c.ranges.start (c.fits-misfit.ensures each_f refl refl) in record { answers = unfit k _ c.in-At.is; buf_unchanged = refl; }
+returns-in-At c = let k = call c.args.buf.now c.args.out c.args.n c.args.start c.args.flags_at c.args.flags_len c.args.at c.args.len c.requires c.ranges.start (c.fits-misfit.ensures each_f refl refl) in record { answers = unfit k _ c.in-At.is; buf_unchanged = refl }
 
 pub scan-outside-requires : goal.scan-outside-requires
 scan-outside-requires c = let k = call c.args.buf.now c.args.out c.args.n c.args.start c.args.flags_at c.args.flags_len c.args.at c.args.len c.requires c.ranges.start (c.fits-misfit.ensures each_f refl refl) in
@@ -106,18 +106,18 @@ shape_of-buf-in-At-outside c = c.scan-outside.auto.buf
 
 pub returns-in-At-outside : goal.returns-in-At-outside
 returns-in-At-outside c = let k = call c.args.buf.now c.args.out c.args.n c.args.start c.args.flags_at c.args.flags_len c.args.at c.args.len c.requires c.ranges.start (c.fits-misfit.ensures each_f refl refl) in
-    let f = c.scan-outside.ensures _ _ (scannable k c.in_default.is) in record { answers = stops k c.in_default.is f _ c.in-At-outside.is; buf_unchanged = f.behind; }
+    let f = c.scan-outside.ensures _ _ (scannable k c.in_default.is) in record { answers = stops k c.in_default.is f _ c.in-At-outside.is; buf_unchanged = f.behind }
 
 pub shape_of-buf-then-room : goal.shape_of-buf-then-room
 shape_of-buf-then-room c = c.scan-outside.auto.buf
 
 pub returns-then-room : goal.returns-then-room
 returns-then-room c = let k = call c.args.buf.now c.args.out c.args.n c.args.start c.args.flags_at c.args.flags_len c.args.at c.args.len c.requires c.ranges.start (c.fits-misfit.ensures each_f refl refl) in
-    let f = c.scan-outside.ensures _ _ (scannable k c.in_default.is) in record { answers = made k c.in_default.is f c.in_default-outside.is c.if-room.true; buf_unchanged = f.behind; }
+    let f = c.scan-outside.ensures _ _ (scannable k c.in_default.is) in record { answers = made k c.in_default.is f c.in_default-outside.is (le-leb _ _ c.if-room.true); buf_unchanged = f.behind }
 
 pub shape_of-buf : goal.shape_of-buf
 shape_of-buf c = c.scan-outside.auto.buf
 
 pub returns : goal.returns
 returns c = let k = call c.args.buf.now c.args.out c.args.n c.args.start c.args.flags_at c.args.flags_len c.args.at c.args.len c.requires c.ranges.start (c.fits-misfit.ensures each_f refl refl) in
-    let f = c.scan-outside.ensures _ _ (scannable k c.in_default.is) in record { answers = full k c.in_default.is f c.in_default-outside.is c.if-room.false; buf_unchanged = f.behind; }
+    let f = c.scan-outside.ensures _ _ (scannable k c.in_default.is) in record { answers = full k c.in_default.is f c.in_default-outside.is (lt-leb _ _ c.if-room.false); buf_unchanged = f.behind }

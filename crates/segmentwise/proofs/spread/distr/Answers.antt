@@ -2,7 +2,7 @@
 use Prim.Native.Nat.{ℕ, ◌+◌, ◌-◌, ◌≤◌, ◌<◌}
 use mathlib.Core.List.{List}
 use mathlib.Core.Option.{Option, none}
-use mathlib.Core.Path.{◌≡◌, refl, ◌∙◌, ap}
+use mathlib.Core.Path.{◌≡◌, refl, ◌∙◌}
 use native.Mathlib.Omega.{arith}
 use lib.IntN.{ℤ}
 use lib.ListN.{length}

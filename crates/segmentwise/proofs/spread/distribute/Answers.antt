@@ -1,5 +1,4 @@
 -- `spread::distribute`: the walk of Turn.antt.
-use Prim.Native.Nat.{◌-◌}
 use native.Mathlib.Omega.{arith}
 use Rattle.segmentwise.proofs.spread.distribute.Invariants.Turn.{begin, next-ends, item, gap, fits_in, turn, done, bounds}
 use Rattle.segmentwise.proofs.spread.distribute.Goals as goal

@@ -1,5 +1,4 @@
 -- `sums::first_outside`: the walk of Turn.antt.
-use Prim.Native.Nat.{◌-◌}
 use native.Mathlib.Omega.{arith}
 use borrow.Author.Rules.{sfits_of}
 use Rattle.segmentwise.proofs.sums.first_outside.Invariants.Turn.{begin, next-ends, gap, items, bounds, turn, stop, over}

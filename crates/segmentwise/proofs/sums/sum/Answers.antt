@@ -1,5 +1,4 @@
 -- `sums::sum`: the walk of Turn.antt.
-use Prim.Native.Nat.{◌-◌}
 use native.Mathlib.Omega.{arith}
 use borrow.Author.Rules.{sfits_of}
 use Rattle.segmentwise.proofs.sums.sum.Invariants.Turn.{begin, next-ends, place, gap, items, bounds, turn, done}

@@ -3,7 +3,7 @@ use Prim.Native.Nat.{ℕ, ◌+◌, ◌-◌, ◌≤◌, ◌<◌}
 use mathlib.Core.Bool.{Bool, true, false}
 use mathlib.Core.List.{List}
 use mathlib.Core.Option.{Option, none}
-use mathlib.Core.Path.{◌≡◌, refl, sym, ◌∙◌, ap}
+use mathlib.Core.Path.{◌≡◌, refl, sym, ◌∙◌}
 use native.Mathlib.Omega.{arith}
 use lib.IntN.{ℤ, pos}
 use lib.ListN.{length, length-map}
@@ -94,14 +94,14 @@ module _ {old : List ℤ} {out n fat flen at len : ℕ} {r : Misfit} (c : Call o
           (p ∙ (λ i. told_outside (first_outside (sums flag_of 0 (pos 0) (same_flags i) (same-items i))))) f.before
 
 pub returns-in-At : goal.returns-in-At
-returns-in-At c = let k = call c.args.buf.now c.args.out c.args.n c.args.flags_at c.args.flags_len c.args.at c.args.len c.requires (c.fits-misfit.ensures each_f refl refl) in record { answers = unfit k _ c.in-At.is; buf_unchanged = refl; }
+returns-in-At c = let k = call c.args.buf.now c.args.out c.args.n c.args.flags_at c.args.flags_len c.args.at c.args.len c.requires (c.fits-misfit.ensures each_f refl refl) in record { answers = unfit k _ c.in-At.is; buf_unchanged = refl }
 
 pub first_outside-requires : goal.first_outside-requires
 first_outside-requires c = let k = call c.args.buf.now c.args.out c.args.n c.args.flags_at c.args.flags_len c.args.at c.args.len c.requires (c.fits-misfit.ensures each_f refl refl) in
     (c.args.flags_len, c.args.len, c.args.out, fitting k c.in_default.is)
 
 pub returns-then-buf-out : goal.returns-then-buf-out
-returns-then-buf-out c = let k = call c.args.buf.now c.args.out c.args.n c.args.flags_at c.args.flags_len c.args.at c.args.len c.requires (c.fits-misfit.ensures each_f refl refl) in record { answers = full k c.in_default.is c.if-buf-out.true (c.first_outside.ensures _ _ _ (fitting k c.in_default.is)); buf_unchanged = refl; }
+returns-then-buf-out c = let k = call c.args.buf.now c.args.out c.args.n c.args.flags_at c.args.flags_len c.args.at c.args.len c.requires (c.fits-misfit.ensures each_f refl refl) in record { answers = full k c.in_default.is c.if-buf-out.true (c.first_outside.ensures _ _ _ (fitting k c.in_default.is)); buf_unchanged = refl }
 
 pub sum-requires : goal.sum-requires
 sum-requires c = let k = call c.args.buf.now c.args.out c.args.n c.args.flags_at c.args.flags_len c.args.at c.args.len c.requires (c.fits-misfit.ensures each_f refl refl) in
@@ -109,7 +109,7 @@ sum-requires c = let k = call c.args.buf.now c.args.out c.args.n c.args.flags_at
 
 pub returns-then-sum : goal.returns-then-sum
 returns-then-sum c = let k = call c.args.buf.now c.args.out c.args.n c.args.flags_at c.args.flags_len c.args.at c.args.len c.requires (c.fits-misfit.ensures each_f refl refl) in
-    let f = c.sum.ensures _ _ (fitting k c.in_default.is) in record { answers = made k c.in_default.is f c.if-buf-out.false c.if-sum.true; buf_unchanged = f.behind; }
+    let f = c.sum.ensures _ _ (fitting k c.in_default.is) in record { answers = made k c.in_default.is f c.if-buf-out.false c.if-sum.true; buf_unchanged = f.behind }
 
 pub first_outside-requires-2 : goal.first_outside-requires-2
 first_outside-requires-2 c = let k = call c.args.buf.now c.args.out c.args.n c.args.flags_at c.args.flags_len c.args.at c.args.len c.requires (c.fits-misfit.ensures each_f refl refl) in
@@ -118,4 +118,4 @@ first_outside-requires-2 c = let k = call c.args.buf.now c.args.out c.args.n c.a
 
 pub returns : goal.returns
 returns c = let k = call c.args.buf.now c.args.out c.args.n c.args.flags_at c.args.flags_len c.args.at c.args.len c.requires (c.fits-misfit.ensures each_f refl refl) in
-    let f = c.sum.ensures _ _ (fitting k c.in_default.is) in record { answers = refuses k c.in_default.is f c.if-sum.false (c.first_outside-2.ensures _ _ _ (fitting-still k c.in_default.is f c.sum.auto.buf)); buf_unchanged = f.behind; }
+    let f = c.sum.ensures _ _ (fitting k c.in_default.is) in record { answers = refuses k c.in_default.is f c.if-sum.false (c.first_outside-2.ensures _ _ _ (fitting-still k c.in_default.is f c.sum.auto.buf)); buf_unchanged = f.behind }

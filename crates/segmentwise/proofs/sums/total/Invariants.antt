@@ -5,10 +5,7 @@ use mathlib.Core.Path.{◌≡◌}
 use lib.IntN.{ℤ, pos}
 use lib.ListN.{length, drop}
 use lib.Signed.{mag}
-use mir.Syntax.{w64}
-use mir.Val.{to_z}
 use Rattle.laws.specs.Parts.{part}
-use Rattle.laws.proofs.Whole.{wide}
 use Rattle.flags.specs.Segments.{total_from}
 use Rattle.streams.specs.Answers.{widest_buffer}
 use Rattle.segmentwise.proofs.sums.total.Given as goal
@@ -20,7 +17,7 @@ pub record Head (buf : List ℤ) (from to i : ℕ) (t : ℤ) : Type 0 where
   pub same : total_from (pos 0) (part from (to - from) buf) ≡ total_from t (drop (i - from) (part from (to - from) buf))
 
 abbrev pub invariant-loop-i : goal.invariant-loop-i
-invariant-loop-i l = Head l.buf l.from l.to l.i (to_z w64 l.sum)
+invariant-loop-i l = Head l.buf l.from l.to l.i l.sum
 
 abbrev pub decreases-loop-i : goal.decreases-loop-i
 decreases-loop-i l = l.to - l.i

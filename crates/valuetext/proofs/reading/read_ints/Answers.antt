@@ -1,6 +1,6 @@
 -- ^ own imports
 -- The cursors stay in locals until the closing brace: until then the lent ones stand as they did.
-use Prim.Native.Nat.{ℕ, ◌+◌, ◌-◌}
+use Prim.Native.Nat.{ℕ, ◌+◌}
 use mathlib.Core.List.{List}
 use mathlib.Core.Path.{sym, ap, ◌∙◌}
 use native.Mathlib.Omega.{arith}

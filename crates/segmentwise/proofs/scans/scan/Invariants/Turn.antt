@@ -1,7 +1,7 @@
 -- What holds at the head of `scans::scan`'s loop, and one law for each way on from there.
 use Prim.Native.Nat.{ℕ, suc, ◌+◌, ◌-◌, ◌≤◌, ◌<◌}
 use mathlib.Core.Bool.{Bool, true, false}
-use mathlib.Core.List.{List, [], ◌∷◌, ◌++◌}
+use mathlib.Core.List.{List, [], ◌++◌}
 use mathlib.Core.Option.{none}
 use mathlib.Core.Path.{◌≡◌, refl, sym, ◌∙◌, ap, transport}
 use native.Mathlib.Omega.{arith}
@@ -17,7 +17,7 @@ use Rattle.snesl.specs.Transducers.{each_f, first_outside, flag_of, misfit, scan
 use Rattle.flags.specs.Segments.{leading, running}
 use Rattle.flags.proofs.Clauses.{scans-end}
 use Rattle.flags.proofs.Fronts.{front-scans}
-use Rattle.streams.specs.Walks.{all_inside, told}
+use Rattle.streams.specs.Walks.{told}
 use Rattle.streams.specs.declared.fit.Misfit.{Misfit}
 use Rattle.streams.specs.declared.fit.Misfit.TheVariants.{Nowhere, At}
 use Rattle.streams.proofs.Filling.{values, outside-none}
