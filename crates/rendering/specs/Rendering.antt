@@ -1,6 +1,6 @@
 -- Streams to value text (01, "Representation by itself", and refusals 3, 11 and 10 in that order), as a function of the streams, their lengths, the type
 -- and what is lent. A type is a base β and a depth d, as code holds it.
-use Rattle.std.specs.Prelude.{ℕ, suc, ◌+◌, ◌≤◌, ◌<◌, Bool, ◌&&◌, List, [], ◌∷◌, ◌++◌, ◌≡◌, eqb, leb, ltb, ℤ, length, drop}
+use Rattle.std.specs.Prelude.{ℕ, suc, ◌≤◌, ◌<◌, Bool, ◌&&◌, List, [], ◌∷◌, ◌++◌, ◌≡◌, eqb, leb, ltb, ℤ, length, drop}
 use Rattle.std.proofs.Math.Option.{Option, some, none}
 use Rattle.snesl.specs.declared.code.Base.{Base}
 use Rattle.snesl.specs.Values.{ValueType, depth_of, base_of, type_of, Val}

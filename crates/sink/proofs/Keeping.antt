@@ -3,20 +3,19 @@ use Prim.Native.Nat.{ℕ, suc, ◌+◌, ◌-◌, ◌≤◌, ◌<◌}
 use native.Mathlib.Omega.{arith}
 use native.Mathlib.Numerals.{add-one}
 use native.Mathlib.Decide.{dec_lt}
-use mathlib.Core.Bool.{Bool, true, false}
+use mathlib.Core.Bool.{true, false}
 use mathlib.Core.List.Memᴰ
 use mathlib.Core.List.{List, [], ◌∷◌, ◌++◌, append_assoc}
 use mathlib.Core.Path.{◌≡◌, refl, sym, ap, ◌∙◌, subst}
 use borrow.Author.Tests.{lt-ltb, le-ltb, eq-eqb, ne_eqb}
 use lib.Dec.{ltb, eqb}
-use lib.ListN.{length, get_or, take, drop, set, length-append, length-take, length-drop, take-append-drop, drop_of_length-le, get_or-append}
-use lib.Seq.{take-suc, drop-cons, take_at, drop_at, drop-drop, take-take, get_or_at, get_or-append-add, set_at, set-append_left, set_split, take-append_seam, length-take-le, length-sets}
+use lib.ListN.{length, get_or, take, drop, set, length-append, length-drop, take-append-drop, drop_of_length-le, get_or-append}
+use lib.Seq.{take-suc, drop-cons, take_at, drop_at, drop-drop, take-take, get_or_at, get_or-append-add, set_at, set-append_left, set_split, length-take-le, length-sets}
 use Rattle.laws.specs.Parts.{part, written}
 use Rattle.laws.proofs.Parts.{length_part, sets-written}
 use Rattle.snesl.specs.Programs.{insert}
 use Rattle.snesl.proofs.Compiled.Members.{◌∈◌}
 use Rattle.sink.specs.Sinks.{mark, mark_all}
-use Rattle.sink.specs.declared.kept.Rank.{Rank}
 use Rattle.sink.specs.declared.kept.Rank.TheVariants.{Held, New}
 use Rattle.sink.specs.Kept.{Marks, Ranks}
 use Rattle.sink.specs.declared.uses.Used.{Used}

@@ -3,7 +3,7 @@ use Prim.Native.Nat.{ℕ, suc, ◌+◌, ◌*◌, ◌≤◌, ◌<◌, ◌^◌}
 use native.Mathlib.Omega.{arith}
 use mathlib.Core.Bool.{Bool, true, false, ◌&&◌}
 use mathlib.Core.List.{List, [], ◌∷◌, ◌++◌}
-use mathlib.Core.Path.{◌≡◌, refl, sym, ap, ◌∙◌, subst}
+use mathlib.Core.Path.{◌≡◌, sym, ap, ◌∙◌, subst}
 use lib.Dec.{ltb, leb}
 use lib.ListN.{length, get_or, length-append}
 use lib.Seq.{sets}
@@ -12,7 +12,7 @@ use Rattle.snesl.specs.Ascii.{ascii, pieces}
 use Rattle.snesl.specs.Trees.{order}
 use Rattle.snesl.specs.Programs.{ascending}
 use Rattle.snesl.specs.Listing.{id_text, with_ctrl_line}
-use Rattle.snesl.proofs.Compiled.Members.{◌∈◌, of-ascending}
+use Rattle.snesl.proofs.Compiled.Members.{of-ascending}
 use Rattle.decimals.specs.Writing.{Writes}
 use Rattle.decimals.proofs.Stores.{writes_then}
 use Rattle.lines.specs.Counting.{Countable}
@@ -20,15 +20,15 @@ use Rattle.lines.specs.Pieces.{rest_text, control_text}
 use Rattle.lines.proofs.Writing.{countable-first, countable-next}
 use Rattle.lines.proofs.IdLists.{control-line}
 use Rattle.environment.specs.Words.{tree_size}
-use Rattle.sink.specs.Sinks.{Sink, listing, far, put, resumed}
-use Rattle.sink.specs.Sunk.{mode_word, Sunk, Opening, opening, Lines, Opens, Resumes}
+use Rattle.sink.specs.Sinks.{Sink, far, put, resumed}
+use Rattle.sink.specs.Sunk.{mode_word, Opening, opening, Lines, Opens, Resumes}
 use Rattle.sink.specs.Between.{between}
-use Rattle.sink.specs.Trees.{IdsAt, OutsAt}
+use Rattle.sink.specs.Trees.{OutsAt}
 use Rattle.sink.proofs.Least.{of-between}
 use Rattle.sink.proofs.IdSearch.{tree-ids, length-order}
 use Rattle.sink.proofs.Shorts.{Small, id-short, rest-short, ascending-length}
 use Rattle.sink.proofs.Keeping.{kept_small}
-use Rattle.sink.proofs.Sinking.{landed, put-far, put-near, Stays, put-stays, at-word, own-word, marks}
+use Rattle.sink.proofs.Sinking.{landed, put-far, put-near, put-stays, at-word, own-word, marks}
 
 -- no list gets longer
 between-length : (lo hi : ℕ) (us : List ℕ) → length (between lo hi us) ≤ length us

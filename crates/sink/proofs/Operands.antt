@@ -1,22 +1,16 @@
 -- Translated code may be surveyed.
-use Prim.Native.Nat.{ℕ, suc, ◌+◌, ◌≤◌, ◌<◌}
+use Prim.Native.Nat.{ℕ, suc, ◌+◌, ◌≤◌}
 use native.Mathlib.Omega.{arith}
-use mathlib.Core.List.{List, [], ◌∷◌, ◌++◌}
-use mathlib.Core.Logic.{◌⊎◌, ⊎_elim}
-use mathlib.Core.Path.{◌≡◌, ap, subst}
+use mathlib.Core.List.{List, [], ◌∷◌}
+use mathlib.Core.Path.{ap}
 use lib.ListN.{length}
-use Rattle.snesl.specs.declared.code.Transducer.{Transducer}
-use Rattle.snesl.specs.Transducers.{operands}
 use Rattle.snesl.specs.Values.{ValueType, depth_of}
 use Rattle.snesl.specs.Terms.{Term, var, bind, const, iota, operation, negation, sum, each, guard, Listing, Scalars, All, ◌▹◌, lookup}
-use Rattle.snesl.specs.Trees.{Tree, IdTree, leaf, order}
-use Rattle.snesl.specs.Programs.{Program, done, define, with_ctrl, ◌⨾◌, count, dv, fv, without, among, ascending}
-use Rattle.snesl.specs.Translation.{pack_size, packs_size, size, within, pack_trees, tree, distrs, controlled, pack_code, pack_codes, code}
+use Rattle.snesl.specs.Trees.{IdTree, leaf}
+use Rattle.snesl.specs.Translation.{pack_size, packs_size, size, within, pack_trees, tree, distrs, pack_codes, code}
 use Rattle.snesl.specs.Ids.{ids_of, Below}
-use Rattle.snesl.proofs.Compiled.Members.{◌∈◌, of-without, to-without, of-among, to-among, of-ascending, to-ascending}
-use Rattle.snesl.proofs.Compiled.Ascending.{ascending-same}
 use Rattle.snesl.proofs.Compiled.Packing.{count-pack}
-use Rattle.snesl.proofs.Compiled.Freshness.{copies, front, lead, ones, code-each, code-iota, code-guard, count-front, count-lead, count_ones, count-flagging, count-gate, count_code, defined-next, result-ids, free-ids}
+use Rattle.snesl.proofs.Compiled.Freshness.{copies, code-each, code-iota, code-guard, count-front, count-lead, count_ones, count-flagging, count-gate, count_code, defined-next, result-ids, free-ids}
 use Rattle.sink.proofs.Packs.{tidy-pack}
 use Rattle.sink.proofs.Tidy.{Tidy, tidy-done, tidy-define, tidy-seq, tidy-alone, tidy-controlled, dv_one, Surveyable}
 

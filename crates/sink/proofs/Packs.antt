@@ -4,7 +4,6 @@ use native.Mathlib.Omega.{arith}
 use mathlib.Core.List.{◌∷◌}
 use mathlib.Core.Logic.{inr}
 use Rattle.snesl.specs.Trees.{Tree, leaf, node, order}
-use Rattle.snesl.specs.Programs.{define, done, count}
 use Rattle.snesl.specs.Translation.{pack_tree, pack_code}
 use Rattle.snesl.specs.Ids.{Below}
 use Rattle.snesl.proofs.Compiled.Packing.{count-pack, defined-pack, packed-ids, free-pack}

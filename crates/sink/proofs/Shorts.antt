@@ -1,16 +1,15 @@
 -- How long the pieces of lines can get: an id is a word, so it takes at most 21 bytes.
-use Prim.Native.Nat.{ℕ, suc, ◌+◌, ◌*◌, ◌≤◌, ◌<◌, ◌^◌}
+use Prim.Native.Nat.{ℕ, suc, ◌*◌, ◌≤◌, ◌<◌, ◌^◌}
 use native.Mathlib.Omega.{arith}
 use mathlib.Core.Bool.{Bool, true, false}
 use mathlib.Core.List.Memᴰ
-use mathlib.Core.List.{List, [], ◌∷◌, ◌++◌}
-use mathlib.Core.Path.{◌≡◌, refl, ap, subst}
+use mathlib.Core.List.{List, [], ◌∷◌}
+use mathlib.Core.Path.{refl, ap}
 use lib.Dec.{eqb, ltb}
 use lib.IntN.{ℤ, pos, negsuc}
 use lib.ListN.{length, length-append}
 use lib.Signed.{mag}
 use Rattle.snesl.specs.Text.{show_int}
-use Rattle.snesl.specs.Ascii.{ascii}
 use Rattle.snesl.specs.Listing.{id_text, ids_text}
 use Rattle.snesl.specs.Programs.{insert, ascending}
 use Rattle.snesl.proofs.Compiled.Members.{◌∈◌}

@@ -1,5 +1,5 @@
 -- A sink's words: what each says, what is stored into them, and what an instruction does to them.
-use Prim.Native.Nat.{ℕ, suc, ◌+◌, ◌≤◌, ◌<◌}
+use Prim.Native.Nat.{ℕ, ◌+◌, ◌≤◌, ◌<◌}
 use native.Mathlib.Omega.{arith}
 use mathlib.Core.Bool.{Bool, true, false}
 use mathlib.Core.List.{List, [], ◌∷◌, ◌++◌, append_assoc}
@@ -16,7 +16,7 @@ use Rattle.snesl.specs.Transducers.{operands}
 use Rattle.snesl.specs.Listing.{define_line, with_ctrl_line}
 use Rattle.decimals.specs.Writing.{Writes}
 use Rattle.sink.specs.Sinks.{Mode, running, listing, surveying, Sink, far, put, take_in, mark_all, defined, opened, told, surveyed}
-use Rattle.sink.specs.Sunk.{mode_word, Plain, Sunk, Tells, Resumes}
+use Rattle.sink.specs.Sunk.{mode_word, Sunk, Tells, Resumes}
 use Rattle.sink.specs.Kept.{Marks}
 use Rattle.sink.specs.Uses.{longest}
 

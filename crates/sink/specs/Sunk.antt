@@ -1,5 +1,5 @@
 -- A sink as a walk keeps it: its text in the slice lent for the listing, and the rest in words behind the machine's four.
-use Rattle.std.specs.Prelude.{ℕ, ◌+◌, ◌≤◌, ◌<◌, List, [], ◌∷◌, ◌++◌, ◌≡◌, length, get_or, take, drop}
+use Rattle.std.specs.Prelude.{ℕ, ◌+◌, ◌≤◌, List, [], ◌∷◌, ◌++◌, ◌≡◌, length, get_or, take, drop}
 use Rattle.laws.specs.Parts.{part}
 use Rattle.snesl.specs.Trees.{Tree, order, map_tree}
 use Rattle.snesl.specs.Programs.{ascending}

@@ -9,10 +9,10 @@ returns-then-mode-eq-RUNNING c = λ k s. sinking.defined-running s c.args.id c.a
 
 pub put_line-requires : goal.put_line-requires
 put_line-requires c = (
-      (c.requires.0, c.requires.1, sinking.is-listing c.requires.0.mode (sym (sinking.mode-word c.requires.1) ∙ c.if-mode-eq-LISTING.true)),
-      define-short c.args.id
-          c.args.t c.ranges.id.fits c.operands_of-used.ensures,
-    )
+  (c.requires.0, c.requires.1, sinking.is-listing c.requires.0.mode (sym (sinking.mode-word c.requires.1) ∙ c.if-mode-eq-LISTING.true)),
+  define-short c.args.id
+      c.args.t c.ranges.id.fits c.operands_of-used.ensures,
+)
 
 pub returns-then-mode-eq-LISTING : goal.returns-then-mode-eq-LISTING
 returns-then-mode-eq-LISTING c = λ k s. sinking.defined-listing s c.args.id c.args.t c.if-mode-eq-LISTING.true (c.put_line.ensures k s (sinking.is-listing k.mode (sym (sinking.mode-word s) ∙

@@ -1,5 +1,4 @@
 -- Element by element, up to the first that is no bool.
-use Prim.Native.Nat.{◌-◌}
 use native.Mathlib.Omega.{arith}
 use Rattle.rendering.proofs.FittingSteps.{tried-start, tried-zero, tried-one, tried-neither, tried-end}
 use Rattle.rendering.proofs.fitting.are_bools.Goals as goal

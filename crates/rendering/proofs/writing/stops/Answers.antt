@@ -26,10 +26,10 @@ stopped : (z : ℤ) {flag which : Flag} → flag ≡ which → flag ≡ flag_for
 stopped z told read = ap stop_for (sym told ∙ read) ∙ stop-read z
 
 pub returns-in-F : goal.returns-in-F
-returns-in-F c = record { value = stopped (get_or c.args.elements.now (get_or c.args.cursors.now c.args.level 0) (pos 0)) c.in-F.is c.flag_at.ensures; cursors_after = refl; }
+returns-in-F c = record { value = stopped (get_or c.args.elements.now (get_or c.args.cursors.now c.args.level 0) (pos 0)) c.in-F.is c.flag_at.ensures; cursors_after = refl }
 
 pub returns-in-T : goal.returns-in-T
-returns-in-T c = record { value = stopped (get_or c.args.elements.now (get_or c.args.cursors.now c.args.level 0) (pos 0)) c.in-T.is c.flag_at.ensures; cursors_after = refl; }
+returns-in-T c = record { value = stopped (get_or c.args.elements.now (get_or c.args.cursors.now c.args.level 0) (pos 0)) c.in-T.is c.flag_at.ensures; cursors_after = refl }
 
 pub returns-in-Neither : goal.returns-in-Neither
-returns-in-Neither c = record { value = stopped (get_or c.args.elements.now (get_or c.args.cursors.now c.args.level 0) (pos 0)) c.in-Neither.is c.flag_at.ensures; cursors_after = refl; }
+returns-in-Neither c = record { value = stopped (get_or c.args.elements.now (get_or c.args.cursors.now c.args.level 0) (pos 0)) c.in-Neither.is c.flag_at.ensures; cursors_after = refl }

@@ -21,62 +21,62 @@ returns-then-count-state c = λ f o t n m. keeping.mark-full m c.args.u (omega (
 
 pub overflow_add-r : goal.overflow_add-r
 overflow_add-r c = omega (
-      arith,
-      ((c.seek.ensures _ _ _ _ c.requires.4).new c.in-New.r c.in-New.is).0,
-      keeping.count_word c.requires.4,
-      c.requires.4.kept,
-      c.requires.4.small,
-    )
+  arith,
+  ((c.seek.ensures _ _ _ _ c.requires.4).new c.in-New.r c.in-New.is).0,
+  keeping.count_word c.requires.4,
+  c.requires.4.kept,
+  c.requires.4.small,
+)
 
 pub overflow_sub-count : goal.overflow_sub-count
 overflow_sub-count c = omega (arith, ((c.seek.ensures _ _ _ _ c.requires.4).new c.in-New.r c.in-New.is).0, keeping.count_word c.requires.4)
 
 pub make_room-requires : goal.make_room-requires
 make_room-requires c = omega (
-      arith,
-      ((c.seek.ensures _ _ _ _ c.requires.4).new c.in-New.r c.in-New.is).0,
-      keeping.count_word c.requires.4,
-      c.if-count-state.false,
-    )
+  arith,
+  ((c.seek.ensures _ _ _ _ c.requires.4).new c.in-New.r c.in-New.is).0,
+  keeping.count_word c.requires.4,
+  c.if-count-state.false,
+)
 
 pub overflow_add-state : goal.overflow_add-state
 overflow_add-state c = omega (arith, ((c.seek.ensures _ _ _ _ c.requires.4).new c.in-New.r c.in-New.is).0, keeping.count_word c.requires.4, c.requires.4.kept, c.requires.4.small)
 
 pub offset_bounds-state-r : goal.offset_bounds-state-r
 offset_bounds-state-r c = omega (
-      arith,
-      ((c.seek.ensures _ _ _ _ c.requires.4).new c.in-New.r c.in-New.is).0,
-      keeping.count_word c.requires.4,
-      c.requires.4.kept,
-      c.requires.4.small,
-      c.requires.4.whole,
-    )
+  arith,
+  ((c.seek.ensures _ _ _ _ c.requires.4).new c.in-New.r c.in-New.is).0,
+  keeping.count_word c.requires.4,
+  c.requires.4.kept,
+  c.requires.4.small,
+  c.requires.4.whole,
+)
 
 pub bounds-state-r : goal.bounds-state-r
 bounds-state-r c = omega (
-      arith,
-      (keeping.room-length c.args.state.now _ _ (omega (
-        arith,
-        ((c.seek.ensures _ _ _ _ c.requires.4).new c.in-New.r c.in-New.is).0,
-        keeping.count_word c.requires.4,
-        c.if-count-state.false,
-      )) c.make_room.ensures),
-      ((c.seek.ensures _ _ _ _ c.requires.4).new c.in-New.r c.in-New.is).0,
-      keeping.count_word c.requires.4,
-      c.if-count-state.false,
-    )
+  arith,
+  (keeping.room-length c.args.state.now _ _ (omega (
+    arith,
+    ((c.seek.ensures _ _ _ _ c.requires.4).new c.in-New.r c.in-New.is).0,
+    keeping.count_word c.requires.4,
+    c.if-count-state.false,
+  )) c.make_room.ensures),
+  ((c.seek.ensures _ _ _ _ c.requires.4).new c.in-New.r c.in-New.is).0,
+  keeping.count_word c.requires.4,
+  c.if-count-state.false,
+)
 
 pub bounds-state-7-in-New : goal.bounds-state-7-in-New
 bounds-state-7-in-New c = simp length-set (omega (
-      arith,
-      (keeping.room-length c.args.state.now _ _ (omega (
-        arith,
-        ((c.seek.ensures _ _ _ _ c.requires.4).new c.in-New.r c.in-New.is).0,
-        keeping.count_word c.requires.4,
-        c.if-count-state.false,
-      )) c.make_room.ensures),
-      keeping.long c.requires.4,
-    ))
+  arith,
+  (keeping.room-length c.args.state.now _ _ (omega (
+    arith,
+    ((c.seek.ensures _ _ _ _ c.requires.4).new c.in-New.r c.in-New.is).0,
+    keeping.count_word c.requires.4,
+    c.if-count-state.false,
+  )) c.make_room.ensures),
+  keeping.long c.requires.4,
+))
 
 pub returns-in-Held : goal.returns-in-Held
 returns-in-Held c = λ f o t n m. keeping.mark-held m c.args.u (omega (arith, c.if-u-state.false, keeping.own-word m)) (omega (arith, c.if-count-state.false, keeping.count_word m)) ((c.seek.ensures f o t n m).held c.in-Held.is)

@@ -1,6 +1,5 @@
 -- The ids before i are less than u.
 use native.Mathlib.Omega.{arith}
-use Prim.Native.Nat.{◌-◌}
 use mathlib.Core.Path.{refl}
 use Rattle.sink.proofs.Keeping as keeping
 use Rattle.sink.proofs.kept.seek.Goals as goal

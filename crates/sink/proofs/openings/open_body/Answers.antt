@@ -1,5 +1,4 @@
 -- The line, and then the sink's words.
-use Rattle.sink.specs.Sunk.{opening}
 use Rattle.sink.proofs.Opening as openings
 use Rattle.sink.proofs.openings.open_body.Goals as goal
 

@@ -1,8 +1,6 @@
 -- The ids before i are written.
 use native.Mathlib.Omega.{arith}
-use Prim.Native.Nat.{◌-◌}
-use mathlib.Core.Path.{refl, ap}
-use lib.ListN.{length}
+use mathlib.Core.Path.{refl}
 use Rattle.lines.proofs.Writing.{writes-length}
 use Rattle.sink.proofs.Ascent.{left-start, left_end, left-on, left-countable}
 use Rattle.sink.proofs.Keeping as keeping

@@ -31,14 +31,14 @@ put_instruction-c-requires c = opening.control-countable c.requires.1 c.args.con
 
 pub put_kept-d-requires : goal.put_kept-d-requires
 put_kept-d-requires c = (
-      _,
-      _,
-      _,
-      _,
-      sinking.marks c.requires.1.sunk,
-      opening.kept-countable c.requires.1 c.args.control c.ranges.control.fits (λ i. (c.type_inv.state
-          i).fits) c.if-at-gt-FAR.false c.put_bytes-a.ensures c.put_outs-b.ensures c.put_instruction-c.ensures,
-    )
+  _,
+  _,
+  _,
+  _,
+  sinking.marks c.requires.1.sunk,
+  opening.kept-countable c.requires.1 c.args.control c.ranges.control.fits (λ i. (c.type_inv.state
+      i).fits) c.if-at-gt-FAR.false c.put_bytes-a.ensures c.put_outs-b.ensures c.put_instruction-c.ensures,
+)
 
 pub put_bytes-requires : goal.put_bytes-requires
 put_bytes-requires c = opening.end-countable c.requires.1 c.args.control c.ranges.control.fits (λ i. (c.type_inv.state i).fits) c.if-at-gt-FAR.false c.put_bytes-a.ensures

@@ -2,4 +2,4 @@
 use Rattle.sink.proofs.trees.+put_tree.Given as goal
 
 abbrev pub decreases-put_tree : goal.decreases-put_tree
-decreases-put_tree l = a.1.1.0
+decreases-put_tree l = l.depth

@@ -1,6 +1,6 @@
 -- The ids before i are looked at.
 use native.Mathlib.Omega.{arith}
-use Prim.Native.Nat.{◌+◌, ◌*◌, ◌-◌}
+use Prim.Native.Nat.{◌+◌, ◌*◌}
 use Rattle.sink.proofs.IdSearch as ids
 use Rattle.sink.proofs.trees.least_at.Goals as goal
 

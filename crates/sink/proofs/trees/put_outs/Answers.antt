@@ -1,6 +1,5 @@
 -- The ids before `from` are written.
 use native.Mathlib.Omega.{arith}
-use Prim.Native.Nat.{◌-◌}
 use Rattle.lines.proofs.Writing.{writes-length}
 use Rattle.sink.proofs.Least.{least-of, least-last}
 use Rattle.sink.proofs.Ascent.{rest-start, rest_end, rest-countable, rest-on, least-from}

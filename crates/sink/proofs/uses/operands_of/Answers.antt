@@ -1,9 +1,10 @@
 -- By the transducer's case.
+use borrow.Author.Rules.{rules}
 use Rattle.sink.proofs.Using as cases
 use Rattle.sink.proofs.uses.operands_of.Goals as goal
 
 pub returns-in-Const : goal.returns-in-Const
-returns-in-Const c = cases.operates c.in-Const.is (cases.const-operates c.in-Const.z c.known_told-1.given.0.1)
+returns-in-Const c = cases.operates c.in-Const.is (cases.const-operates c.in-Const.z (search rules))
 
 pub returns-in-ConstBool : goal.returns-in-ConstBool
 returns-in-ConstBool c = cases.operates c.in-ConstBool.is (cases.const_bool-operates c.in-ConstBool.c)
@@ -24,7 +25,7 @@ pub returns-in-MapOneNot : goal.returns-in-MapOneNot
 returns-in-MapOneNot c = cases.operates c.in-MapOneNot.is (cases.not-operates _ c.id_of-in-MapOneNot.type_inv c.id_of-in-MapOneNot.ensures)
 
 pub returns-in-ScanPlus : goal.returns-in-ScanPlus
-returns-in-ScanPlus c = cases.operates c.in-ScanPlus.is (cases.scan-operates _ c.id_of-in-ScanPlus.type_inv c.id_of-in-ScanPlus.ensures _ c.id_of-in-ScanPlus-2.type_inv c.id_of-in-ScanPlus-2.ensures _ c.known_told-in-ScanPlus-1.given.0.1)
+returns-in-ScanPlus c = cases.operates c.in-ScanPlus.is (cases.scan-operates _ c.id_of-in-ScanPlus.type_inv c.id_of-in-ScanPlus.ensures _ c.id_of-in-ScanPlus-2.type_inv c.id_of-in-ScanPlus-2.ensures _ (search rules))
 
 pub returns-in-Distr : goal.returns-in-Distr
 returns-in-Distr c = cases.operates c.in-Distr.is (cases.distr-operates _ c.id_of-in-Distr.type_inv c.id_of-in-Distr.ensures _ c.id_of-in-Distr-2.type_inv c.id_of-in-Distr-2.ensures)
