@@ -1,4 +1,5 @@
 -- The ids are the first words of the operands' places (proofs/Singles.antt).
+use borrow.Author.Rules.{rules}
 use native.Mathlib.Omega.{arith}
 use Rattle.std.proofs.Common.{rules}
 use Rattle.leaves.proofs.Singles.{const-chosen, truth-chosen, operation-chosen, negation-chosen, sum-chosen, operation-within, negation-within, sum-within}
