@@ -35,9 +35,6 @@ returns-in-Var c = ap (routed c.args.k) (sym c.in-Var.is ∙ c.head_at.ensures)
 pub returns-in-Let : goal.returns-in-Let
 returns-in-Let c = ap (routed c.args.k) (sym c.in-Let.is ∙ c.head_at.ensures)
 
-pub returns-in-Const : goal.returns-in-Const
-returns-in-Const c = ap (λ u. route.Single (form.Const u) (c.args.k + 6)) (to_z-of_z (record { sfits = c.known_told-in-Const-1.given.0.1 })) ∙ ap (routed c.args.k) (sym c.in-Const.is ∙ c.head_at.ensures)
-
 pub returns-in-Truth : goal.returns-in-Truth
 returns-in-Truth c = ap (routed c.args.k) (sym c.in-Truth.is ∙ c.head_at.ensures)
 
