@@ -266,7 +266,8 @@ def turn(crate, folder, names, notes):
             alias_of[m.group(2)] = m.group(1) or ""
     kept = [u for u in uses if not DROPPED.search(u)]
     needs, measures, invariants, helpers = {}, [], [], []
-    for b in blocks("\n".join(lines)):
+    for whole in blocks("\n".join(lines)):
+        b = re.sub(r"\A(--[^\n]*\n)*", "", whole)
         sig = re.match(rf"({NAME}) :\s+(?:\(t : ℕ\) →\s+)?({NAME})\.Need-({NAME})", b)
         if sig and sig.group(2) in alias_of:
             needs[(alias_of[sig.group(2)], norm(sig.group(3)))] = (sig.group(1), b)
@@ -276,12 +277,11 @@ def turn(crate, folder, names, notes):
             continue
         if re.search(r"tie\.close|\.Tie|close\b", b) and re.match(r"pub [\w-]+[-_]spec", b) or re.match(r"(pub )?[+\w-]+ :\s*\{M : Type 1\}", b):
             continue
-        bare = re.sub(r"\A(--[^\n]*\n)*", "", b)
-        if re.match(r"abbrev (pub )?[\w-]+[-_](at|below|callees) :", bare) or re.match(r"abbrev (pub )?μ", bare):
-            if "μ" in bare.split("\n")[0]:
-                measures.append(bare)
+        if re.match(r"abbrev (pub )?[\w-]+[-_](at|below|callees) :", b) or re.match(r"abbrev (pub )?μ", b):
+            if "μ" in b.split("\n")[0]:
+                measures.append(b)
             continue
-        helpers.append(b)
+        helpers.append(whole)
     out_inv, out_ans, used_inv = [], [], False
     # measures of recursion
     for b in measures:
