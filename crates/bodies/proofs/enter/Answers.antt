@@ -1,5 +1,5 @@
 -- The flags' place, their units, the entries of the listed variables, and x's (proofs/Entering.antt).
-use Prim.Native.Nat.{◌+◌, ◌-◌}
+use Prim.Native.Nat.{◌+◌}
 use mathlib.Core.Logic.{inr}
 use mathlib.Core.Path.{◌∙◌}
 use native.Mathlib.Omega.{arith}
@@ -119,9 +119,6 @@ bounds-env-b c = omega (
   c.requires.scene.within,
   c.move_words.auto.env,
 )
-
-pub overflow_cast-t : goal.overflow_cast-t
-overflow_cast-t c = omega (arith, c.slice_known-6-1.given (c.args.sp - 3))
 
 pub make-requires : goal.make-requires
 make-requires c = (

@@ -10,9 +10,6 @@ overflow_cast-t c = omega (arith, c.type_inv.env c.args.bools)
 pub put-requires : goal.put-requires
 put-requires c = (_, _, flags-ready c.requires.3)
 
-pub overflow_cast-u : goal.overflow_cast-u
-overflow_cast-u c = omega (arith, c.slice_known-in-Made-1.given (c.args.sp - 3))
-
 pub make-requires : goal.make-requires
 make-requires c = let g = c.requires.3 in
     (_, _, units-ready g _ (c.put.ensures _ _ (flags-ready g)) c.in-Made.is)

@@ -1,5 +1,4 @@
 -- The flags with their place, what follows them, and the place of the numbers (proofs/Iotas.antt).
-use Prim.Native.Nat.{◌+◌}
 use native.Mathlib.Omega.{arith}
 use Rattle.leaves.proofs.Operands.{sought}
 use Rattle.leaves.proofs.Iotas.{flags-ready, flags-push, flagged, iota-push, iota-runs, count-stopped, flags-stopped}
@@ -16,9 +15,6 @@ offset_bounds-env-p c = omega (arith, (c.find-p.ensures (sought c.requires.scene
 
 pub bounds-env-p : goal.bounds-env-p
 bounds-env-p c = omega (arith, (c.find-p.ensures (sought c.requires.scene c.requires.pointer c.requires.finds)).within)
-
-pub overflow_cast-t : goal.overflow_cast-t
-overflow_cast-t c = omega (arith, c.slice_known-4-1.given (c.find-p.result + 2))
 
 pub make-requires : goal.make-requires
 make-requires c = (
