@@ -276,9 +276,10 @@ def turn(crate, folder, names, notes):
             continue
         if re.search(r"tie\.close|\.Tie|close\b", b) and re.match(r"pub [\w-]+[-_]spec", b) or re.match(r"(pub )?[+\w-]+ :\s*\{M : Type 1\}", b):
             continue
-        if re.match(r"abbrev (pub )?[\w-]+[-_](at|below|callees) :", b) or re.match(r"abbrev (pub )?μ", b):
-            if "μ" in b.split("\n")[0]:
-                measures.append(b)
+        bare = re.sub(r"\A(--[^\n]*\n)*", "", b)
+        if re.match(r"abbrev (pub )?[\w-]+[-_](at|below|callees) :", bare) or re.match(r"abbrev (pub )?μ", bare):
+            if "μ" in bare.split("\n")[0]:
+                measures.append(bare)
             continue
         helpers.append(b)
     out_inv, out_ans, used_inv = [], [], False
@@ -360,7 +361,7 @@ def turn(crate, folder, names, notes):
                 body = as_record(body, fields)
             bind = [x for x in binders if x != "κs"]
             # in a cycle of several functions each goal has its function's name before it
-            out_ans.append((sfx[1:] + "-" + new if sfx else new, middle, " ".join(bind), body))
+            out_ans.append((sfx[1:] + "-" + new if len(walks) > 1 else new, middle, " ".join(bind), body))
     for (sfx, old), (name, b) in needs.items():
         notes.append(f"{crate} {folder}: the goal {old} ({name}) is not there now")
     # files
