@@ -7,7 +7,7 @@ use Rattle.runner.proofs.Surveys.{five-words, no_line, survey-ready, never-stops
 use Rattle.runner.proofs.Comprehensions as comprehensions
 use Rattle.runner.proofs.Comprehensions.{told-ready, each-entire}
 use Rattle.runner.proofs.Dispatch as dispatch
-use Prim.Native.Nat.{◌+◌, ◌-◌}
+use Prim.Native.Nat.{◌+◌}
 use native.Mathlib.Omega.{arith}
 use Rattle.runner.proofs.Guards as guards
 use Rattle.runner.proofs.+binding_comprehend_each_guard_survey_walk.Goals as goal
@@ -29,10 +29,10 @@ binding-bind_tree-inner-requires t c = lets.bind-fits c.requires c.args.n (c.wal
 
 pub binding-walk-requires-in-Tree : goal.binding-walk-requires-in-Tree
 binding-walk-requires-in-Tree t c = (
-      omega (arith, c.decreases, lets.second-later c.requires c.args.n (c.walk.ensures (bound-ready c.requires)) c.in-Tree.is),
-      (second-ready c.requires c.args.n
-          (c.walk.ensures (bound-ready c.requires)) c.in-Tree.is c.bind_tree-inner.ensures.0 c.bind_tree-inner.ensures.1 c.walk.auto.env),
-    )
+  omega (arith, c.decreases, lets.second-later c.requires c.args.n (c.walk.ensures (bound-ready c.requires)) c.in-Tree.is),
+  (second-ready c.requires c.args.n
+      (c.walk.ensures (bound-ready c.requires)) c.in-Tree.is c.bind_tree-inner.ensures.0 c.bind_tree-inner.ensures.1 c.walk.auto.env),
+)
 
 pub binding-lift_tree-requires : goal.binding-lift_tree-requires
 binding-lift_tree-requires t c = lets.lift-fits c.requires c.args.n (c.walk.ensures (bound-ready c.requires)) c.in-Tree.is c.bind_tree-inner.ensures.0 c.bind_tree-inner.ensures.1 c.walk.auto.env c.walk.auto.buf (c.walk-in-Tree.ensures (second-ready c.requires c.args.n (c.walk.ensures (bound-ready c.requires)) c.in-Tree.is
@@ -92,10 +92,10 @@ comprehend-lift_tree-requires t c = comprehensions.lift-fits c.requires (c.surve
 
 pub comprehend-overflow_add-result : goal.comprehend-overflow_add-result
 comprehend-overflow_add-result t c = omega (
-      arith,
-      comprehensions.one_deeper c.requires (c.survey.ensures c.requires.over) c.survey.auto.env c.survey.auto.buf (c.walk.ensures (told-ready
-          c.requires (c.survey.ensures c.requires.over) c.survey.auto.env c.survey.auto.buf)) c.in-Tree.is,
-    )
+  arith,
+  comprehensions.one_deeper c.requires (c.survey.ensures c.requires.over) c.survey.auto.env c.survey.auto.buf (c.walk.ensures (told-ready
+      c.requires (c.survey.ensures c.requires.over) c.survey.auto.env c.survey.auto.buf)) c.in-Tree.is,
+)
 
 pub comprehend-shape_of-env-in-Tree : goal.comprehend-shape_of-env-in-Tree
 comprehend-shape_of-env-in-Tree t c = c.lift_tree.auto.env ∙ (c.walk.auto.env ∙ c.survey.auto.env)
@@ -196,9 +196,9 @@ guard-overflow_add-body-in-Body-2 t c = omega (arith, c.requires.bytes, c.requir
 
 pub guard-comprehend-requires : goal.guard-comprehend-requires
 guard-comprehend-requires t c = (
-      omega (arith, c.decreases, c.requires.bytes),
-      guards.guard-entire c.requires ((c.enter_guard.ensures c.requires).goes_in _ _ c.in-Body.is) c.enter_guard.auto.env,
-    )
+  omega (arith, c.decreases, c.requires.bytes),
+  guards.guard-entire c.requires ((c.enter_guard.ensures c.requires).goes_in _ _ c.in-Body.is) c.enter_guard.auto.env,
+)
 
 pub guard-shape_of-env-in-Body : goal.guard-shape_of-env-in-Body
 guard-shape_of-env-in-Body t c = c.comprehend.auto.env ∙ c.enter_guard.auto.env
@@ -232,21 +232,21 @@ survey-walk-requires t c = (omega (arith, c.decreases), survey-ready c.requires 
 
 pub survey-overflow_mul-tree : goal.survey-overflow_mul-tree
 survey-overflow_mul-tree t c = omega (
-      arith,
-      shallow c.requires c.if-state-ne-LISTING.false c.begin_survey.ensures (c.walk.ensures (survey-ready c.requires c.if-state-ne-LISTING.false c.begin_survey.ensures)) c.in-Tree.is,
-    )
+  arith,
+  shallow c.requires c.if-state-ne-LISTING.false c.begin_survey.ensures (c.walk.ensures (survey-ready c.requires c.if-state-ne-LISTING.false c.begin_survey.ensures)) c.in-Tree.is,
+)
 
 pub survey-overflow_add-tree : goal.survey-overflow_add-tree
 survey-overflow_add-tree t c = omega (
-      arith,
-      shallow c.requires c.if-state-ne-LISTING.false c.begin_survey.ensures (c.walk.ensures (survey-ready c.requires c.if-state-ne-LISTING.false c.begin_survey.ensures)) c.in-Tree.is,
-    )
+  arith,
+  shallow c.requires c.if-state-ne-LISTING.false c.begin_survey.ensures (c.walk.ensures (survey-ready c.requires c.if-state-ne-LISTING.false c.begin_survey.ensures)) c.in-Tree.is,
+)
 
 pub survey-overflow_sub-tree : goal.survey-overflow_sub-tree
 survey-overflow_sub-tree t c = omega (
-      arith,
-      tree-fits c.requires c.if-state-ne-LISTING.false c.begin_survey.ensures (c.walk.ensures (survey-ready c.requires c.if-state-ne-LISTING.false c.begin_survey.ensures)) c.in-Tree.is,
-    )
+  arith,
+  tree-fits c.requires c.if-state-ne-LISTING.false c.begin_survey.ensures (c.walk.ensures (survey-ready c.requires c.if-state-ne-LISTING.false c.begin_survey.ensures)) c.in-Tree.is,
+)
 
 pub survey-open_body-requires : goal.survey-open_body-requires
 survey-open_body-requires t c = open-ready c.requires c.if-state-ne-LISTING.false c.begin_survey.ensures (c.walk.ensures (survey-ready c.requires c.if-state-ne-LISTING.false c.begin_survey.ensures)) c.in-Tree.is
