@@ -2,7 +2,7 @@
  * Hailspindle: formulas over nested lists, checked, listed and run by flat stream instructions.
  *
  * For C11 and C++ on x86-64: the compiler that makes the library makes code for no other processor.
- * Link with libhailspindle.a, which `rt staticlib hailspindle` writes to target/staticlib. Of the C
+ * Link with libhailspindle.a, which `tools/library` writes to target/staticlib. Of the C
  * library it wants memcpy and memset at link time, and nothing else. It takes no memory of its own
  * beside the stack, keeps nothing between calls, and may be called from several threads at once.
  * The most stack that a call was found to take is 124,432 bytes, 69,664 without guards (measured at

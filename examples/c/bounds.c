@@ -2,7 +2,7 @@
  * What the header promises beside the calls' figures: NULL for a buffer of 0 elements, an append that
  * stays within its bounds, and a text for each number. Prints one line, or fails.
  *
- * Build and run, after `rt staticlib hailspindle`: make -C examples/c check
+ * Build and run, after `tools/library`: make -C examples/c check
  */
 #include "hailspindle.h"
 

@@ -2,7 +2,7 @@
  * A lead's sheet: a correction is added to each reading, and the readings of each stop are summed.
  * Then the same sheet with a reading that is too large, to show a refusal, and its listing.
  *
- * Build and run, after `rt staticlib hailspindle`: make -C examples/c
+ * Build and run, after `tools/library`: make -C examples/c
  */
 #include "hailspindle.h"
 

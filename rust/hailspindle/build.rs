@@ -1,5 +1,5 @@
 //! Tells the linker where libhailspindle.a is: in the folder that HAILSPINDLE_DIRECTORY names, or
-//! where `rt staticlib hailspindle` writes it. Without the archive, or for a processor that it has no
+//! where `tools/library` writes it. Without the archive, or for a processor that it has no
 //! code for, the build ends here and says so, since the linker would only name what it misses.
 
 use std::path::PathBuf;
@@ -18,7 +18,7 @@ fn main() {
     }
     if !archive.exists() {
         let archive = archive.display();
-        fail(format!("{archive} is not there: run `rt staticlib hailspindle` first"));
+        fail(format!("{archive} is not there: run `tools/library` first"));
     }
     println!("cargo:rustc-link-search=native={}", directory.display());
     println!("cargo:rustc-link-lib=static=hailspindle");

@@ -70,8 +70,8 @@ def split_top(text, sep):
 
 
 class Term:
-    def __init__(self, walk, place, notes, where, pre):
-        self.walk, self.place, self.notes, self.where = walk, place, notes, where
+    def __init__(self, walk, place, notes, where, pre, cycle):
+        self.walk, self.place, self.notes, self.where, self.cycle = walk, place, notes, where, cycle
         self.alias = {"c"}
         self.pre = pre
 
@@ -92,6 +92,19 @@ class Term:
             self.alias.add(found.group(1))
             text = text[: found.start()] + text[found.end():]
 
+    def steps(self, text):
+        """Writes a step where `let NAME = c.before..STEP in` names it, and takes that let out."""
+        while True:
+            m = re.search(rf"\blet ({NAME}) = (({NAME})(?:\.before)*\.({NAME})) in\s*", text)
+            at = 0
+            while m and (m.group(3) not in self.alias or m.group(4) == "before"):
+                at = m.end()
+                m = re.compile(rf"\blet ({NAME}) = (({NAME})(?:\.before)*\.({NAME})) in\s*").search(text, at)
+            if not m:
+                return text
+            text = text[: m.start()] + text[m.end():]
+            text = re.sub(rf"(?<![\w'.-]){re.escape(m.group(1))}(?![\w'-])", lambda _: m.group(2), text)
+
     def path(self, m):
         root, rest = m.group(1), m.group(2).split(".")[1:]
         if root not in self.alias:
@@ -107,6 +120,10 @@ class Term:
         if norm(s) in ("args", "ranges", "lifetimes", "well_formed"):
             return "c." + ".".join([norm(s)] + [x.replace("-", "_") if i == 0 else x for i, x in enumerate(r)])
         if s == "requires":
+            if self.cycle and r and r[0] in "01":  # the pair of what the measure says and what is required
+                if r[0] == "0":
+                    return "c." + ".".join(["decreases"] + r[1:])
+                r = r[1:]
             if self.pre and r and r[0].isdigit() and int(r[0]) < len(self.pre):
                 r = [self.pre[int(r[0])]] + r[1:]
             return "c." + ".".join(["requires"] + r)
@@ -144,14 +161,14 @@ class Term:
             clause = w.data["clauses"][q]
             if clause and clause["fields"] and int(r[1]) < len(clause["fields"]):
                 r = ["ensures", clause["fields"][int(r[1])]] + r[2:]
-        if r and r[0] in ("auto", "new"):
+        if r and r[0] in ("auto", "new", "kept"):
             n, k = 0, 1
             while k < len(r) and r[k] == "1":
                 n, k = n + 1, k + 1
             params = w.data["params"].get(w.callee[q] or "", [])
-            if k < len(r) and r[k] == "0" and n < len(params):
-                r = [r[0], params[n]] + r[k + 1:]
-            elif r[0] in ("auto", "new"):
+            if k < len(r) and r[k] == "0" and n < len(params):  # an older name of `auto` was `kept`
+                r = ["auto" if r[0] == "kept" else r[0], params[n]] + r[k + 1:]
+            else:
                 self.note(f"{'.'.join(r)} of {s}")
         if r and r[0] == "type-inv":
             r[0] = "type_inv"
@@ -160,7 +177,7 @@ class Term:
         return "c." + ".".join([step] + r)
 
     def turn(self, text):
-        return PATH.sub(self.path, self.lets(text))
+        return PATH.sub(self.path, self.steps(self.lets(text)))
 
 
 def tail(text):
@@ -249,7 +266,8 @@ def turn(crate, folder, names, notes):
             alias_of[m.group(2)] = m.group(1) or ""
     kept = [u for u in uses if not DROPPED.search(u)]
     needs, measures, invariants, helpers = {}, [], [], []
-    for b in blocks("\n".join(lines)):
+    for whole in blocks("\n".join(lines)):
+        b = re.sub(r"\A(--[^\n]*\n)*", "", whole)
         sig = re.match(rf"({NAME}) :\s+(?:\(t : ℕ\) →\s+)?({NAME})\.Need-({NAME})", b)
         if sig and sig.group(2) in alias_of:
             needs[(alias_of[sig.group(2)], norm(sig.group(3)))] = (sig.group(1), b)
@@ -257,13 +275,13 @@ def turn(crate, folder, names, notes):
         if re.match(rf"abbrev (pub )?(invariant|decreases)-", b):
             (invariants if "invariant-" in b.split("\n")[0] else measures).append(b)
             continue
-        if re.search(r"tie\.close|\.Tie|close\b", b) and re.match(r"pub [\w-]+[-_]spec", b) or re.match(r"pub [\w-]+ :\s*\{M : Type 1\}", b):
+        if re.search(r"tie\.close|\.Tie|close\b", b) and re.match(r"pub [\w-]+[-_]spec", b) or re.match(r"(pub )?[+\w-]+ :\s*\{M : Type 1\}", b):
             continue
-        if re.match(r"abbrev (pub )?[\w-]+-(at|below|callees) :", b) or re.match(r"abbrev (pub )?μ", b):
+        if re.match(r"abbrev (pub )?[\w-]+[-_](at|below|callees) :", b) or re.match(r"abbrev (pub )?μ", b):
             if "μ" in b.split("\n")[0]:
                 measures.append(b)
             continue
-        helpers.append(b)
+        helpers.append(whole)
     out_inv, out_ans, used_inv = [], [], False
     # measures of recursion
     for b in measures:
@@ -273,8 +291,14 @@ def turn(crate, folder, names, notes):
         eq = b.split("\n", 1)[1]
         body = eq.split("=", 1)[1].strip()
         stem = m.group(1)
-        body = re.sub(r"\ba\.0\.", "l.", body)
-        params = None
+        params = next((p for w in walks.values() for f, p in w.data["params"].items() if stem and norm(f.split("::")[-1]) == norm(stem)), [])
+
+        def place(m):
+            path = m.group(1).split(".")
+            n = sum(1 for x in path[:-1] if x == "1") if path[-1] == "0" else None
+            return f"l.{params[n]}" if n is not None and n < len(params) else m.group(0)
+
+        body = re.sub(r"(?<![\w.])a\.((?:1\.)*0)", place, body)
         out_inv.append((f"decreases-{(stem or folder.split('+')[-1]).replace('-', '_')}", body, "measure"))
     loops_by_old = {}
     for sfx, w in walks.items():
@@ -326,7 +350,7 @@ def turn(crate, folder, names, notes):
             place = w.place_of_need(k)
             if place is None:
                 notes.append(f"{crate} {folder}: no place for {new}")
-            term = Term(w, place, notes, f"{crate} {folder} {new}", pre)
+            term = Term(w, place, notes, f"{crate} {folder} {new}", pre, "+" in folder)
             if "c" not in binders:
                 cname = [x for x in binders if x not in ("κs", "t")]
                 if cname:
@@ -336,7 +360,8 @@ def turn(crate, folder, names, notes):
             if fields:
                 body = as_record(body, fields)
             bind = [x for x in binders if x != "κs"]
-            out_ans.append((new, middle, " ".join(bind), body, w.data["stem"]))
+            # in a cycle of several functions each goal has its function's name before it
+            out_ans.append((sfx[1:] + "-" + new if len(walks) > 1 else new, middle, " ".join(bind), body))
     for (sfx, old), (name, b) in needs.items():
         notes.append(f"{crate} {folder}: the goal {old} ({name}) is not there now")
     # files
@@ -401,7 +426,7 @@ def turn(crate, folder, names, notes):
     rest = [b for b in helpers if b not in shared]
     if out_ans or rest:
         body = "\n\n".join(rest + [
-            f"pub {n} : goal.{n}\n" + (mid + "\n" if mid else "") + f"{n} {bind} = {b}" for n, mid, bind, b, stem in out_ans
+            f"pub {n} : goal.{n}\n" + (mid + "\n" if mid else "") + f"{n} {bind} = {b}" for n, mid, bind, b in out_ans
         ])
         us = kept
         if has_inv:

@@ -8,19 +8,18 @@ use native.Mathlib.Omega.{arith}
 use lib.IntN.{ℤ}
 use lib.ListN.{length, get_or, drop, length-append}
 use Rattle.laws.proofs.Never.{never}
-use Rattle.laws.specs.Parts.{part, written}
+use Rattle.laws.specs.Parts.{written}
 use Rattle.snesl.specs.declared.code.Kind.TheVariants.{Flags}
 use Rattle.snesl.specs.declared.code.Variable.{Variable}
-use Rattle.snesl.specs.declared.code.Transducer.{Transducer}
 use Rattle.snesl.specs.declared.code.Transducer.TheVariants.{Distr}
 use Rattle.snesl.specs.declared.refusal.Refusal.{Refusal}
 use Rattle.snesl.specs.declared.code.Base.{Base}
 use Rattle.snesl.specs.Values.{ValueType, scalar, Element}
 use Rattle.snesl.specs.Terms.{◌∋◌, any_type, listed_types, All, lookup}
-use Rattle.snesl.specs.Trees.{root, map_tree}
+use Rattle.snesl.specs.Trees.{map_tree}
 use Rattle.snesl.specs.Streams.{data_of, data_kind, len, Store, ◌!◌}
 use Rattle.snesl.specs.Transducers.{signature, carried}
-use Rattle.snesl.specs.Programs.{define, done}
+use Rattle.snesl.specs.Programs.{done}
 use Rattle.snesl.specs.Machine.{State, Result, went, stopped, onward}
 use Rattle.snesl.specs.Outcome.{refusal_of}
 use Rattle.snesl.specs.Records.{byte_at, variable_at, variables_at}
@@ -28,7 +27,7 @@ use Rattle.snesl.specs.Checking.{Name, find, found, as_scalar, NamedScalars, lis
 use Rattle.snesl.specs.Translation.{id, numbered, distrs}
 use Rattle.environment.specs.Words.{place_words, tree_words, spelled, Entry}
 use Rattle.environment.proofs.Stack.{drop-written, length-written, written_then_lem}
-use Rattle.sink.specs.Sinks.{Sink, defined, feed}
+use Rattle.sink.specs.Sinks.{defined, feed}
 use Rattle.sink.specs.Sunk.{Sunk}
 use Rattle.steps.specs.Walking.{stepped, walked}
 use Rattle.steps.specs.Holding.{Held, keeps, place, PlacedAt, Stopping}

@@ -24,7 +24,7 @@ use Rattle.snesl.specs.Machine.{State, Result, went, stopped, onward}
 use Rattle.snesl.specs.Outcome.{refusal_of}
 use Rattle.snesl.specs.Records.{byte_at, variable_at, variables_at}
 use Rattle.snesl.specs.Checking.{NamedScalars, listed_names, pointers}
-use Rattle.snesl.specs.Translation.{id, within, numbered, tree, controlled, distrs, code}
+use Rattle.snesl.specs.Translation.{id, numbered, tree, controlled, distrs, code}
 use Rattle.environment.specs.Words.{place_words, tree_words, tree_size, spelled, Entry}
 use Rattle.environment.specs.Needs.{words}
 use Rattle.environment.proofs.Stack.{part-drop, front-is, drop-above, drop-written, length-written, from-written, lowered}
@@ -33,7 +33,6 @@ use Rattle.environment.proofs.Entries.{bound}
 use Rattle.records.proofs.Variables.{length-variables}
 use Rattle.steps.specs.Walking.{stepped, walked}
 use Rattle.sink.specs.Sinks.{Sink, defined, closed, feed}
-use Rattle.sink.specs.Sunk.{Sunk}
 use Rattle.steps.specs.Holding.{place, PlacedAt, Stopping}
 use Rattle.steps.specs.declared.Executed.{Executed}
 use Rattle.steps.specs.declared.Executed.TheVariants.{Made, Stopped}

@@ -1,7 +1,7 @@
 -- The fields of a let and of a comprehension, as they stand in the record's bytes.
 use Prim.Native.Nat.{ℕ, ◌+◌}
 use mathlib.Core.List.{List}
-use mathlib.Core.Path.{◌≡◌, refl, ◌∙◌}
+use mathlib.Core.Path.{◌≡◌, ◌∙◌}
 use lib.ListN.{length}
 use Rattle.laws.proofs.Never.{never}
 use Rattle.snesl.specs.declared.code.Variable.{Variable}

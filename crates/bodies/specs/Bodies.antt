@@ -15,7 +15,7 @@ use Rattle.snesl.specs.Terms as terms
 use Rattle.snesl.specs.Terms.{◌∋◌, Term, any_type, listed_types, All, ◌▹◌, lookup}
 use Rattle.snesl.specs.Trees.{IdTree, root, outer, order}
 use Rattle.snesl.specs.Streams.{data_of, len, Store}
-use Rattle.snesl.specs.Programs.{Program, done, dv, fv, among, ascending}
+use Rattle.snesl.specs.Programs.{done, dv, fv, among, ascending}
 use Rattle.snesl.specs.Machine.{State, Stop, Result, went, stopped}
 use Rattle.snesl.specs.Outcome.{refusal_of}
 use Rattle.snesl.specs.Records.{byte_at, variable_at, variables_at}

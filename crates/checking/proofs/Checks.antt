@@ -1,7 +1,7 @@
 -- The check of a formula that was read, from its parts: the inputs that were entered and the expression that was walked.
 use Prim.Native.Nat.{ℕ, suc, ◌+◌, ◌*◌, ◌≤◌}
 use mathlib.Core.Bool.{Bool, true, false}
-use mathlib.Core.List.{List, []}
+use mathlib.Core.List.{List}
 use mathlib.Core.Path.{◌≡◌, refl, sym, ap, subst, ◌∙◌}
 use native.Mathlib.Omega.{arith}
 use lib.Dec.{eqb, leb}
@@ -9,7 +9,7 @@ use lib.ListN.{length, drop}
 use Rattle.snesl.specs.declared.limits.Formula.{Formula}
 use Rattle.snesl.specs.declared.limits.Job.{Job}
 use Rattle.snesl.specs.declared.refusal.Refusal.{Refusal}
-use Rattle.snesl.specs.declared.refusal.Refusal.TheVariants.{TooLong, NoRecord, Unbound}
+use Rattle.snesl.specs.declared.refusal.Refusal.TheVariants.{TooLong, NoRecord}
 use Rattle.snesl.specs.Limits.{most_bytes, most_inputs, most_nesting, most_listed}
 use Rattle.snesl.specs.Records as records
 use Rattle.snesl.specs.Records.{Raw, Input, Front, front, front_of, inputs_at, inputs_then, expression_after, scan, scanned, formula_end, read_formula, texts_at, texts_then, job_end, read_job}
@@ -25,8 +25,7 @@ use Rattle.formula.specs.declared.read.JobRead.TheVariants as job
 use Rattle.formula.specs.Reading.{formula_of, job_of}
 use Rattle.checking.specs.declared.types.ValueType.{ValueType}
 use Rattle.checking.specs.Types.{told_by}
-use Rattle.scopes.specs.Scopes.{scope}
-use Rattle.checking.specs.Checks.{check_front, judge_front, Entry, again, entered, enter_in, entered_by, Declares, Top, Enters, Judgement, refuses, gives, judge, judging_of, most_pushed, Judgeable, Judges}
+use Rattle.checking.specs.Checks.{check_front, judge_front, Entry, entered_by, Declares, Top, Enters, Judgement, refuses, gives, judge, judging_of, Judgeable, Judges}
 use Rattle.checking.proofs.Entering.{few, whole}
 use Rattle.checking.proofs.Walks.{was-refused, was-found}
 use Rattle.checking.proofs.Judging.{entry_then, told_of, formula-told, type_only, type-of-front}

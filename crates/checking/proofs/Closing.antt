@@ -6,7 +6,6 @@ use native.Mathlib.Nat.{max-le, max-eq_left, max-eq_right}
 use native.Mathlib.Omega.{arith}
 use lib.Dec.{ltb}
 use borrow.Author.Tests.{lt-ltb, le-ltb}
-use Rattle.snesl.specs.declared.refusal.Refusal.{Refusal}
 use Rattle.snesl.specs.declared.refusal.Refusal.TheVariants.{WrongType}
 use Rattle.snesl.specs.Limits.{most_listed, most_depth}
 use Rattle.checking.specs.declared.check.Judging.{Judging}

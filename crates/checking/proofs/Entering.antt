@@ -3,13 +3,13 @@ use Prim.Native.Nat.{ℕ, zero, suc, ◌+◌, ◌-◌, ◌*◌, ◌≤◌, ◌<�
 use mathlib.Core.Bool.{Bool, true, false, ◌&&◌}
 use mathlib.Core.List.{List, [], ◌∷◌}
 use mathlib.Core.Option.{Option, some, none}
-use mathlib.Core.Path.{◌≡◌, refl, sym, ap, ap₂, subst, ◌∙◌}
+use mathlib.Core.Path.{◌≡◌, refl, sym, ap, subst, ◌∙◌}
 use native.Mathlib.Omega.{arith}
 use lib.Dec.{leb}
-use lib.ListN.{length, take, drop, length-drop}
+use lib.ListN.{length, drop, length-drop}
 use lib.Seq.{take_all, drop-length}
 use borrow.Author.Tests.{leb-true}
-use Rattle.snesl.specs.declared.refusal.Refusal.TheVariants.{NoRecord, OverLimit, TooMany, Unbound}
+use Rattle.snesl.specs.declared.refusal.Refusal.TheVariants.{NoRecord, OverLimit, TooMany}
 use Rattle.snesl.specs.Limits.{most_inputs, most_depth, last_variable}
 use Rattle.snesl.specs.Records as records
 use Rattle.snesl.specs.Records.{byte_at, mark_at, Input, input_base, input_at, input_ok, input_first, inputs_at, refused, declared}
@@ -17,11 +17,10 @@ use Rattle.snesl.specs.declared.code.Base.{Base}
 use Rattle.snesl.specs.Values.{type_of}
 use Rattle.formula.specs.Declarations.{input_place, base_at, declaration_of}
 use Rattle.formula.specs.declared.inputs.Declaration.{Declaration}
-use Rattle.scopes.specs.declared.scope.Kind.{Kind}
 use Rattle.scopes.specs.declared.scope.Kind.TheVariants as kind
 use Rattle.scopes.specs.TypeWords.{word_of}
 use Rattle.scopes.specs.Scopes.{scope, word_in, Pushed}
-use Rattle.checking.specs.Checks.{Entry, again, entered, enter_first, enter_in, entered_by, Declares, Top}
+use Rattle.checking.specs.Checks.{again, enter_first, enter_in, entered_by, Declares, Top}
 use Rattle.records.proofs.Heads.{and_second}
 use Rattle.formula.proofs.Declaring.{base-is}
 

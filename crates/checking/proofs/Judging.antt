@@ -1,9 +1,9 @@
 -- Checking over scopes of pairs is snesl's check: `judge` answers the type of the typed expression and the words of its walk, or the same refusal.
-use Prim.Native.Nat.{ℕ, zero, suc, ◌+◌, ◌-◌, ◌<◌, max}
+use Prim.Native.Nat.{ℕ, suc, ◌+◌, ◌-◌, ◌<◌, max}
 use mathlib.Core.Bool.{Bool, true, false, ◌&&◌, ◌||◌, not}
 use mathlib.Core.List.{List, [], ◌∷◌}
 use mathlib.Core.Option.{Option, some, none}
-use mathlib.Core.Path.{◌≡◌, refl, sym, ap, ap₂, subst, ◌∙◌}
+use mathlib.Core.Path.{◌≡◌, refl, sym, ap, ap₂, ◌∙◌}
 use native.Mathlib.Omega.{arith}
 use lib.Dec.{eqb, ltb, leb}
 use lib.ListN.{length}
@@ -26,13 +26,12 @@ use Rattle.scopes.specs.declared.scope.Kind.{Kind}
 use Rattle.scopes.specs.declared.scope.Kind.TheVariants as kind
 use Rattle.checking.specs.declared.check.Checked.{Checked}
 use Rattle.checking.specs.declared.check.Checked.TheVariants as checked
-use Rattle.checking.specs.declared.check.Single.{Single}
 use Rattle.checking.specs.declared.check.Single.TheVariants.{Word, Refused}
 use Rattle.checking.specs.declared.check.Judged.{Judged}
 use Rattle.checking.specs.declared.check.Judged.TheVariants as judged
 use Rattle.scopes.specs.TypeWords.{word_of}
 use Rattle.scopes.specs.Scopes.{word_in}
-use Rattle.scopes.specs.UsingLists.{is_bound_in, is_scalar_in, first_usable, usable_in, each_usable, scalars_in, word_found, listed_words, Body, stop, inside, sequence_in, each_in}
+use Rattle.scopes.specs.UsingLists.{is_bound_in, is_scalar_in, usable_in, scalars_in, word_found, listed_words, Body, stop, inside, sequence_in, each_in}
 use Rattle.scopes.specs.UsingLists.{bool_in, guard_in}
 use Rattle.environment.specs.Words.{tree_size}
 use Rattle.environment.specs.Needs.{binding_size, body_size, listed_size, spread_size, words}

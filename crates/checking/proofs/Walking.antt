@@ -1,13 +1,12 @@
 -- The walk over an expression that was scanned: what the record at k says of the expression there, and of those inside it.
-use Prim.Native.Nat.{ℕ, zero, suc, ◌+◌, ◌-◌, ◌*◌, ◌≤◌, ◌<◌}
+use Prim.Native.Nat.{ℕ, zero, suc, ◌+◌, ◌-◌, ◌≤◌, ◌<◌}
 use mathlib.Core.Bool.{Bool, true, false}
-use mathlib.Core.List.{List, [], ◌∷◌, ◌++◌}
-use mathlib.Core.Path.{◌≡◌, refl, sym, ap, ap₂, subst, ◌∙◌}
+use mathlib.Core.List.{List}
+use mathlib.Core.Path.{◌≡◌, refl, sym, ap, subst, ◌∙◌}
 use native.Mathlib.Omega.{arith}
 use lib.Dec.{ltb}
-use lib.ListN.{length, take, drop}
+use lib.ListN.{length}
 use Rattle.snesl.specs.declared.code.Variable.{Variable}
-use Rattle.snesl.specs.declared.refusal.Refusal.{Refusal}
 use Rattle.snesl.specs.declared.refusal.Refusal.TheVariants.{NoRecord, OverLimit, TooMany}
 use Rattle.snesl.specs.Limits.{most_listed, most_records}
 use Rattle.snesl.specs.Records as records
@@ -18,7 +17,7 @@ use Rattle.checking.specs.declared.check.Turn.{Turn}
 use Rattle.checking.specs.declared.check.Turn.TheVariants as turn
 use Rattle.records.specs.declared.head.Shape.{Shape}
 use Rattle.records.specs.Heads.{head_of}
-use Rattle.scopes.specs.Scopes.{scope, word_in}
+use Rattle.scopes.specs.Scopes.{word_in}
 use Rattle.checking.specs.Checks.{refuses, var_in, want_in, both_in, result_word, sized, judge, leaf_in, turn_in}
 use Rattle.records.proofs.Variables.{length-variables}
 use Rattle.records.proofs.Heads.{Reading, none, beyond, a_var, a_let, a_const, a_truth, an_iota, an_operation, a_negation, a_sum, an_each, a_guard, reading}

@@ -1,7 +1,7 @@
 -- The walk's ways out, each from the contracts of what it called: the answer is the expression's, and the stack from sp on is as it was.
-use Prim.Native.Nat.{ℕ, zero, suc, ◌+◌, ◌-◌, ◌*◌, ◌/◌, ◌≤◌, ◌<◌}
+use Prim.Native.Nat.{ℕ, suc, ◌+◌, ◌-◌, ◌*◌, ◌/◌, ◌≤◌, ◌<◌}
 use mathlib.Core.Bool.{Bool, true, false, ◌&&◌}
-use mathlib.Core.List.{List, [], ◌∷◌, ◌++◌}
+use mathlib.Core.List.{List, ◌∷◌}
 use mathlib.Core.Path.{◌≡◌, refl, sym, ap, ap₂, subst, ◌∙◌}
 use native.Mathlib.Omega.{arith}
 use lib.Dec.{eqb, leb}
@@ -10,7 +10,7 @@ use lib.Seq.{drop-drop, take_at, drop_at, get_or-drop}
 use Rattle.snesl.specs.declared.code.Variable.{Variable}
 use Rattle.snesl.specs.declared.refusal.Refusal.{Refusal}
 use Rattle.snesl.specs.declared.refusal.Refusal.TheVariants.{Unbound, WrongType}
-use Rattle.snesl.specs.Limits.{most_listed, most_depth}
+use Rattle.snesl.specs.Limits.{most_listed}
 use Rattle.snesl.specs.Records.{Raw, scanned, scan, head_at, variables_at}
 use Rattle.checking.specs.declared.check.Turn.{Turn}
 use Rattle.checking.specs.declared.check.Turn.TheVariants as turn
@@ -24,7 +24,7 @@ use Rattle.scopes.specs.Scopes.{scope, word_in, Pushed}
 use Rattle.scopes.specs.UsingLists.{Body, stop, inside, is_bound_in, usable_in, each_usable, scalars_in, listed_words, sequence_in, each_in, bool_in, guard_in, Inside, Stopped, Prepares}
 use Rattle.environment.specs.Words.{tree_size}
 use Rattle.checking.specs.Checks.{Judgement, refuses, gives, then_typed, body_then, bound, closed, guarded, pairs_size, newest, judge, turn_in, judging_of, bound_in, closed_in}
-use Rattle.checking.specs.Checks.{guarded_in, words_of, listed_bound, nesting_bound, words_bound, most_pushed, Judgeable, Judges}
+use Rattle.checking.specs.Checks.{guarded_in, words_of, listed_bound, words_bound, most_pushed, Judgeable, Judges}
 use Rattle.records.proofs.Variables.{length-variables}
 use Rattle.scopes.proofs.Listing.{length-words}
 use Rattle.checking.proofs.Closing.{bound_of, closed_of, guarded-of, bound-few, closed-few, guarded-few}

@@ -1,5 +1,5 @@
 -- Checking a whole expression over scopes as the code holds them, and the walk's part in it.
-use Rattle.std.specs.Prelude.{ℕ, zero, suc, ◌+◌, ◌-◌, ◌*◌, ◌/◌, ◌≤◌, max, Bool, true, false, ◌&&◌, List, [], ◌∷◌, ◌≡◌, eqb, ltb, length, get_or, drop}
+use Rattle.std.specs.Prelude.{ℕ, suc, ◌+◌, ◌*◌, ◌/◌, ◌≤◌, max, true, false, ◌&&◌, List, [], ◌∷◌, ◌≡◌, eqb, ltb, length, get_or, drop}
 use Rattle.snesl.specs.declared.refusal.Refusal.{Refusal}
 use Rattle.snesl.specs.declared.refusal.Refusal.TheVariants.{NoRecord, OverLimit, Unbound, WrongType}
 use Rattle.snesl.specs.Limits.{most_depth, most_listed, most_nesting, most_inputs}

@@ -1,11 +1,10 @@
 -- All inputs, one after another: what is loaded of them, and what is still to be, makes up the whole.
-use Prim.Native.Nat.{ℕ, zero, suc, ◌+◌, ◌*◌, ◌-◌, ◌≤◌, ◌<◌}
+use Prim.Native.Nat.{ℕ, suc, ◌+◌, ◌*◌, ◌-◌, ◌≤◌, ◌<◌}
 use mathlib.Core.List.{List, [], ◌∷◌, ◌++◌, append_assoc, append-nil, map}
 use mathlib.Core.Option.{Option, some, none}
 use mathlib.Core.Path.{◌≡◌, refl, sym, ap, ap₂, subst, ◌∙◌}
 use native.Mathlib.Omega.{arith}
 use borrow.Author.Tests.{le-leb, lt-leb}
-use lib.Dec.{leb}
 use lib.IntN.{ℤ}
 use lib.ListN.{length, take, drop, length-append}
 use lib.Seq.{drop-length, drop-drop}
@@ -17,7 +16,6 @@ use Rattle.snesl.specs.Limits.{most_inputs, most_depth, most_elements}
 use Rattle.snesl.specs.declared.code.Base.{Base}
 use Rattle.snesl.specs.Values.{ValueType, depth_of, Val}
 use Rattle.snesl.specs.Terms.{All, ∅, ◌▹◌}
-use Rattle.snesl.specs.Trees.{order}
 use Rattle.snesl.specs.Streams.{Store, len, contents, room}
 use Rattle.snesl.specs.Representation.{represent}
 use Rattle.snesl.specs.Text.{value_of}

@@ -1,5 +1,5 @@
 -- Refusal 7 and the counts input by input: what is left to be told of all inputs is what is left of those that follow.
-use Prim.Native.Nat.{ℕ, zero, suc, ◌+◌, ◌*◌, ◌-◌, ◌≤◌, ◌<◌}
+use Prim.Native.Nat.{ℕ, ◌+◌, ◌*◌, ◌-◌, ◌≤◌, ◌<◌}
 use mathlib.Core.Bool.{Bool, true, false}
 use mathlib.Core.List.{List, [], ◌∷◌, ◌++◌, append_assoc, append-nil}
 use mathlib.Core.Option.{Option, some, none}
@@ -22,7 +22,6 @@ use Rattle.formula.specs.Declarations.{input_place, base_at}
 use Rattle.valuetext.specs.Storing.{value_store, measured, measured_if, counts_after}
 use Rattle.valuetext.specs.declared.storing.Measured.{Measured}
 use Rattle.valuetext.specs.declared.storing.Measured.TheVariants.{Elements, Over, No}
-use Rattle.inputs.specs.declared.texts.Texts.{Texts}
 use Rattle.inputs.specs.declared.texts.Texts.TheVariants.{Good, Bad}
 use Rattle.inputs.specs.Supply.{texts_of, per_input, tally_first, tallied}
 use Rattle.inputs.proofs.Supplying.{type_at, Supplied, supplied-none, supplied-more}

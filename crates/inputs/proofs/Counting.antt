@@ -2,7 +2,7 @@
 use Prim.Native.Nat.{ℕ, suc, ◌+◌, ◌*◌, ◌-◌, ◌≤◌}
 use mathlib.Core.List.{List, [], ◌∷◌, ◌++◌, map}
 use mathlib.Core.Option.{Option}
-use mathlib.Core.Path.{◌≡◌, refl, sym, ap, ap₂, subst, ◌∙◌}
+use mathlib.Core.Path.{◌≡◌, sym, ap, ap₂, subst, ◌∙◌}
 use native.Mathlib.Omega.{arith}
 use lib.ListN.{length, take, drop, length-append, length-drop}
 use lib.Seq.{length-take-le, take-append-le, take-take, take_at, drop_at}
@@ -14,14 +14,14 @@ use Rattle.snesl.specs.Terms.{All, ∅, ◌▹◌}
 use Rattle.snesl.specs.Streams.{len}
 use Rattle.snesl.specs.Text.{value_of}
 use Rattle.snesl.specs.Finder.{span_of}
-use Rattle.snesl.specs.Records.{byte_at, Raw, Input, input_at, Span, span_at, JobRead, job}
+use Rattle.snesl.specs.Records.{byte_at, Input, input_at, Span, span_at}
 use Rattle.snesl.specs.Checking.{input_types}
 use Rattle.snesl.specs.Inputs.{right, input_values}
 use Rattle.snesl.proofs.Types.{depth-of-type}
 use Rattle.formula.specs.Declarations.{base_at}
-use Rattle.valuetext.specs.Storing.{value_store, counts_if, counts_after}
+use Rattle.valuetext.specs.Storing.{value_store, counts_if}
 use Rattle.valuetext.proofs.Represented.{lens-length}
-use Rattle.inputs.specs.Supply.{Read, Valued, per_input, tallied, Tallies, Counted}
+use Rattle.inputs.specs.Supply.{Read, per_input, tallied, Tallies, Counted}
 use Rattle.inputs.proofs.Supplying.{type_at, Supplied, supplied-none, supplied-more, inputs-supplied, inputs-few}
 use Rattle.inputs.proofs.Checking.{first-tallied}
 use Rattle.inputs.proofs.AllLoaded.{values-apart}

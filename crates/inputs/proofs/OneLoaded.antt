@@ -2,7 +2,7 @@
 use Prim.Native.Nat.{ℕ, zero, suc, ◌+◌, ◌*◌, ◌-◌, ◌≤◌, ◌<◌}
 use mathlib.Core.Bool.{Bool, true, false}
 use mathlib.Core.List.{List, [], ◌∷◌, ◌++◌, map, map-append, append_assoc}
-use mathlib.Core.Option.{Option, some, none}
+use mathlib.Core.Option.{Option, some}
 use mathlib.Core.Path.{◌≡◌, refl, sym, ap, ap₂, subst, ◌∙◌}
 use native.Mathlib.Nat.{add-zero}
 use native.Mathlib.Numerals.{add-one}
@@ -10,7 +10,7 @@ use native.Mathlib.Omega.{arith}
 use borrow.Author.Tests.{leb-true, leb-false}
 use lib.Dec.{leb}
 use lib.IntN.{ℤ}
-use lib.ListN.{length, get_or, set, take, drop, length-append, length-map, length-take}
+use lib.ListN.{length, get_or, set, take, drop, length-append, length-take}
 use lib.Seq.{sets, sets-eq, length-sets, take_at, drop_at, length-take-le}
 use Rattle.laws.specs.Parts.{written}
 use Rattle.environment.specs.Words.{Place, place_words, tree_words, spelled}
@@ -19,18 +19,16 @@ use Rattle.snesl.specs.declared.code.Variable.{Variable}
 use Rattle.snesl.specs.Limits.{most_depth, most_elements}
 use Rattle.snesl.specs.declared.code.Base.{Base}
 use Rattle.snesl.specs.Values.{depth_of, type_of, Val}
-use Rattle.snesl.specs.Terms.{All, ∅, ◌▹◌}
-use Rattle.snesl.specs.Trees.{Tree, leaf, node, order, map_tree}
-use Rattle.snesl.specs.Streams.{Stream, flags, data_of, len, Store, ◌!◌, contents, room}
-use Rattle.snesl.specs.Machine.{State, sum_of}
+use Rattle.snesl.specs.Trees.{order, map_tree}
+use Rattle.snesl.specs.Streams.{flags, data_of, len, Store, ◌!◌, contents, room}
+use Rattle.snesl.specs.Machine.{sum_of}
 use Rattle.snesl.specs.Representation.{concat, segments, represent}
-use Rattle.snesl.specs.Text.{value_of}
 use Rattle.snesl.specs.Inputs.{input_tree}
 use Rattle.snesl.proofs.Types.{depth-of-type}
 use Rattle.steps.specs.Holding.{counters, Held, place, keeps}
 use Rattle.steps.proofs.Executing.{next-id, next-element, spent-is, counted_is, four-words}
 use Rattle.steps.proofs.Stores.{contents-append, room-append, newest}
-use Rattle.leaves.specs.Places.{places, Shapely, shapely-leaf, shapely-node, Shaped, shaped-more, Shallow, shallow-more}
+use Rattle.leaves.specs.Places.{places, Shapely, shapely-leaf, shapely-node, shaped-more, shallow-more}
 use Rattle.leaves.proofs.Places.{tree-kept, places-kept, shapely-kept, shaped-kept, place-newest}
 use Rattle.decimals.specs.Numbers.{pick}
 use Rattle.valuetext.specs.Storing.{value_store, value_store_if, text_elements, Fillable}
@@ -39,7 +37,7 @@ use Rattle.levels.specs.declared.counts.Total.TheVariants.{Of, Over}
 use Rattle.valuetext.proofs.Represented.{lens-length, lens-total, order-length}
 use Rattle.inputs.specs.declared.loading.Loaded.TheVariants.{At, Full}
 use Rattle.inputs.specs.Places.{row_words}
-use Rattle.inputs.specs.Loading.{binding_words, unspent, Bound, bind_one, Stands, Next, Takes, takes, passes}
+use Rattle.inputs.specs.Loading.{unspent, bind_one, Next, Takes, takes, passes}
 
 -- ---- the words of a row of streams are those of an input's tree
 

@@ -14,7 +14,7 @@ use Rattle.snesl.specs.Machine.{State}
 use Rattle.snesl.specs.Text.{value_of}
 use Rattle.snesl.specs.Records.{Input}
 use Rattle.snesl.specs.Checking.{Name, context, input_types, turned, input_names}
-use Rattle.snesl.specs.Inputs.{input_tree, input_trees, input_streams, input_over}
+use Rattle.snesl.specs.Inputs.{input_tree, input_trees, input_streams}
 use Rattle.environment.specs.Words.{spelled}
 use Rattle.steps.specs.Holding.{Held, keeps}
 use Rattle.leaves.specs.Places.{places, Shaped, Shallow}

@@ -10,19 +10,19 @@ use Rattle.laws.proofs.Never.{never}
 use Rattle.laws.specs.Parts.{part, written}
 use Rattle.snesl.specs.declared.code.Instruction.TheVariants.{Close}
 use Rattle.snesl.specs.declared.code.Kind.{Kind}
-use Rattle.snesl.specs.declared.code.Kind.TheVariants.{Ints, Flags}
+use Rattle.snesl.specs.declared.code.Kind.TheVariants.{Ints}
 use Rattle.snesl.specs.declared.code.Transducer.{Transducer}
 use Rattle.snesl.specs.declared.code.Transducer.TheVariants.{Const, Usum, ScanPlus}
 use Rattle.snesl.specs.declared.code.Base.TheVariants as base
 use Rattle.snesl.specs.declared.refusal.Refusal.{Refusal}
-use Rattle.snesl.specs.Streams.{Stream, ints, units, len, Store, ◌!◌}
+use Rattle.snesl.specs.Streams.{ints, units, len, Store, ◌!◌}
 use Rattle.snesl.specs.Programs.{define, done, ◌⨾◌}
 use Rattle.snesl.specs.Machine.{State, Result, went, stopped, onward}
 use Rattle.snesl.specs.Outcome.{refusal_of}
 use Rattle.snesl.specs.Translation.{id}
 use Rattle.environment.specs.Words.{place_words}
-use Rattle.environment.proofs.Stack.{part-drop, drop-written, length-written, at-written}
-use Rattle.sink.specs.Sinks.{Sink, defined, opened, closed, feed, told}
+use Rattle.environment.proofs.Stack.{part-drop, drop-written, at-written}
+use Rattle.sink.specs.Sinks.{Sink, defined, opened, feed, told}
 use Rattle.sink.specs.Sunk.{Sunk, Tells}
 use Rattle.steps.specs.Walking.{stepped, walked}
 use Rattle.steps.specs.Holding.{Held, keeps, place, PlacedAt, Stopping}
@@ -32,7 +32,7 @@ use Rattle.steps.specs.declared.Executed.TheVariants.{Made, Stopped}
 use Rattle.steps.proofs.Stores.{kept, newest}
 use Rattle.steps.proofs.Stepping.{added, units_of_lem, ints_of}
 use Rattle.steps.proofs.Walking.{walked-define, walked-with, walked_one}
-use Rattle.steps.proofs.Executing.{next-id, four-words}
+use Rattle.steps.proofs.Executing.{next-id}
 use Rattle.steps.proofs.Performing.{stopping-as}
 use Rattle.leaves.specs.Making.{Makes, Instructed}
 use Rattle.leaves.specs.Arms.{Bare, filling, Filled, Flagged, counting_up, Counted}

@@ -8,8 +8,7 @@ use native.Mathlib.Omega.{arith}
 use lib.IntN.{ℤ}
 use lib.ListN.{length, get_or, drop, length-append, length-map}
 use Rattle.laws.proofs.Never.{never}
-use Rattle.laws.specs.Parts.{part, written}
-use Rattle.snesl.specs.declared.code.Kind.TheVariants.{Flags}
+use Rattle.laws.specs.Parts.{written}
 use Rattle.snesl.specs.declared.code.Variable.{Variable}
 use Rattle.snesl.specs.declared.code.Transducer.{Transducer}
 use Rattle.snesl.specs.declared.code.Transducer.TheVariants.{ToFlags}
@@ -18,9 +17,8 @@ use Rattle.snesl.specs.declared.refusal.Refusal.{Refusal}
 use Rattle.snesl.specs.Values.{int}
 use Rattle.snesl.specs.Terms as terms
 use Rattle.snesl.specs.Terms.{lookup}
-use Rattle.snesl.specs.Trees.{Tree, leaf, root, map_tree}
+use Rattle.snesl.specs.Trees.{leaf, root, map_tree}
 use Rattle.snesl.specs.Streams.{Stream, ints, flags, len, bit, Store, ◌!◌}
-use Rattle.snesl.specs.Programs.{define}
 use Rattle.snesl.specs.Machine.{State, Result, went, stopped, onward}
 use Rattle.snesl.specs.Outcome.{refusal_of}
 use Rattle.snesl.specs.Translation.{id, code, tree}
@@ -29,7 +27,7 @@ use Rattle.environment.proofs.Stack.{front-is, lowered, length-written}
 use Rattle.sink.specs.Sinks.{Sink, defined, feed}
 use Rattle.sink.specs.Sunk.{Sunk}
 use Rattle.steps.specs.Walking.{stepped, walked}
-use Rattle.steps.specs.Holding.{Held, keeps, place, PlacedAt, Stopping}
+use Rattle.steps.specs.Holding.{Held, keeps, place, Stopping}
 use Rattle.steps.specs.declared.Executed.{Executed}
 use Rattle.steps.specs.declared.Executed.TheVariants.{Made, Stopped}
 use Rattle.steps.proofs.Stores.{newest, kept}

@@ -1,15 +1,14 @@
 -- `make` meets its contract, and what its caller learns from its answer: the machine and the sink that the instruction left, or why it stopped.
-use Prim.Native.Nat.{ℕ, ◌≤◌}
-use mathlib.Core.List.{List, [], ◌∷◌, ◌++◌}
+use Prim.Native.Nat.{ℕ}
+use mathlib.Core.List.{List}
 use mathlib.Core.Path.{◌≡◌, refl, sym, ◌∙◌, ap, subst}
-use native.Mathlib.Omega.{arith}
 use lib.IntN.{ℤ}
 use lib.ListN.{length, get_or, take, drop}
 use Rattle.laws.proofs.Never.{never}
 use Rattle.snesl.specs.declared.code.Instruction.TheVariants.{Define}
 use Rattle.snesl.specs.declared.code.Transducer.{Transducer}
 use Rattle.snesl.specs.declared.refusal.Refusal.{Refusal}
-use Rattle.snesl.specs.Streams.{Stream, len}
+use Rattle.snesl.specs.Streams.{len}
 use Rattle.snesl.specs.Machine.{State, Result, went, stopped}
 use Rattle.snesl.specs.Outcome.{refusal_of}
 use Rattle.snesl.specs.Translation.{id}

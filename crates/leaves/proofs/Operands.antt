@@ -1,5 +1,5 @@
 -- From a scene and a name that checking found to an operand: the words of the variable's entry are the places of its streams.
-use Prim.Native.Nat.{ℕ, suc, ◌+◌}
+use Prim.Native.Nat.{ℕ, ◌+◌}
 use mathlib.Core.List.{List}
 use mathlib.Core.Path.{◌≡◌, refl, ◌∙◌, ap}
 use lib.IntN.{ℤ}

@@ -1,16 +1,14 @@
 -- The laws of a variable and of the forms that stand for one instruction.
-use Prim.Native.Nat.{ℕ, suc, ◌+◌, ◌*◌, ◌-◌, ◌≤◌, ◌<◌}
+use Prim.Native.Nat.{ℕ, ◌+◌, ◌*◌, ◌-◌, ◌≤◌, ◌<◌}
 use mathlib.Core.Bool.{Bool}
 use mathlib.Core.List.{List, [], ◌∷◌, ◌++◌}
-use mathlib.Core.Option.{some}
-use mathlib.Core.Path.{◌≡◌, refl, sym, ◌∙◌, ap, ap₂, subst, transport}
+use mathlib.Core.Path.{◌≡◌, refl, sym, ◌∙◌, ap, ap₂, subst}
 use native.Mathlib.Omega.{arith}
 use lib.IntN.{ℤ}
 use lib.ListN.{length, get_or, drop, length-append}
 use mir.Facts.{to_z-of_z}
 use mir.Syntax.{w32}
 use mir.Val.{SFits, to_z, of_z}
-use Rattle.laws.proofs.Never.{never}
 use Rattle.laws.specs.Parts.{part, written}
 use Rattle.snesl.specs.declared.code.Kind.{Kind}
 use Rattle.snesl.specs.declared.code.Variable.{Variable}
@@ -28,7 +26,7 @@ use Rattle.snesl.specs.Transducers.{operands, signature, carried}
 use Rattle.snesl.specs.Programs.{define, done}
 use Rattle.snesl.specs.Machine.{State}
 use Rattle.snesl.specs.Checking.{Name, find, found}
-use Rattle.snesl.specs.Translation.{id, code, tree}
+use Rattle.snesl.specs.Translation.{id, code}
 use Rattle.environment.specs.Words.{PlaceTree, place_words, tree_words, tree_size, Sought, Entry}
 use Rattle.environment.proofs.Stack.{lowered}
 use Rattle.environment.proofs.Finding.{length-tree}
@@ -44,10 +42,9 @@ use Rattle.steps.proofs.Spanning.{place-within}
 use Rattle.steps.proofs.Walking.{walked_one}
 use Rattle.steps.proofs.Executing.{next-id, next-element, four-words}
 use Rattle.steps.proofs.Performing.{stopping-as}
-use Rattle.leaves.specs.Places.{places, Shapely, shapely-leaf}
+use Rattle.leaves.specs.Places.{Shapely, shapely-leaf}
 use Rattle.leaves.specs.declared.Form.{Form}
 use Rattle.leaves.specs.declared.Form.TheVariants as form
-use Rattle.leaves.specs.declared.Walked.{Walked}
 use Rattle.leaves.specs.declared.Walked.TheVariants as Walked-as
 use Rattle.leaves.specs.Scenes.{Runs}
 use Rattle.leaves.specs.Making.{Makes, Instructed}

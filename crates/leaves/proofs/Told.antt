@@ -1,16 +1,15 @@
 -- What a program's instructions make of a sink.
 use Prim.Native.Nat.{ℕ, suc, ◌+◌, ◌-◌}
 use mathlib.Core.Bool.{true, false, ◌||◌}
-use mathlib.Core.List.{List, [], ◌∷◌, ◌++◌}
-use mathlib.Core.Path.{◌≡◌, refl, sym, ◌∙◌, ap}
+use mathlib.Core.List.{List, [], ◌∷◌}
+use mathlib.Core.Path.{◌≡◌, refl, ◌∙◌, ap}
 use native.Mathlib.Omega.{arith}
 use borrow.Author.Tests.{eq-eqb}
-use lib.Dec.{eqb}
 use lib.IntN.{pos}
 use Rattle.snesl.specs.declared.code.Transducer.{Transducer}
 use Rattle.snesl.specs.declared.code.Transducer.TheVariants.{Const, Usum, ScanPlus}
 use Rattle.snesl.specs.Trees.{leaf, order}
-use Rattle.snesl.specs.Programs.{Program, done, define, with_ctrl, ◌⨾◌, count, member, among, dv, fv, insert, ascending, without}
+use Rattle.snesl.specs.Programs.{Program, done, define, ◌⨾◌, count, member, among, dv, fv, insert, ascending, without}
 use Rattle.snesl.specs.Translation.{id}
 use Rattle.sink.specs.Sinks.{Sink, defined, opened, closed, feed}
 use Rattle.leaves.specs.Arms.{filling, counting_up}

@@ -14,13 +14,13 @@ use Rattle.snesl.specs.Terms.{◌∋◌, Term, All, lookup}
 use Rattle.snesl.specs.Checking.{Name, find, found}
 use Rattle.snesl.specs.Trees.{IdTree, leaf, root, inner, outer}
 use Rattle.snesl.specs.Transducers.{operands, signature}
-use Rattle.snesl.specs.Streams.{Stream, ints, Store}
+use Rattle.snesl.specs.Streams.{Stream, ints}
 use Rattle.snesl.specs.Programs.{Program, define, done, ◌⨾◌}
 use Rattle.snesl.specs.Translation.{id, code, tree, controlled}
 use Rattle.snesl.specs.Machine.{State, Stop, Result, went, stopped}
 use Rattle.snesl.specs.Outcome.{refusal_of}
 use Rattle.environment.specs.Words.{place_words}
-use Rattle.sink.specs.Sinks.{Sink, defined, opened, closed, feed}
+use Rattle.sink.specs.Sinks.{Sink, defined, opened, closed}
 use Rattle.sink.specs.Sunk.{Sunk}
 use Rattle.steps.specs.declared.Operands.{Operands}
 use Rattle.steps.specs.declared.Executed.{Executed}

@@ -3,30 +3,28 @@
 use Prim.Native.Nat.{ℕ, ◌+◌, ◌-◌, ◌≤◌}
 use mathlib.Core.Bool.{Bool, true, false}
 use mathlib.Core.Option.{Option, some, none}
-use native.Mathlib.Nat.{add-zero}
 use borrow.Author.Tests.{le-leb}
-use mathlib.Core.List.{List, [], ◌++◌, map, append-nil}
+use mathlib.Core.List.{List, [], map}
 use mathlib.Core.Path.{◌≡◌, refl, sym, ◌∙◌, ap, ap₂, subst, transport}
 use native.Mathlib.Omega.{arith}
 use lib.IntN.{ℤ}
 use mir.Facts.{to_z-of_z}
 use mir.Syntax.{w32}
 use mir.Val.{SFits, to_z, of_z}
-use lib.ListN.{length, take, drop, take-append-drop}
+use lib.ListN.{length}
 use Rattle.laws.proofs.Never.{never}
 use Rattle.laws.specs.Parts.{part, written}
 use Rattle.snesl.specs.declared.code.StreamId.{StreamId}
 use Rattle.snesl.specs.declared.code.Transducer.{Transducer}
 use Rattle.snesl.specs.declared.code.Transducer.TheVariants.{Const, ConstBool, ToFlags, B2u, Usum, MapTwo, MapOneNot, ScanPlus, Distr, SumPlus, Pack, UPack}
 use Rattle.snesl.specs.declared.code.Operation.{Operation}
-use Rattle.snesl.specs.declared.code.Base.{Base}
 use Rattle.snesl.specs.declared.code.Base.TheVariants.{Int}
-use Rattle.snesl.specs.Streams.{Stream, units, bit, elements, Store, room}
+use Rattle.snesl.specs.Streams.{Stream, units, bit, elements, Store}
 use Rattle.snesl.specs.Transducers as snesl
 use Rattle.snesl.specs.Transducers.{Answer, made, unfit, unless, alone, misfit, count_f, apply, operands, signature, bool_of, flag_of}
 use Rattle.streams.specs.Answers.{Answers, answered, after, widest_buffer}
 use Rattle.streams.specs.declared.output.Output.{Output}
-use Rattle.streams.proofs.Alike.{Alike, answers-alike}
+use Rattle.streams.proofs.Alike.{answers-alike}
 use Rattle.streams.proofs.Reading.{bit-read}
 use Rattle.streams.proofs.Store.{Holds, apply-constant, apply-constant-bool, apply-to-flags, apply-b2u, apply-usum, apply-map-two, apply-map-one-not, apply-scan-plus, apply-distr, apply-sum-plus, apply-pack, apply-upack}
 use Rattle.steps.specs.declared.Spans.{Spans}

@@ -1,10 +1,10 @@
 -- From the places of a transducer's operands on the stack of words to where they stand in the stream buffer.
-use Prim.Native.Nat.{ℕ, zero, suc, ◌+◌, ◌≤◌}
+use Prim.Native.Nat.{ℕ, suc, ◌+◌, ◌≤◌}
 use mathlib.Core.List.{List, [], ◌∷◌, map}
 use mathlib.Core.Path.{◌≡◌, refl, sym, ◌∙◌, ap}
 use native.Mathlib.Omega.{arith}
 use lib.IntN.{ℤ}
-use lib.ListN.{length, get_or, drop, length-take, length-drop}
+use lib.ListN.{length, get_or, length-take, length-drop}
 use Rattle.laws.specs.Parts.{part}
 use Rattle.snesl.specs.declared.code.Kind.{Kind}
 use Rattle.snesl.specs.declared.code.Kind.TheVariants.{Ints, Bools, Flags, Units}
@@ -12,14 +12,14 @@ use Rattle.snesl.specs.declared.code.Base.{Base}
 use Rattle.snesl.specs.declared.code.Base.TheVariants as base
 use Rattle.snesl.specs.declared.code.Transducer.{Transducer}
 use Rattle.snesl.specs.declared.code.Transducer.TheVariants.{Const, ConstBool, ToFlags, B2u, Usum, MapTwo, MapOneNot, ScanPlus, Distr, SumPlus, Pack, UPack}
-use Rattle.snesl.specs.Streams.{ints, flags, units, Store}
+use Rattle.snesl.specs.Streams.{Store}
 use Rattle.snesl.specs.Transducers.{operands, signature}
 use Rattle.snesl.specs.Machine.{State, sum_of}
 use Rattle.environment.specs.Words.{Place, place_words}
 use Rattle.environment.proofs.Entries.{first-is, second_is}
 use Rattle.steps.specs.declared.Operands.{Operands}
 use Rattle.steps.specs.declared.Spans.{Spans}
-use Rattle.steps.specs.Holding.{place, length_of, IntsAt, BoolsAt, FlagsAt, OperandAt, OperandsAt, span_list, Spanned, PlacedAt, Placed, positions, Executable, Performable}
+use Rattle.steps.specs.Holding.{place, length_of, OperandAt, OperandsAt, Spanned, PlacedAt, Placed, positions, Executable, Performable}
 use Rattle.steps.proofs.Stepping.{ints_of, bools-of, flags_of}
 
 -- a place's words stand on the stack

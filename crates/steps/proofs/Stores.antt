@@ -14,9 +14,8 @@ use Rattle.laws.proofs.Never.{never}
 use Rattle.laws.specs.Parts.{part, written}
 use Rattle.snesl.specs.declared.code.Base.{Base}
 use Rattle.snesl.specs.declared.code.Base.TheVariants as base
-use Rattle.snesl.specs.declared.code.Kind.{Kind}
 use Rattle.snesl.specs.Values.{Element}
-use Rattle.snesl.specs.Streams.{Stream, ints, bools, flags, data_of, data_kind, bit, len, elements, Store, ◌!◌, contents, room}
+use Rattle.snesl.specs.Streams.{Stream, ints, flags, data_of, data_kind, bit, elements, Store, ◌!◌, contents, room}
 use Rattle.streams.proofs.Alike.{data-long}
 use Rattle.streams.proofs.Store.{Holds, Stands, stands}
 use Rattle.steps.specs.Holding.{start_of, length_in, length_of, IntsAt, BoolsAt, FlagsAt, OperandAt}

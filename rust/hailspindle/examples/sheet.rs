@@ -1,7 +1,7 @@
 //! A lead's sheet: a correction is added to each reading, and the readings of each stop are summed.
 //! Then the same sheet with a reading that is too large, to show a refusal.
 //!
-//! After `rt staticlib hailspindle`, in the folder `rust`: cargo run -p hailspindle --example sheet
+//! After `tools/library`, in the folder `rust`: cargo run -p hailspindle --example sheet
 
 /// `IN 0 2, IN 1 0, EA 2 0 1 1, LT 3, EA 4 2 1 1, PL 4 1, SM 3`: input 0 is a list of stops, each a
 /// list of readings, and input 1 the correction.

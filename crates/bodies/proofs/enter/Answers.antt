@@ -1,5 +1,5 @@
 -- The flags' place, their units, the entries of the listed variables, and x's (proofs/Entering.antt).
-use Prim.Native.Nat.{◌+◌, ◌-◌}
+use Prim.Native.Nat.{◌+◌}
 use mathlib.Core.Logic.{inr}
 use mathlib.Core.Path.{◌∙◌}
 use native.Mathlib.Omega.{arith}
@@ -120,9 +120,6 @@ bounds-env-b c = omega (
   c.move_words.auto.env,
 )
 
-pub overflow_cast-t : goal.overflow_cast-t
-overflow_cast-t c = omega (arith, c.slice_known-6-1.given (c.args.sp - 3))
-
 pub make-requires : goal.make-requires
 make-requires c = (
   _,
@@ -148,10 +145,24 @@ pub shape_of-env-in-Bound : goal.shape_of-env-in-Bound
 shape_of-env-in-Bound c = c.bind_items.auto.env ∙ (c.distribute.auto.env ∙ c.move_words.auto.env)
 
 pub returns-in-Bound : goal.returns-in-Bound
-returns-in-Bound c = λ g. enters-inside g (c.find-p.ensures (sought g.scene g.pointer g.finds)) c.move_words.ensures _ (c.make.ensures _ _ (usum-ready g (c.find-p.ensures (sought g.scene g.pointer g.finds)) c.move_words.ensures _)) c.in-Made.is c.make.auto.buf (c.distribute.ensures (distributing g (c.find-p.ensures (sought g.scene g.pointer g.finds)) c.move_words.ensures _ (c.make.ensures _ _ (usum-ready g (c.find-p.ensures (sought g.scene g.pointer g.finds)) c.move_words.ensures _)) c.in-Made.is c.make.auto.buf)) c.in-Bound.is c.distribute.auto.env c.bind_items.ensures.0 c.bind_items.ensures.1
+returns-in-Bound c = λ g. enters-inside g
+    (c.find-p.ensures (sought g.scene g.pointer g.finds)) c.move_words.ensures _
+    (c.make.ensures _ _ (usum-ready g
+    (c.find-p.ensures (sought g.scene g.pointer g.finds)) c.move_words.ensures _)) c.in-Made.is c.make.auto.buf
+    (c.distribute.ensures (distributing g
+    (c.find-p.ensures (sought g.scene g.pointer g.finds)) c.move_words.ensures _
+    (c.make.ensures _ _ (usum-ready g
+    (c.find-p.ensures (sought g.scene g.pointer g.finds)) c.move_words.ensures _)) c.in-Made.is c.make.auto.buf)) c.in-Bound.is c.distribute.auto.env c.bind_items.ensures.0 c.bind_items.ensures.1
 
 pub returns-in-Stopped-distribute : goal.returns-in-Stopped-distribute
-returns-in-Stopped-distribute c = λ g. distr-stopped g (c.find-p.ensures (sought g.scene g.pointer g.finds)) c.move_words.ensures _ (c.make.ensures _ _ (usum-ready g (c.find-p.ensures (sought g.scene g.pointer g.finds)) c.move_words.ensures _)) c.in-Made.is c.make.auto.buf (c.distribute.ensures (distributing g (c.find-p.ensures (sought g.scene g.pointer g.finds)) c.move_words.ensures _ (c.make.ensures _ _ (usum-ready g (c.find-p.ensures (sought g.scene g.pointer g.finds)) c.move_words.ensures _)) c.in-Made.is c.make.auto.buf)) c.in-Stopped-distribute.is
+returns-in-Stopped-distribute c = λ g. distr-stopped g
+    (c.find-p.ensures (sought g.scene g.pointer g.finds)) c.move_words.ensures _
+    (c.make.ensures _ _ (usum-ready g
+    (c.find-p.ensures (sought g.scene g.pointer g.finds)) c.move_words.ensures _)) c.in-Made.is c.make.auto.buf
+    (c.distribute.ensures (distributing g
+    (c.find-p.ensures (sought g.scene g.pointer g.finds)) c.move_words.ensures _
+    (c.make.ensures _ _ (usum-ready g
+    (c.find-p.ensures (sought g.scene g.pointer g.finds)) c.move_words.ensures _)) c.in-Made.is c.make.auto.buf)) c.in-Stopped-distribute.is
 
 pub returns-in-Stopped : goal.returns-in-Stopped
 returns-in-Stopped c = λ g. usum-stopped g (c.find-p.ensures (sought g.scene g.pointer g.finds)) c.move_words.ensures _ (c.make.ensures _ _ (usum-ready g (c.find-p.ensures (sought g.scene g.pointer g.finds)) c.move_words.ensures _)) c.in-Stopped.is

@@ -1,5 +1,5 @@
 -- The Distr is made over the places of the flags and of the variable, and the entry of its copy is put (proofs/Distributing.antt).
-use Prim.Native.Nat.{◌+◌, ◌-◌}
+use Prim.Native.Nat.{◌-◌}
 use native.Mathlib.Omega.{arith}
 use Rattle.leaves.proofs.Operands.{sought}
 use Rattle.bodies.proofs.Distributing.{spread-ready, spread-push, spread-made, spread-stopped}
@@ -31,9 +31,6 @@ bounds-env-p c = omega (
   arith,
   (c.find-p.ensures (sought c.requires.scene c.requires.pointer c.requires.finds)).within,
 )
-
-pub overflow_cast-t-2 : goal.overflow_cast-t-2
-overflow_cast-t-2 c = omega (arith, c.slice_known-5-1.given (c.find-p.result + 2))
 
 pub make-requires : goal.make-requires
 make-requires c = (

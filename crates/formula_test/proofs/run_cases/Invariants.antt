@@ -5,7 +5,7 @@ use lib.ListN.{length}
 use Rattle.formula_test.proofs.run_cases.Given as goal
 
 abbrev pub invariant-loop-at : goal.invariant-loop-at
-invariant-loop-at l = length l.bytes ≡ length l.initial.bytes
+invariant-loop-at g l = length l.bytes ≡ length l.initial.bytes
 
 abbrev pub decreases-loop-at : goal.decreases-loop-at
-decreases-loop-at l = length l.text + 1 - l.at
+decreases-loop-at g l = length l.text + 1 - l.at

@@ -1,5 +1,4 @@
 -- Two instructions (proofs/Asking.antt).
-use Prim.Native.Nat.{◌-◌}
 use native.Mathlib.Omega.{arith}
 use Rattle.guards.proofs.Asking.{flags-ready, flags-stopped, units-ready, answers}
 use Rattle.guards.proofs.count_true.Goals as goal
@@ -9,9 +8,6 @@ overflow_cast-t c = omega (arith, c.type_inv.env c.args.bools)
 
 pub put-requires : goal.put-requires
 put-requires c = (_, _, flags-ready c.requires.3)
-
-pub overflow_cast-u : goal.overflow_cast-u
-overflow_cast-u c = omega (arith, c.slice_known-in-Made-1.given (c.args.sp - 3))
 
 pub make-requires : goal.make-requires
 make-requires c = let g = c.requires.3 in

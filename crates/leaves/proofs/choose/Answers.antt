@@ -1,5 +1,7 @@
 -- The ids are the first words of the operands' places (proofs/Singles.antt).
+use borrow.Author.Rules.{rules}
 use native.Mathlib.Omega.{arith}
+use Rattle.std.proofs.Common.{rules}
 use Rattle.leaves.proofs.Singles.{const-chosen, truth-chosen, operation-chosen, negation-chosen, sum-chosen, operation-within, negation-within, sum-within}
 use Rattle.leaves.proofs.choose.Goals as goal
 
@@ -49,7 +51,7 @@ pub overflow_cast-result-in-Sum-2 : goal.overflow_cast-result-in-Sum-2
 overflow_cast-result-in-Sum-2 c = omega (arith, c.type_inv.env c.args.at.second)
 
 pub returns-in-Const : goal.returns-in-Const
-returns-in-Const c = λ p b s t g l. const-chosen g l c.in-Const.is (record { sfits = c.known_told-1.given.0.1 })
+returns-in-Const c = λ p b s t g l. const-chosen g l c.in-Const.is (search rules)
 
 pub returns-in-Truth : goal.returns-in-Truth
 returns-in-Truth c = λ p b s t g l. truth-chosen g l c.in-Truth.is

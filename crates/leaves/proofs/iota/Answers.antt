@@ -1,5 +1,4 @@
 -- The flags with their place, what follows them, and the place of the numbers (proofs/Iotas.antt).
-use Prim.Native.Nat.{◌+◌}
 use native.Mathlib.Omega.{arith}
 use Rattle.leaves.proofs.Operands.{sought}
 use Rattle.leaves.proofs.Iotas.{flags-ready, flags-push, flagged, iota-push, iota-runs, count-stopped, flags-stopped}
@@ -16,9 +15,6 @@ offset_bounds-env-p c = omega (arith, (c.find-p.ensures (sought c.requires.scene
 
 pub bounds-env-p : goal.bounds-env-p
 bounds-env-p c = omega (arith, (c.find-p.ensures (sought c.requires.scene c.requires.pointer c.requires.finds)).within)
-
-pub overflow_cast-t : goal.overflow_cast-t
-overflow_cast-t c = omega (arith, c.slice_known-4-1.given (c.find-p.result + 2))
 
 pub make-requires : goal.make-requires
 make-requires c = (
@@ -58,23 +54,30 @@ overflow_sub-sp c = omega (
 )
 
 pub push-requires-in-Made-count_up : goal.push-requires-in-Made-count_up
-push-requires-in-Made-count_up c = let q = iota-push c.requires (c.find-p.ensures (sought c.requires.scene c.requires.pointer c.requires.finds)) _ (c.make.ensures _ _ (flags-ready c.requires (c.find-p.ensures (sought c.requires.scene c.requires.pointer c.requires.finds)) _)) c.in-Made.is c.push.ensures c.make.auto.buf (c.count_up.ensures _ _ _ (flagged c.requires (c.find-p.ensures (sought c.requires.scene c.requires.pointer c.requires.finds)) _ (c.make.ensures _ _ (flags-ready c.requires (c.find-p.ensures (sought c.requires.scene c.requires.pointer c.requires.finds)) _)) c.in-Made.is c.push.ensures)) c.in-Made-count_up.is in (
-  omega (
-    arith,
-    c.requires.low,
-  ),
-  omega (
-    arith,
-    c.count_up.auto.env,
-    c.push.auto.env,
-    c.requires.scene.within,
-  ),
-  q.0,
-  q.1,
-  q.2,
-  q.3,
-  q.4,
-)
+push-requires-in-Made-count_up c = let q = iota-push c.requires
+    (c.find-p.ensures (sought c.requires.scene c.requires.pointer c.requires.finds)) _
+    (c.make.ensures _ _ (flags-ready c.requires
+    (c.find-p.ensures (sought c.requires.scene c.requires.pointer c.requires.finds)) _)) c.in-Made.is c.push.ensures c.make.auto.buf
+    (c.count_up.ensures _ _ _ (flagged c.requires
+    (c.find-p.ensures (sought c.requires.scene c.requires.pointer c.requires.finds)) _
+    (c.make.ensures _ _ (flags-ready c.requires
+    (c.find-p.ensures (sought c.requires.scene c.requires.pointer c.requires.finds)) _)) c.in-Made.is c.push.ensures)) c.in-Made-count_up.is in (
+      omega (
+        arith,
+        c.requires.low,
+      ),
+      omega (
+        arith,
+        c.count_up.auto.env,
+        c.push.auto.env,
+        c.requires.scene.within,
+      ),
+      q.0,
+      q.1,
+      q.2,
+      q.3,
+      q.4,
+    )
 
 pub returns-in-Made-count_up : goal.returns-in-Made-count_up
 returns-in-Made-count_up c = λ g. iota-runs g (c.find-p.ensures (sought g.scene g.pointer g.finds)) _ (c.make.ensures _ _ (flags-ready g (c.find-p.ensures (sought g.scene g.pointer g.finds)) _)) c.in-Made.is c.push.ensures c.make.auto.buf (c.count_up.ensures _
@@ -82,7 +85,14 @@ returns-in-Made-count_up c = λ g. iota-runs g (c.find-p.ensures (sought g.scene
     _ (c.make.ensures _ _ (flags-ready g (c.find-p.ensures (sought g.scene g.pointer g.finds)) _)) c.in-Made.is c.push.ensures)) c.in-Made-count_up.is _ c.count_up.auto.env c.push-in-Made-count_up.ensures
 
 pub returns-in-Stopped-count_up : goal.returns-in-Stopped-count_up
-returns-in-Stopped-count_up c = λ g. count-stopped g (c.find-p.ensures (sought g.scene g.pointer g.finds)) _ (c.make.ensures _ _ (flags-ready g (c.find-p.ensures (sought g.scene g.pointer g.finds)) _)) c.in-Made.is c.push.ensures c.make.auto.buf (c.count_up.ensures _ _ _ (flagged g (c.find-p.ensures (sought g.scene g.pointer g.finds)) _ (c.make.ensures _ _ (flags-ready g (c.find-p.ensures (sought g.scene g.pointer g.finds)) _)) c.in-Made.is c.push.ensures)) _ c.in-Stopped-count_up.is
+returns-in-Stopped-count_up c = λ g. count-stopped g
+    (c.find-p.ensures (sought g.scene g.pointer g.finds)) _
+    (c.make.ensures _ _ (flags-ready g
+    (c.find-p.ensures (sought g.scene g.pointer g.finds)) _)) c.in-Made.is c.push.ensures c.make.auto.buf
+    (c.count_up.ensures _ _ _ (flagged g
+    (c.find-p.ensures (sought g.scene g.pointer g.finds)) _
+    (c.make.ensures _ _ (flags-ready g
+    (c.find-p.ensures (sought g.scene g.pointer g.finds)) _)) c.in-Made.is c.push.ensures)) _ c.in-Stopped-count_up.is
 
 pub returns-in-Stopped : goal.returns-in-Stopped
 returns-in-Stopped c = λ g. flags-stopped g (c.find-p.ensures (sought g.scene g.pointer g.finds)) _ (c.make.ensures _ _ (flags-ready g (c.find-p.ensures (sought g.scene g.pointer g.finds)) _)) _ c.in-Stopped.is

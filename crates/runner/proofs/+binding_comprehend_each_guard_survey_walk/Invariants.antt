@@ -5,19 +5,19 @@ use lib.ListN.{length}
 use Rattle.runner.proofs.+binding_comprehend_each_guard_survey_walk.Given as goal
 
 abbrev pub decreases-binding : goal.decreases-binding
-decreases-binding l = 5 * (length l.now - a.1.0)
+decreases-binding l = 5 * (length l.bytes.now - l.k)
 
 abbrev pub decreases-comprehend : goal.decreases-comprehend
-decreases-comprehend l = 5 * (length l.now - a.1.0.at) + 3
+decreases-comprehend l = 5 * (length l.bytes.now - l.body.at) + 3
 
 abbrev pub decreases-each : goal.decreases-each
-decreases-each l = 5 * (length l.now - a.1.0)
+decreases-each l = 5 * (length l.bytes.now - l.k)
 
 abbrev pub decreases-guard : goal.decreases-guard
-decreases-guard l = 5 * (length l.now - a.1.0)
+decreases-guard l = 5 * (length l.bytes.now - l.k)
 
 abbrev pub decreases-survey : goal.decreases-survey
-decreases-survey l = 5 * (length l.now - a.1.0.at) + 2
+decreases-survey l = 5 * (length l.bytes.now - l.body.at) + 2
 
 abbrev pub decreases-walk : goal.decreases-walk
-decreases-walk l = 5 * (length l.now - a.1.0) + 1
+decreases-walk l = 5 * (length l.bytes.now - l.k) + 1

@@ -1,6 +1,7 @@
 -- Each arm calls one transducer; proofs/Applying.antt says where its operands lie and what its answer means.
 use Rattle.steps.proofs.Applying.{room-left, to-flags-fits, b2u-fits, usum-fits, map-two-fits, map-one-not-fits, scan-plus-fits, distr-fits, sum-plus-fits, pack-fits, upack-fits}
 use Rattle.steps.proofs.Applying.{constant-answers, constant-bool-answers, to-flags-answers, b2u-answers, usum-answers, map-two-answers, map-one-not-answers, scan-plus-answers, distr-answers, sum-plus-answers, pack-answers, upack-answers}
+use native.Mathlib.Omega.{arith}
 use Rattle.steps.proofs.transduce.Goals as goal
 
 pub constant-requires : goal.constant-requires
@@ -40,7 +41,7 @@ pub upack-requires : goal.upack-requires
 upack-requires c = upack-fits c.requires.1 _ _ c.in-UPack.is
 
 pub returns-in-Const : goal.returns-in-Const
-returns-in-Const c = λ σ a. constant-answers a _ _ c.in-Const.is (record { sfits = c.known_told-1.given.0.1 }) c.constant.ensures
+returns-in-Const c = λ σ a. constant-answers a _ _ c.in-Const.is (record { sfits = omega arith }) c.constant.ensures
 
 pub returns-in-ConstBool : goal.returns-in-ConstBool
 returns-in-ConstBool c = λ σ a. constant-bool-answers a _ _ c.in-ConstBool.is c.element.ensures c.constant-in-ConstBool.ensures
@@ -61,7 +62,7 @@ pub returns-in-MapOneNot : goal.returns-in-MapOneNot
 returns-in-MapOneNot c = λ σ a. map-one-not-answers a _ _ c.in-MapOneNot.is c.map_one_not.ensures
 
 pub returns-in-ScanPlus : goal.returns-in-ScanPlus
-returns-in-ScanPlus c = λ σ a. scan-plus-answers a _ _ _ _ c.in-ScanPlus.is (record { sfits = c.known_told-in-ScanPlus-1.given.0.1 }) c.scan_plus.ensures.answers
+returns-in-ScanPlus c = λ σ a. scan-plus-answers a _ _ _ _ c.in-ScanPlus.is (record { sfits = omega arith }) c.scan_plus.ensures.answers
 
 pub returns-in-Distr : goal.returns-in-Distr
 returns-in-Distr c = λ σ a. distr-answers a _ _ _ c.in-Distr.is c.distr.ensures

@@ -3,93 +3,23 @@ use mathlib.Core.Path.{refl, sym, ◌∙◌}
 use native.Mathlib.Omega.{arith}
 use Rattle.checking.proofs.Walks.{judges-at, prepares-at, leaf-refused, leaf-found, inner-few, let-fits, let-first, let-refused, let-second, let-judges, each_fits, each-refused, element-fits, each-body, each-judges}
 use Rattle.checking.proofs.Walks.{guard-fits, guard-refused, size-asked, guard-body, guard-judges}
-use Prim.Native.Nat.{ℕ, ◌+◌}
+use Prim.Native.Nat.{◌+◌}
 use Rattle.checking.proofs.check.+walk.Goals as goal
 
-abbrev walk_at : ℕ → In 2 walk-kinds.ps
-walk_at t = and 2 walk-kinds.ps (is 2 walk-kinds.ps μ-walk t) walk.Pre
-
-pub +walk-spec : {M : Type 1} → statement M
-+walk-spec = close μ-walk λ t. walk-lts.spec (walk-callees t)
-    (walk_at t)
-    walk.Post
-    (walk-step-requires t)
-    (walk-enum-known-refusal t)
-    (walk-enum-known-next t)
-    (walk-cast-t35 t)
-    (walk-mul-t36 t)
-    (walk-add-t37 t)
-    (walk-enum-known-x t)
-    (walk-add-walk t)
-    (walk-sub-walk t)
-    (walk-walk-requires t)
-    (walk-enum-known-refusal-2 t)
-    (walk-enum-known-next-2 t)
-    (walk-push-requires t)
-    (walk-sub-walk-2 t)
-    (walk-walk-requires-2 t)
-    (walk-bound-requires t)
-    (walk-enum-known-x-2 t)
-    (walk-prepare-requires t)
-    (walk-enum-known-refusal-3 t)
-    (walk-enum-known-inner t)
-    (walk-add-element t)
-    (walk-slice-read-element t)
-    (walk-add-walk-2 t)
-    (walk-add-walk-3 t)
-    (walk-sub-walk-3 t)
-    (walk-walk-requires-3 t)
-    (walk-close-requires t)
-    (walk-enum-known-g t)
-    (walk-prepare-guard-requires t)
-    (walk-enum-known-refusal-4 t)
-    (walk-enum-known-inner-2 t)
-    (walk-listed-size-requires t)
-    (walk-add-walk-4 t)
-    (walk-add-walk-5 t)
-    (walk-sub-walk-4 t)
-    (walk-walk-requires-4 t)
-    (walk-close-guard-requires t)
-    (walk-same-length t)
-    (walk-returns t)
-    (walk-same-length-2 t)
-    (walk-returns-2 t)
-    (walk-same-length-3 t)
-    (walk-returns-3 t)
-    (walk-same-length-4 t)
-    (walk-returns-4 t)
-    (walk-same-length-5 t)
-    (walk-returns-5 t)
-    (walk-same-length-6 t)
-    (walk-returns-6 t)
-    (walk-same-length-7 t)
-    (walk-returns-7 t)
-    (walk-same-length-8 t)
-    (walk-returns-8 t)
-
 pub step-requires : goal.step-requires
-step-requires t c = (c.requires.1.order, c.requires.1.high)
-
-pub enum_known-refusal : goal.enum_known-refusal
-enum_known-refusal t c = c.in-Refused.in-Refused-own.keys1
-
-pub enum_known-next : goal.enum_known-next
-enum_known-next t c = c.in-Found.in-Found-own.keys2
-
-pub enum_known-x : goal.enum_known-x
-enum_known-x t c = c.in-Let.in-Let-own.keys3
+step-requires t c = (c.requires.order, c.requires.high)
 
 pub overflow_add-k : goal.overflow_add-k
 overflow_add-k t c = omega (
   arith,
-  (let-fits c.requires.1
+  (let-fits c.requires
       (sym c.in-Let.is ∙ c.step.ensures)).0,
 )
 
 pub overflow_sub-levels : goal.overflow_sub-levels
 overflow_sub-levels t c = omega (
   arith,
-  (let-fits c.requires.1
+  (let-fits c.requires
       (sym c.in-Let.is ∙ c.step.ensures)).1,
 )
 
@@ -97,35 +27,29 @@ pub walk-requires : goal.walk-requires
 walk-requires t c = (
   omega (
     arith,
-    (let-fits c.requires.1
+    (let-fits c.requires
         (sym c.in-Let.is ∙ c.step.ensures)).1,
-    c.requires.0,
+    c.decreases,
   ),
-  let-first c.requires.1
+  let-first c.requires
       (sym c.in-Let.is ∙ c.step.ensures)
-      c.requires.1,
+      c.requires,
 )
-
-pub enum_known-refusal-in-Refused-walk : goal.enum_known-refusal-in-Refused-walk
-enum_known-refusal-in-Refused-walk t c = c.in-Refused-walk.in-Refused-walk-own.keys1
-
-pub enum_known-next-in-Found-walk : goal.enum_known-next-in-Found-walk
-enum_known-next-in-Found-walk t c = c.in-Found-walk.in-Found-walk-own.keys2
 
 pub push-inner-requires : goal.push-inner-requires
 push-inner-requires t c = omega (
   arith,
-  (let-fits c.requires.1
+  (let-fits c.requires
       (sym c.in-Let.is ∙ c.step.ensures)).2,
   c.walk.auto.env,
-  c.requires.1.order,
-  c.requires.1.high,
+  c.requires.order,
+  c.requires.high,
 )
 
 pub overflow_sub-levels-in-Found-walk : goal.overflow_sub-levels-in-Found-walk
 overflow_sub-levels-in-Found-walk t c = omega (
   arith,
-  (let-fits c.requires.1
+  (let-fits c.requires
       (sym c.in-Let.is ∙ c.step.ensures)).1,
 )
 
@@ -133,52 +57,50 @@ pub walk-second-requires : goal.walk-second-requires
 walk-second-requires t c = (
   omega (
     arith,
-    (let-fits c.requires.1
+    (let-fits c.requires
         (sym c.in-Let.is ∙ c.step.ensures)).1,
-    c.requires.0,
+    c.decreases,
   ),
-  let-second c.requires.1
+  let-second c.requires
       (sym c.in-Let.is ∙ c.step.ensures)
       (judges-at c.in-Found-walk.is c.walk.ensures)
       c.push-inner.ensures
       (c.push-inner.auto.env ∙ c.walk.auto.env)
-      c.requires.1,
+      c.requires,
 )
 
 pub bound-requires : goal.bound-requires
-bound-requires t c = inner-few c.requires.1 c.walk-second.ensures
-
-pub enum_known-x-in-Each-1 : goal.enum_known-x-in-Each-1
-enum_known-x-in-Each-1 t c = c.in-Each.in-Each-own.keys4
+bound-requires t c = inner-few c.requires c.walk-second.ensures
 
 pub prepare-requires : goal.prepare-requires
-prepare-requires t c = let both = omega (
-  arith,
-  (each_fits c.requires.1
-      (sym c.in-Each.is ∙ c.step.ensures)).0,
-  (each_fits c.requires.1
-      (sym c.in-Each.is ∙ c.step.ensures)).2,
-  c.requires.1.order,
-  c.requires.1.high,
-) in record { fact_1 = both.0; fact_2 = both.1; }
-
-pub enum_known-refusal-in-Refused-prepare : goal.enum_known-refusal-in-Refused-prepare
-enum_known-refusal-in-Refused-prepare t c = c.in-Refused-prepare.in-Refused-prepare-own.keys1
-
-pub enum_known-inner : goal.enum_known-inner
-enum_known-inner t c = c.in-Scope.in-Scope-own.keys2
+prepare-requires t c = record {
+  fact_1 = omega (
+    arith,
+    (each_fits c.requires
+        (sym c.in-Each.is ∙ c.step.ensures)).0,
+    c.requires.order,
+    c.requires.high,
+  );
+  fact_2 = omega (
+    arith,
+    (each_fits c.requires
+        (sym c.in-Each.is ∙ c.step.ensures)).2,
+    c.requires.order,
+    c.requires.high,
+  );
+}
 
 pub overflow_add-element : goal.overflow_add-element
 overflow_add-element t c = omega (
   arith,
-  element-fits c.requires.1
+  element-fits c.requires
       (sym c.in-Each.is ∙ c.step.ensures)
       (prepares-at _ _ _ _ c.in-Scope.is c.prepare.ensures)
       c.prepare.auto.env,
 )
 
 pub bounds-env-inner : goal.bounds-env-inner
-bounds-env-inner t c = element-fits c.requires.1
+bounds-env-inner t c = element-fits c.requires
     (sym c.in-Each.is ∙ c.step.ensures)
     (prepares-at _ _ _ _ c.in-Scope.is c.prepare.ensures)
     c.prepare.auto.env
@@ -186,21 +108,21 @@ bounds-env-inner t c = element-fits c.requires.1
 pub overflow_add-listed : goal.overflow_add-listed
 overflow_add-listed t c = omega (
   arith,
-  (each_fits c.requires.1
+  (each_fits c.requires
       (sym c.in-Each.is ∙ c.step.ensures)).0,
 )
 
 pub overflow_add-k-in-Scope : goal.overflow_add-k-in-Scope
 overflow_add-k-in-Scope t c = omega (
   arith,
-  (each_fits c.requires.1
+  (each_fits c.requires
       (sym c.in-Each.is ∙ c.step.ensures)).0,
 )
 
 pub overflow_sub-levels-in-Scope : goal.overflow_sub-levels-in-Scope
 overflow_sub-levels-in-Scope t c = omega (
   arith,
-  (each_fits c.requires.1
+  (each_fits c.requires
       (sym c.in-Each.is ∙ c.step.ensures)).1,
 )
 
@@ -208,43 +130,44 @@ pub walk-body-requires : goal.walk-body-requires
 walk-body-requires t c = (
   omega (
     arith,
-    (each_fits c.requires.1
+    (each_fits c.requires
         (sym c.in-Each.is ∙ c.step.ensures)).1,
-    c.requires.0,
+    c.decreases,
   ),
-  each-body c.requires.1
+  each-body c.requires
       (sym c.in-Each.is ∙ c.step.ensures)
       (prepares-at _ _ _ _ c.in-Scope.is c.prepare.ensures)
       c.prepare.auto.env
-      c.requires.1,
+      c.requires,
 )
 
 pub close-requires : goal.close-requires
-close-requires t c = record { fact_1 = inner-few c.requires.1 c.walk-body.ensures; fact_2 = (each_fits c.requires.1
-      (sym c.in-Each.is ∙ c.step.ensures)).3; }
-
-pub enum_known-g : goal.enum_known-g
-enum_known-g t c = c.in-Guard.in-Guard-own.keys5
+close-requires t c = record {
+  fact_1 = inner-few c.requires c.walk-body.ensures;
+  fact_2 = (each_fits c.requires
+      (sym c.in-Each.is ∙ c.step.ensures)).3;
+}
 
 pub prepare_guard-requires : goal.prepare_guard-requires
-prepare_guard-requires t c = let both = omega (
-  arith,
-  (guard-fits c.requires.1
-      (sym c.in-Guard.is ∙ c.step.ensures)).0,
-  (guard-fits c.requires.1
-      (sym c.in-Guard.is ∙ c.step.ensures)).2,
-  c.requires.1.order,
-  c.requires.1.high,
-) in record { fact_1 = both.0; fact_2 = both.1; }
-
-pub enum_known-refusal-in-Refused-prepare_guard : goal.enum_known-refusal-in-Refused-prepare_guard
-enum_known-refusal-in-Refused-prepare_guard t c = c.in-Refused-prepare_guard.in-Refused-prepare_guard-own.keys1
-
-pub enum_known-inner-in-Scope-prepare_guard : goal.enum_known-inner-in-Scope-prepare_guard
-enum_known-inner-in-Scope-prepare_guard t c = c.in-Scope-prepare_guard.in-Scope-prepare_guard-own.keys2
+prepare_guard-requires t c = record {
+  fact_1 = omega (
+    arith,
+    (guard-fits c.requires
+        (sym c.in-Guard.is ∙ c.step.ensures)).0,
+    c.requires.order,
+    c.requires.high,
+  );
+  fact_2 = omega (
+    arith,
+    (guard-fits c.requires
+        (sym c.in-Guard.is ∙ c.step.ensures)).2,
+    c.requires.order,
+    c.requires.high,
+  );
+}
 
 pub listed_size-size-requires : goal.listed_size-size-requires
-listed_size-size-requires t c = size-asked c.requires.1
+listed_size-size-requires t c = size-asked c.requires
     (sym c.in-Guard.is ∙ c.step.ensures)
     (prepares-at _ _ _ _ c.in-Scope-prepare_guard.is c.prepare_guard.ensures)
     c.prepare_guard.auto.env
@@ -252,21 +175,21 @@ listed_size-size-requires t c = size-asked c.requires.1
 pub overflow_add-listed-in-Scope-prepare_guard : goal.overflow_add-listed-in-Scope-prepare_guard
 overflow_add-listed-in-Scope-prepare_guard t c = omega (
   arith,
-  (guard-fits c.requires.1 (sym
+  (guard-fits c.requires (sym
       c.in-Guard.is ∙ c.step.ensures)).0,
 )
 
 pub overflow_add-k-in-Scope-prepare_guard : goal.overflow_add-k-in-Scope-prepare_guard
 overflow_add-k-in-Scope-prepare_guard t c = omega (
   arith,
-  (guard-fits c.requires.1 (sym
+  (guard-fits c.requires (sym
       c.in-Guard.is ∙ c.step.ensures)).0,
 )
 
 pub overflow_sub-levels-in-Scope-prepare_guard : goal.overflow_sub-levels-in-Scope-prepare_guard
 overflow_sub-levels-in-Scope-prepare_guard t c = omega (
   arith,
-  (guard-fits c.requires.1 (sym
+  (guard-fits c.requires (sym
       c.in-Guard.is ∙ c.step.ensures)).1,
 )
 
@@ -274,37 +197,37 @@ pub walk-body-requires-in-Scope-prepare_guard : goal.walk-body-requires-in-Scope
 walk-body-requires-in-Scope-prepare_guard t c = (
   omega (
     arith,
-    (guard-fits c.requires.1
+    (guard-fits c.requires
         (sym c.in-Guard.is ∙ c.step.ensures)).1,
-    c.requires.0,
+    c.decreases,
   ),
-  guard-body c.requires.1
+  guard-body c.requires
       (sym c.in-Guard.is ∙ c.step.ensures)
       (prepares-at _ _ _ _ c.in-Scope-prepare_guard.is c.prepare_guard.ensures)
       c.prepare_guard.auto.env
-      c.requires.1,
+      c.requires,
 )
 
 pub close_guard-requires : goal.close_guard-requires
-close_guard-requires t c = record { fact_1 = inner-few c.requires.1 c.walk-body-in-Scope-prepare_guard.ensures; fact_2 = c.listed_size-size.ensures.1; }
+close_guard-requires t c = record { fact_1 = inner-few c.requires c.walk-body-in-Scope-prepare_guard.ensures; fact_2 = c.listed_size-size.ensures.1 }
 
 pub shape_of-env-in-Refused : goal.shape_of-env-in-Refused
 shape_of-env-in-Refused t c = refl
 
 pub returns-in-Refused : goal.returns-in-Refused
-returns-in-Refused t c = leaf-refused c.requires.1 _ (sym c.in-Refused.is ∙ c.step.ensures)
+returns-in-Refused t c = leaf-refused c.requires _ (sym c.in-Refused.is ∙ c.step.ensures)
 
 pub shape_of-env-in-Found : goal.shape_of-env-in-Found
 shape_of-env-in-Found t c = refl
 
 pub returns-in-Found : goal.returns-in-Found
-returns-in-Found t c = leaf-found c.requires.1 _ _ (sym c.in-Found.is ∙ c.step.ensures) (omega arith)
+returns-in-Found t c = leaf-found c.requires _ _ (sym c.in-Found.is ∙ c.step.ensures) (omega arith)
 
 pub shape_of-env-in-Refused-walk : goal.shape_of-env-in-Refused-walk
 shape_of-env-in-Refused-walk t c = c.walk.auto.env
 
 pub returns-in-Refused-walk : goal.returns-in-Refused-walk
-returns-in-Refused-walk t c = let-refused c.requires.1
+returns-in-Refused-walk t c = let-refused c.requires
     (sym c.in-Let.is ∙ c.step.ensures)
     _
     (judges-at c.in-Refused-walk.is c.walk.ensures)
@@ -315,19 +238,19 @@ shape_of-env-in-Found-walk t c = c.walk-second.auto.env
 
 pub returns-in-Found-walk : goal.returns-in-Found-walk
 returns-in-Found-walk t c = judges-at (sym c.bound.ensures)
-    (let-judges c.requires.1
+    (let-judges c.requires
     (sym c.in-Let.is ∙ c.step.ensures)
     (judges-at c.in-Found-walk.is c.walk.ensures)
     c.push-inner.ensures
     (c.push-inner.auto.env ∙ c.walk.auto.env)
-    (omega (arith, c.known_told-in-Found-walk-1.given))
+    (omega arith)
     c.walk-second.ensures)
 
 pub shape_of-env-in-Refused-prepare : goal.shape_of-env-in-Refused-prepare
 shape_of-env-in-Refused-prepare t c = c.prepare.auto.env
 
 pub returns-in-Refused-prepare : goal.returns-in-Refused-prepare
-returns-in-Refused-prepare t c = each-refused c.requires.1
+returns-in-Refused-prepare t c = each-refused c.requires
     (sym c.in-Each.is ∙ c.step.ensures)
     _
     (prepares-at _ _ _ _ c.in-Refused-prepare.is c.prepare.ensures)
@@ -337,7 +260,7 @@ shape_of-env-in-Scope t c = c.walk-body.auto.env ∙ c.prepare.auto.env
 
 pub returns-in-Scope : goal.returns-in-Scope
 returns-in-Scope t c = judges-at (sym c.close.ensures)
-    (each-judges c.requires.1
+    (each-judges c.requires
     (sym c.in-Each.is ∙ c.step.ensures)
     (prepares-at _ _ _ _ c.in-Scope.is c.prepare.ensures)
     c.prepare.auto.env
@@ -349,7 +272,7 @@ pub shape_of-env-in-Refused-prepare_guard : goal.shape_of-env-in-Refused-prepare
 shape_of-env-in-Refused-prepare_guard t c = c.prepare_guard.auto.env
 
 pub returns-in-Refused-prepare_guard : goal.returns-in-Refused-prepare_guard
-returns-in-Refused-prepare_guard t c = guard-refused c.requires.1
+returns-in-Refused-prepare_guard t c = guard-refused c.requires
     (sym c.in-Guard.is ∙ c.step.ensures)
     _
     (prepares-at _ _ _ _ c.in-Refused-prepare_guard.is c.prepare_guard.ensures)
@@ -359,7 +282,7 @@ shape_of-env-in-Scope-prepare_guard t c = c.walk-body-in-Scope-prepare_guard.aut
 
 pub returns-in-Scope-prepare_guard : goal.returns-in-Scope-prepare_guard
 returns-in-Scope-prepare_guard t c = judges-at (sym c.close_guard.ensures)
-    (guard-judges c.requires.1
+    (guard-judges c.requires
     (sym c.in-Guard.is ∙ c.step.ensures)
     (prepares-at _ _ _ _ c.in-Scope-prepare_guard.is c.prepare_guard.ensures)
     c.prepare_guard.auto.env

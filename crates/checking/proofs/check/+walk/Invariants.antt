@@ -2,4 +2,4 @@
 use Rattle.checking.proofs.check.+walk.Given as goal
 
 abbrev pub decreases-walk : goal.decreases-walk
-decreases-walk l = a.1.1.0
+decreases-walk l = l.levels

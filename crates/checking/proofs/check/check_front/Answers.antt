@@ -8,7 +8,7 @@ pub slice_bounds-enter-end : goal.slice_bounds-enter-end
 slice_bounds-enter-end c = refl
 
 pub enter-requires : goal.enter-requires
-enter-requires c = record { fact_1 = declared-here c.args.bytes.now c.args.formula c.requires; fact_2 = omega (arith, few-inputs c.args.bytes.now c.args.formula c.requires); }
+enter-requires c = record { fact_1 = declared-here c.args.bytes.now c.args.formula c.requires; fact_2 = omega (arith, few-inputs c.args.bytes.now c.args.formula c.requires) }
 
 pub enum_known-refusal : goal.enum_known-refusal
 enum_known-refusal c = c.in-Refused.in-Refused-own.keys1

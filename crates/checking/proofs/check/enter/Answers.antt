@@ -1,5 +1,4 @@
 -- Each turn enters one input, unless its name is there already.
-use Prim.Native.Nat.{◌-◌}
 use mathlib.Core.Path.{refl, sym, ◌∙◌}
 use native.Mathlib.Omega.{arith}
 use Rattle.checking.proofs.Entering.{start, fits, shallow-at, turn_at, repeated-at, done}

@@ -1,5 +1,5 @@
 -- Each turn counts the binding of one pair.
-use Prim.Native.Nat.{◌+◌, ◌-◌}
+use Prim.Native.Nat.{◌+◌}
 use native.Mathlib.Omega.{arith}
 use Rattle.checking.proofs.Sizes.{start, turn, done}
 use Rattle.checking.proofs.check.listed_size.Goals as goal

@@ -1,6 +1,6 @@
 -- Turn by turn one input more is loaded, or the room is passed.
-use Prim.Native.Nat.{◌+◌, ◌-◌}
-use mathlib.Core.Path.{refl, ap, subst, ◌∙◌}
+use Prim.Native.Nat.{◌+◌}
+use mathlib.Core.Path.{refl, subst, ◌∙◌}
 use native.Mathlib.Omega.{arith}
 use Rattle.inputs.proofs.Supplying.{inputs-few}
 use Rattle.inputs.proofs.AllLoaded.{given-of, loading-start, bounds, step-at, After, loaded-all, loaded-full}
@@ -74,15 +74,15 @@ loop-i-smaller c = omega (arith, c.loop-i-test.true)
 
 pub loop-i-preserved : goal.loop-i-preserved
 loop-i-preserved c = (
-      c.load_input.auto.env ∙ c.loop-i.invariant.0,
-      c.load_input.auto.buf ∙ c.loop-i.invariant.1,
-      c.load_input.auto.state ∙ c.loop-i.invariant.2,
-      λ given.
-          let loading = c.loop-i.invariant.3 given in
-          let step = step-at given c.args.env.now c.args.buf.now (loading) c.declared-input.ensures c.text_end-next.result c.text_end-next.ensures c.loop-i-test.true in
-          subst (λ r. After given c.args.env.now c.args.buf.now (c.loop-i.i + 1) c.text_end-next.result c.load_input.new.env c.load_input.new.buf c.load_input.new.state r) c.in-At.is
-          (step.on c.load_input.result (c.load_input.ensures step.first) c.load_input.auto.env c.load_input.auto.buf),
-    )
+  c.load_input.auto.env ∙ c.loop-i.invariant.0,
+  c.load_input.auto.buf ∙ c.loop-i.invariant.1,
+  c.load_input.auto.state ∙ c.loop-i.invariant.2,
+  λ given.
+      let loading = c.loop-i.invariant.3 given in
+      let step = step-at given c.args.env.now c.args.buf.now (loading) c.declared-input.ensures c.text_end-next.result c.text_end-next.ensures c.loop-i-test.true in
+      subst (λ r. After given c.args.env.now c.args.buf.now (c.loop-i.i + 1) c.text_end-next.result c.load_input.new.env c.load_input.new.buf c.load_input.new.state r) c.in-At.is
+      (step.on c.load_input.result (c.load_input.ensures step.first) c.load_input.auto.env c.load_input.auto.buf),
+)
 
 pub shape_of-env : goal.shape_of-env
 shape_of-env c = c.loop-i.invariant.0

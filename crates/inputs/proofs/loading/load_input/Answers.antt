@@ -30,12 +30,12 @@ overflow_add-room c = omega (arith, room_small c.requires c.in-Of.n (sym c.in-Of
 
 pub push_places-top-requires : goal.push_places-top-requires
 push_places-top-requires c = let total = sym c.in-Of.is ∙ c.add_up.ensures in (
-      omega (arith, lengths-long c.requires, c.requires.shallow, c.requires.low),
-      c.requires.stands.within,
-      omega (arith, lengths-long c.requires, id-small c.requires c.in-Of.n total, c.requires.shallow),
-      omega (arith, (added c.requires c.in-Of.n total).0),
-      omega (arith, room_small c.requires c.in-Of.n total),
-    )
+  omega (arith, lengths-long c.requires, c.requires.shallow, c.requires.low),
+  c.requires.stands.within,
+  omega (arith, lengths-long c.requires, id-small c.requires c.in-Of.n total, c.requires.shallow),
+  omega (arith, (added c.requires c.in-Of.n total).0),
+  omega (arith, room_small c.requires c.in-Of.n total),
+)
 
 pub overflow_sub-top : goal.overflow_sub-top
 overflow_sub-top c = let total = sym c.in-Of.is ∙ c.add_up.ensures in

@@ -3,7 +3,7 @@ use Prim.Native.Nat.{ℕ, ◌-◌}
 use mathlib.Core.List.{List}
 use mathlib.Core.Path.{sym, subst}
 use native.Mathlib.Omega.{arith}
-use lib.ListN.{length, get_or}
+use lib.ListN.{get_or}
 use Rattle.inputs.proofs.Rows.{Pushing, pushing-start, pushing-on, pushing-end, pushing-fits, pushing-room, pushing-high}
 use Rattle.inputs.proofs.places.push_places.Goals as goal
 

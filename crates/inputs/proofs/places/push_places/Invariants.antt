@@ -1,6 +1,4 @@
 -- The words are put from the last stream down: those of the streams from i on stand from `top` on.
-use Prim.Native.Nat.{◌-◌}
-use lib.ListN.{length}
 use Rattle.inputs.proofs.Rows.{Pushing}
 use Rattle.inputs.proofs.places.push_places.Given as goal
 

@@ -1,13 +1,11 @@
 -- Turn by turn, what is left to tell of all inputs is told of those that follow.
 use Prim.Native.Nat.{◌*◌, ◌-◌}
-use mathlib.Core.Logic.{⊎_elim}
+use mathlib.Core.Logic.{inl, inr}
 use mathlib.Core.Path.{refl, ap, sym, ◌∙◌}
 use native.Mathlib.Omega.{arith}
 use borrow.Rule.Slice.PartMut.{same_len_mid}
-use denote.Enum.Declared.{tag_of}
-use lib.ListN.{length, take, drop, length-take, length-drop}
+use lib.ListN.{length, drop, length-take, length-drop}
 use Rattle.formula.specs.declared.inputs.Declaration.{Declaration}
-use Rattle.valuetext.specs.contracts.storing.Measured.{the_type}
 use Rattle.inputs.proofs.Supplying.{inputs-supplied, inputs-few}
 use Rattle.inputs.proofs.Checking.{tells, counts-back, text_from, bounds, told-bad, told-on, told-all}
 use Rattle.inputs.proofs.texts.measure_texts.Goals as goal
@@ -66,7 +64,7 @@ pub returns-in-No : goal.returns-in-No
 returns-in-No c = let none = sym c.in-No.is ∙ c.measure_text.ensures.value in
     let back = counts-back c.declared-input.result.base c.declared-input.result.depth (text_from c.args.job.now c.loop-i.k c.text_end-next.result) c.loop-i.counts c.loop-i.i c.measure_text.ensures.counts_after in
     let base = ap (λ (r : Declaration). r.base) c.declared-input.ensures in
-    let depth = ap (λ (r : Declaration). r.depth) c.declared-input.ensures in record { value = λ g. (told-bad (c.loop-i.invariant.1 g.inputs g.spans (inputs-supplied g)) c.loop-i-test.true c.text_end-next.result c.text_end-next.ensures base depth back none).0; counts_after = λ g. (told-bad (c.loop-i.invariant.1 g.inputs g.spans (inputs-supplied g)) c.loop-i-test.true c.text_end-next.result c.text_end-next.ensures base depth back none).1; }
+    let depth = ap (λ (r : Declaration). r.depth) c.declared-input.ensures in record { value = λ g. (told-bad (c.loop-i.invariant.1 g.inputs g.spans (inputs-supplied g)) c.loop-i-test.true c.text_end-next.result c.text_end-next.ensures base depth back none).0; counts_after = λ g. (told-bad (c.loop-i.invariant.1 g.inputs g.spans (inputs-supplied g)) c.loop-i-test.true c.text_end-next.result c.text_end-next.ensures base depth back none).1 }
 
 pub overflow_add-i : goal.overflow_add-i
 overflow_add-i c = omega (arith, c.loop-i-test.true)
@@ -81,11 +79,11 @@ loop-i-preserved c = let back = counts-back c.declared-input.result.base c.decla
     let long = same_len_mid (9 * c.loop-i.i) (length c.loop-i.counts - 9 * c.loop-i.i) c.loop-i.counts c.measure_text.new.counts c.measure_text.auto.counts in (
       long ∙ c.loop-i.invariant.0,
       λ is ss s. told-on (c.loop-i.invariant.1 is ss s) c.loop-i-test.true c.text_end-next.result c.text_end-next.ensures base depth back
-          c.measure_text.result c.measure_text.ensures.value (λ e. ⊎_elim (λ a. omega (arith, a, ap (tag_of the_type) e)) (λ a. omega (arith, a, ap (tag_of the_type) e)) c.in-Elements.in-Elements-own.keys2) long,
+          c.measure_text.result c.measure_text.ensures.value (λ e. elim c.in-Elements.is [ inl w ↦ cc (w.1) | inr w ↦ cc ]) long,
     )
 
 pub shape_of-counts : goal.shape_of-counts
 shape_of-counts c = c.loop-i.invariant.0
 
 pub returns : goal.returns
-returns c = record { value = λ g. (told-all (c.loop-i.invariant.1 g.inputs g.spans (inputs-supplied g)) (omega (arith, c.loop-i-test.false))).0; counts_after = λ g. (told-all (c.loop-i.invariant.1 g.inputs g.spans (inputs-supplied g)) (omega (arith, c.loop-i-test.false))).1; }
+returns c = record { value = λ g. (told-all (c.loop-i.invariant.1 g.inputs g.spans (inputs-supplied g)) (omega (arith, c.loop-i-test.false))).0; counts_after = λ g. (told-all (c.loop-i.invariant.1 g.inputs g.spans (inputs-supplied g)) (omega (arith, c.loop-i-test.false))).1 }
