@@ -92,6 +92,19 @@ class Term:
             self.alias.add(found.group(1))
             text = text[: found.start()] + text[found.end():]
 
+    def steps(self, text):
+        """Writes a step where `let NAME = c.before..STEP in` names it, and takes that let out."""
+        while True:
+            m = re.search(rf"\blet ({NAME}) = (({NAME})(?:\.before)*\.({NAME})) in\s*", text)
+            at = 0
+            while m and (m.group(3) not in self.alias or m.group(4) == "before"):
+                at = m.end()
+                m = re.compile(rf"\blet ({NAME}) = (({NAME})(?:\.before)*\.({NAME})) in\s*").search(text, at)
+            if not m:
+                return text
+            text = text[: m.start()] + text[m.end():]
+            text = re.sub(rf"(?<![\w'.-]){re.escape(m.group(1))}(?![\w'-])", lambda _: m.group(2), text)
+
     def path(self, m):
         root, rest = m.group(1), m.group(2).split(".")[1:]
         if root not in self.alias:
@@ -109,7 +122,7 @@ class Term:
         if s == "requires":
             if self.cycle and r and r[0] in "01":  # the pair of what the measure says and what is required
                 if r[0] == "0":
-                    self.note(f"the measure's fact: {m.group(0)}")
+                    return "c." + ".".join(["decreases"] + r[1:])
                 r = r[1:]
             if self.pre and r and r[0].isdigit() and int(r[0]) < len(self.pre):
                 r = [self.pre[int(r[0])]] + r[1:]
@@ -148,14 +161,14 @@ class Term:
             clause = w.data["clauses"][q]
             if clause and clause["fields"] and int(r[1]) < len(clause["fields"]):
                 r = ["ensures", clause["fields"][int(r[1])]] + r[2:]
-        if r and r[0] in ("auto", "new"):
+        if r and r[0] in ("auto", "new", "kept"):
             n, k = 0, 1
             while k < len(r) and r[k] == "1":
                 n, k = n + 1, k + 1
             params = w.data["params"].get(w.callee[q] or "", [])
-            if k < len(r) and r[k] == "0" and n < len(params):
-                r = [r[0], params[n]] + r[k + 1:]
-            elif r[0] in ("auto", "new"):
+            if k < len(r) and r[k] == "0" and n < len(params):  # an older name of `auto` was `kept`
+                r = ["auto" if r[0] == "kept" else r[0], params[n]] + r[k + 1:]
+            else:
                 self.note(f"{'.'.join(r)} of {s}")
         if r and r[0] == "type-inv":
             r[0] = "type_inv"
@@ -164,7 +177,7 @@ class Term:
         return "c." + ".".join([step] + r)
 
     def turn(self, text):
-        return PATH.sub(self.path, self.lets(text))
+        return PATH.sub(self.path, self.steps(self.lets(text)))
 
 
 def tail(text):
@@ -253,7 +266,8 @@ def turn(crate, folder, names, notes):
             alias_of[m.group(2)] = m.group(1) or ""
     kept = [u for u in uses if not DROPPED.search(u)]
     needs, measures, invariants, helpers = {}, [], [], []
-    for b in blocks("\n".join(lines)):
+    for whole in blocks("\n".join(lines)):
+        b = re.sub(r"\A(--[^\n]*\n)*", "", whole)
         sig = re.match(rf"({NAME}) :\s+(?:\(t : ℕ\) →\s+)?({NAME})\.Need-({NAME})", b)
         if sig and sig.group(2) in alias_of:
             needs[(alias_of[sig.group(2)], norm(sig.group(3)))] = (sig.group(1), b)
@@ -267,7 +281,7 @@ def turn(crate, folder, names, notes):
             if "μ" in b.split("\n")[0]:
                 measures.append(b)
             continue
-        helpers.append(b)
+        helpers.append(whole)
     out_inv, out_ans, used_inv = [], [], False
     # measures of recursion
     for b in measures:
@@ -347,7 +361,7 @@ def turn(crate, folder, names, notes):
                 body = as_record(body, fields)
             bind = [x for x in binders if x != "κs"]
             # in a cycle of several functions each goal has its function's name before it
-            out_ans.append((sfx[1:] + "-" + new if sfx else new, middle, " ".join(bind), body))
+            out_ans.append((sfx[1:] + "-" + new if len(walks) > 1 else new, middle, " ".join(bind), body))
     for (sfx, old), (name, b) in needs.items():
         notes.append(f"{crate} {folder}: the goal {old} ({name}) is not there now")
     # files

@@ -1,7 +1,7 @@
 -- Each listed variable packed, one after another, with its entry on the stack.
-use Prim.Native.Nat.{ℕ, zero, suc, ◌+◌, ◌*◌, ◌-◌, ◌≤◌, ◌<◌}
+use Prim.Native.Nat.{ℕ, zero, suc, ◌+◌, ◌-◌, ◌≤◌, ◌<◌}
 use mathlib.Core.List.{List, [], ◌∷◌, ◌++◌}
-use mathlib.Core.Logic.{◌⊎◌, inl, inr}
+use mathlib.Core.Logic.{inr}
 use mathlib.Core.Option.{Option, some, none}
 use mathlib.Core.Path.{◌≡◌, refl, sym, ◌∙◌, ap, subst}
 use native.Mathlib.Numerals.{add-one, sub-one}
@@ -9,33 +9,32 @@ use native.Mathlib.Omega.{arith}
 use lib.IntN.{ℤ}
 use lib.ListN.{length, drop, length-append, length-drop}
 use Rattle.laws.proofs.Never.{never}
-use Rattle.laws.specs.Parts.{part, written}
+use Rattle.laws.specs.Parts.{written}
 use Rattle.snesl.specs.declared.code.Kind.TheVariants.{Bools}
 use Rattle.snesl.specs.declared.code.Variable.{Variable}
 use Rattle.snesl.specs.declared.refusal.Refusal.{Refusal}
 use Rattle.snesl.specs.Values.{ValueType, depth_of}
-use Rattle.snesl.specs.Terms.{◌∋◌, All, ◌▹◌, Listing, listed_types, lookup}
+use Rattle.snesl.specs.Terms.{◌∋◌, All, listed_types, lookup}
 use Rattle.snesl.specs.Trees.{IdTree, map_tree}
-use Rattle.snesl.specs.Streams.{Store, ◌!◌}
-use Rattle.snesl.specs.Programs.{Program, done, count}
+use Rattle.snesl.specs.Streams.{Store}
+use Rattle.snesl.specs.Programs.{Program, done}
 use Rattle.snesl.specs.Machine.{State, Result, went, stopped, onward}
 use Rattle.snesl.specs.Outcome.{refusal_of}
 use Rattle.snesl.specs.Records.{variable_at, variables_at}
 use Rattle.snesl.specs.Checking.{Name, Found, missing, found, find, NamedListing, any_first, listed_any, any_pointers, any_names}
 use Rattle.snesl.specs.Translation.{pack_size, packs_size, pack_tree, pack_trees, pack_code, pack_codes}
 use Rattle.snesl.proofs.Compiled.Packing.{count-pack}
-use Rattle.environment.specs.Words.{tree_words, tree_size, spelled}
+use Rattle.environment.specs.Words.{tree_words, spelled}
 use Rattle.environment.specs.Needs.{binding_size, listed_size}
 use Rattle.environment.proofs.Stack.{drop-above, drop-written, written_then_lem}
 use Rattle.environment.proofs.Finding.{length-tree}
-use Rattle.sink.specs.Sinks.{Sink, feed}
+use Rattle.sink.specs.Sinks.{feed}
 use Rattle.sink.specs.Sunk.{Sunk}
 use Rattle.steps.specs.Walking.{walked}
-use Rattle.steps.specs.Holding.{Held, keeps, place, PlacedAt, Stopping}
+use Rattle.steps.specs.Holding.{place, PlacedAt}
 use Rattle.steps.proofs.Stores.{nothing_written}
 use Rattle.steps.proofs.Walking.{walked-done, walked_seq, Grown, walked-grown}
 use Rattle.leaves.specs.Places.{places, Shapely, Shaped, shaped-none, shaped-more}
-use Rattle.leaves.specs.Scenes.{Scene}
 use Rattle.leaves.proofs.Places.{tree-kept, shapely-kept}
 use Rattle.leaves.proofs.Growing.{keeps_then, onward-as}
 use Rattle.bodies.proofs.Feeding.{like-fed, fed_then}

@@ -1,36 +1,33 @@
 -- The packing of a scalar: one instruction.
-use Prim.Native.Nat.{ℕ, suc, ◌+◌, ◌≤◌}
-use mathlib.Core.List.{List, [], ◌∷◌, ◌++◌}
-use mathlib.Core.Path.{◌≡◌, refl, sym, ◌∙◌, ap, ap₂, subst}
+use Prim.Native.Nat.{ℕ}
+use mathlib.Core.List.{List}
+use mathlib.Core.Path.{◌≡◌, sym, ◌∙◌, ap, ap₂, subst}
 use native.Mathlib.Omega.{arith}
 use lib.IntN.{ℤ}
 use lib.ListN.{length, get_or, drop}
 use Rattle.laws.proofs.Never.{never}
-use Rattle.laws.specs.Parts.{part, written}
 use Rattle.snesl.specs.declared.code.Base.{Base}
 use Rattle.snesl.specs.declared.code.Transducer.{Transducer}
 use Rattle.snesl.specs.declared.code.Transducer.TheVariants.{Pack}
 use Rattle.snesl.specs.declared.refusal.Refusal.{Refusal}
 use Rattle.snesl.specs.Trees.{Tree, leaf, root, map_tree}
-use Rattle.snesl.specs.Streams.{Stream, kind_of, data_kind, base_in, ◌!◌}
-use Rattle.snesl.specs.Programs.{define, done}
-use Rattle.snesl.specs.Machine.{State, Result, went, stopped}
+use Rattle.snesl.specs.Streams.{kind_of, data_kind, base_in, ◌!◌}
+use Rattle.snesl.specs.Machine.{State, went, stopped}
 use Rattle.snesl.specs.Translation.{id, pack_size, pack_tree, pack_code}
-use Rattle.environment.specs.Words.{place_words, tree_words}
+use Rattle.environment.specs.Words.{tree_words}
 use Rattle.sink.specs.Sinks.{Sink, feed}
 use Rattle.steps.specs.Walking.{stepped, walked}
-use Rattle.steps.specs.Holding.{place, PlacedAt, Stopping}
+use Rattle.steps.specs.Holding.{PlacedAt, Stopping}
 use Rattle.steps.specs.declared.Executed.{Executed}
 use Rattle.steps.specs.declared.Executed.TheVariants.{Made, Stopped}
 use Rattle.steps.proofs.Stores.{newest}
 use Rattle.steps.proofs.Walking.{walked_one}
 use Rattle.leaves.proofs.Operands.{named-there}
-use Rattle.guards.specs.Packs.{Puts, Placed, Kinds, kinds-leaf, Packs, pack_answer, Leaves, Ends}
+use Rattle.guards.specs.Packs.{Puts, Placed, kinds-leaf, Packs, pack_answer, Leaves, Ends}
 use Rattle.guards.specs.declared.Packing.{Packing}
-use Rattle.guards.specs.declared.Packed.{Packed}
 use Rattle.guards.specs.declared.Packed.TheVariants as packed
 use Rattle.guards.proofs.Growth.{data-solid, base-is, kinds-root}
-use Rattle.guards.proofs.Putting.{Stored, stored, halts}
+use Rattle.guards.proofs.Putting.{stored, halts}
 
 -- how a packing that went through, or stopped, answers
 module _ {p : Packing} {d : ℕ} {t : Tree ℕ d} {b : ℕ} {c : Base} {m : State} {k : Sink} {n : ℕ} {env env' : List ℕ} {buf buf' : List ℤ} {state' text' : List ℕ} where

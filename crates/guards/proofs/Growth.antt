@@ -1,8 +1,8 @@
 -- A tree's streams while the store grows, and a place on the stack while words are written beside it.
-use Prim.Native.Nat.{ℕ, suc, ◌+◌, ◌<◌}
+use Prim.Native.Nat.{ℕ, suc, ◌<◌}
 use mathlib.Core.List.{List, [], ◌∷◌, ◌++◌}
 use mathlib.Core.Option.{some}
-use mathlib.Core.Logic.{◌⊎◌, ⊎_elim}
+use mathlib.Core.Logic.{⊎_elim}
 use mathlib.Core.Path.{◌≡◌, refl, sym, ◌∙◌, ap, ap₂, subst}
 use lib.ListN.{length, length-map}
 use Rattle.laws.proofs.Never.{never}
@@ -10,12 +10,11 @@ use Rattle.laws.specs.Parts.{part}
 use Rattle.snesl.specs.declared.code.Base.{Base}
 use Rattle.snesl.specs.declared.code.Base.TheVariants as base
 use Rattle.snesl.specs.declared.code.Kind.{Kind}
-use Rattle.snesl.specs.declared.code.Kind.TheVariants.{Ints, Bools, Flags, Units}
+use Rattle.snesl.specs.declared.code.Kind.TheVariants.{Flags, Units}
 use Rattle.snesl.specs.Trees.{Tree, leaf, node, root, inner, outer, order, map_tree}
 use Rattle.snesl.specs.Streams.{Stream, ints, bools, flags, units, bit, kind_of, len, elements, data_kind, base_in, Store, ◌!◌}
 use Rattle.snesl.specs.Ids.{Below}
-use Rattle.snesl.proofs.Compiled.Members.{◌∈◌}
-use Rattle.environment.specs.Words.{place_words, tree_words}
+use Rattle.environment.specs.Words.{place_words}
 use Rattle.steps.specs.Holding.{place, PlacedAt}
 use Rattle.steps.proofs.Stores.{named, kept}
 use Rattle.leaves.proofs.Places.{place_kept}

@@ -1,20 +1,18 @@
 -- A tree's packing, from that of its outermost level, the survey of its items, and their packing.
-use Prim.Native.Nat.{ℕ, zero, suc, ◌+◌, ◌*◌, ◌-◌, ◌≤◌, ◌<◌}
-use mathlib.Core.List.{List, [], ◌∷◌, ◌++◌}
+use Prim.Native.Nat.{ℕ, ◌+◌, ◌-◌, ◌≤◌}
+use mathlib.Core.List.{List, ◌++◌}
 use mathlib.Core.Logic.{◌⊎◌, inl, inr, ⊎_elim}
-use mathlib.Core.Option.{some}
 use mathlib.Core.Path.{◌≡◌, refl, sym, ◌∙◌, ap, subst}
 use native.Mathlib.Omega.{arith}
 use lib.IntN.{ℤ}
-use lib.ListN.{length, get_or, drop}
+use lib.ListN.{length, drop}
 use Rattle.laws.proofs.Never.{never}
 use Rattle.laws.specs.Parts.{part, written}
 use Rattle.snesl.specs.declared.code.Base.{Base}
 use Rattle.snesl.specs.declared.code.Instruction.TheVariants.{Close}
-use Rattle.snesl.specs.declared.code.Kind.TheVariants.{Bools}
 use Rattle.snesl.specs.declared.refusal.Refusal.{Refusal}
 use Rattle.snesl.specs.Trees.{Tree, leaf, node, order, map_tree}
-use Rattle.snesl.specs.Streams.{Store, ◌!◌}
+use Rattle.snesl.specs.Streams.{◌!◌}
 use Rattle.snesl.specs.Programs.{dv, fv, among, ascending}
 use Rattle.snesl.specs.Machine.{State, Result, went, stopped}
 use Rattle.snesl.specs.Outcome.{refusal_of}
@@ -22,10 +20,10 @@ use Rattle.snesl.specs.Translation.{pack_tree, pack_code}
 use Rattle.environment.specs.Words.{place_words, tree_words, tree_size}
 use Rattle.environment.proofs.Stack.{drop-above}
 use Rattle.environment.proofs.Finding.{length-tree}
-use Rattle.sink.specs.Sinks.{Sink, feed, closed, told}
+use Rattle.sink.specs.Sinks.{Sink, told}
 use Rattle.sink.specs.Sunk.{Sunk, Tells}
 use Rattle.steps.specs.Walking.{walked}
-use Rattle.steps.specs.Holding.{keeps, place, PlacedAt, Stopping}
+use Rattle.steps.specs.Holding.{place}
 use Rattle.steps.specs.declared.Executed.{Executed}
 use Rattle.steps.specs.declared.Executed.TheVariants.{Made, Stopped}
 use Rattle.steps.proofs.Stores.{kept}

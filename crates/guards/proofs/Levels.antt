@@ -1,7 +1,7 @@
 -- One level of a tree: its flags packed, the bools spread over its items, and these counted; then what is left is the packing of the items.
-use Prim.Native.Nat.{ℕ, suc, ◌+◌, ◌*◌, ◌-◌, ◌≤◌, ◌<◌}
+use Prim.Native.Nat.{ℕ, suc, ◌+◌, ◌*◌, ◌-◌, ◌≤◌}
 use mathlib.Core.List.{List, [], ◌∷◌, ◌++◌, append_assoc}
-use mathlib.Core.Logic.{◌⊎◌, inl, inr, ⊎_elim}
+use mathlib.Core.Logic.{inl, inr, ⊎_elim}
 use mathlib.Core.Option.{some}
 use mathlib.Core.Path.{◌≡◌, refl, sym, ◌∙◌, ap, ap₂, subst}
 use native.Mathlib.Omega.{arith}
@@ -11,23 +11,20 @@ use Rattle.laws.proofs.Never.{never}
 use Rattle.laws.specs.Parts.{part, written}
 use Rattle.snesl.specs.declared.code.Base.{Base}
 use Rattle.snesl.specs.declared.code.Base.TheVariants as base
-use Rattle.snesl.specs.declared.code.Kind.TheVariants.{Bools, Flags, Units}
-use Rattle.snesl.specs.declared.code.Transducer.{Transducer}
+use Rattle.snesl.specs.declared.code.Kind.TheVariants.{Bools, Flags}
 use Rattle.snesl.specs.declared.code.Transducer.TheVariants.{UPack, Distr, Usum}
 use Rattle.snesl.specs.declared.refusal.Refusal.{Refusal}
 use Rattle.snesl.specs.Trees.{Tree, node, inner, outer, order, map_tree}
 use Rattle.snesl.specs.Streams.{Stream, units, kind_of, len, data_kind, base_in, Store, ◌!◌}
-use Rattle.snesl.specs.Programs.{Program, done, define, with_ctrl, count, dv, fv, among, ascending}
-use Rattle.snesl.specs.Machine.{State, Result, went, stopped, onward}
+use Rattle.snesl.specs.Programs.{Program, done, define, dv, fv, among, ascending}
+use Rattle.snesl.specs.Machine.{State, onward}
 use Rattle.snesl.specs.Translation.{id, pack_size, pack_tree, pack_code, controlled}
-use Rattle.environment.specs.Words.{Place, place_words, tree_words, tree_size}
+use Rattle.environment.specs.Words.{place_words, tree_words, tree_size}
 use Rattle.environment.proofs.Stack.{part-front, part-back, drop-written, length-written, at-written}
 use Rattle.environment.proofs.Finding.{length-tree}
 use Rattle.sink.specs.Sinks.{Sink, defined, opened, closed, feed}
-use Rattle.sink.specs.Sunk.{Sunk}
 use Rattle.steps.specs.Walking.{stepped, walked}
 use Rattle.steps.specs.Holding.{Held, keeps, place, PlacedAt, Stopping}
-use Rattle.steps.specs.declared.Operands.{Operands}
 use Rattle.steps.specs.declared.Executed.{Executed}
 use Rattle.steps.specs.declared.Executed.TheVariants.{Made, Stopped}
 use Rattle.steps.proofs.Stores.{kept, newest}

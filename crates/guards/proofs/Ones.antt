@@ -1,10 +1,9 @@
 -- One listed variable packed, with its entry on the stack.
-use Prim.Native.Nat.{ℕ, suc, ◌+◌, ◌*◌, ◌-◌, ◌≤◌, ◌<◌}
-use mathlib.Core.Bool.{Bool}
-use mathlib.Core.List.{List, [], ◌∷◌, ◌++◌}
-use mathlib.Core.Logic.{◌⊎◌, inl, inr}
+use Prim.Native.Nat.{ℕ, ◌+◌, ◌*◌, ◌≤◌}
+use mathlib.Core.List.{List, [], ◌∷◌}
+use mathlib.Core.Logic.{inl, inr}
 use mathlib.Core.Option.{some}
-use mathlib.Core.Path.{◌≡◌, refl, sym, ◌∙◌, ap, subst}
+use mathlib.Core.Path.{◌≡◌, refl, sym, ◌∙◌, ap}
 use native.Mathlib.Omega.{arith}
 use lib.IntN.{ℤ}
 use lib.ListN.{length, get_or, drop}
@@ -12,35 +11,31 @@ use Rattle.laws.proofs.Never.{never}
 use Rattle.laws.specs.Parts.{part, written}
 use Rattle.snesl.specs.declared.code.Base.{Base}
 use Rattle.snesl.specs.declared.code.Base.TheVariants as base
-use Rattle.snesl.specs.declared.code.Kind.TheVariants.{Bools, Flags}
 use Rattle.snesl.specs.declared.code.Variable.{Variable}
 use Rattle.snesl.specs.declared.refusal.Refusal.{Refusal}
 use Rattle.snesl.specs.Values.{ValueType, scalar, braces, depth_of, base_of, Element}
 use Rattle.snesl.specs.Terms.{lookup}
-use Rattle.snesl.specs.Trees.{Tree, IdTree, map_tree}
-use Rattle.snesl.specs.Streams.{Stream, ints, bools, flags, units, kind_of, data_of, data_kind, Store, ◌!◌}
+use Rattle.snesl.specs.Trees.{IdTree, map_tree}
+use Rattle.snesl.specs.Streams.{Stream, ints, bools, flags, units, kind_of, data_of, data_kind, Store}
 use Rattle.snesl.specs.Machine.{State, Result, went, stopped}
 use Rattle.snesl.specs.Outcome.{refusal_of}
-use Rattle.snesl.specs.Translation.{pack_size, pack_tree, pack_code}
+use Rattle.snesl.specs.Translation.{pack_tree, pack_code}
 use Rattle.environment.specs.Words.{tree_words, tree_size, Sought, Entry}
 use Rattle.environment.specs.Needs.{binding_size}
 use Rattle.environment.proofs.Stack.{length-written, written_then_lem}
 use Rattle.environment.proofs.Finding.{length-tree}
-use Rattle.sink.specs.Sinks.{Sink}
 use Rattle.steps.specs.Walking.{walked}
-use Rattle.steps.specs.Holding.{place, PlacedAt, Stopping}
+use Rattle.steps.specs.Holding.{place}
 use Rattle.steps.proofs.Stepping.{flags_of}
 use Rattle.leaves.specs.Places.{places, Shapely, shapely-leaf, shapely-node}
-use Rattle.leaves.specs.Scenes.{Scene}
 use Rattle.leaves.proofs.Places.{data-kind, lookup-places, lookup-shapely, lookup-shallow}
 use Rattle.leaves.proofs.Operands.{sought}
 use Rattle.guards.specs.Packs.{Kinds, kinds-leaf, kinds-node, Packs, pack_answer, Leaves, Ends}
-use Rattle.guards.specs.Lists.{Guarded, Chosen, one_answer, Entered, Enters}
+use Rattle.guards.specs.Lists.{Chosen, one_answer, Enters}
 use Rattle.guards.specs.declared.Packing.{Packing}
 use Rattle.guards.specs.declared.Packed.{Packed}
 use Rattle.guards.specs.declared.Packed.TheVariants as packed
 use Rattle.guards.specs.declared.Guarding.{Guarding}
-use Rattle.guards.specs.declared.Bound.{Bound}
 use Rattle.guards.specs.declared.Bound.TheVariants as bound
 use Rattle.guards.proofs.Words.{beside-written}
 

@@ -1,7 +1,7 @@
 -- One instruction whose output's place is put on the stack.
 use Prim.Native.Nat.{ℕ, ◌+◌, ◌-◌, ◌≤◌, ◌<◌}
 use mathlib.Core.List.{List, [], ◌∷◌, ◌++◌}
-use mathlib.Core.Path.{◌≡◌, refl, sym, ◌∙◌, ap, subst}
+use mathlib.Core.Path.{◌≡◌, refl, sym, ◌∙◌, ap}
 use native.Mathlib.Omega.{arith}
 use lib.IntN.{ℤ}
 use lib.ListN.{length, get_or}
@@ -21,7 +21,7 @@ use Rattle.steps.specs.Holding.{Held, keeps, place, Stopping}
 use Rattle.steps.specs.declared.Operands.{Operands}
 use Rattle.steps.specs.declared.Executed.{Executed}
 use Rattle.steps.specs.declared.Executed.TheVariants.{Made, Stopped}
-use Rattle.steps.proofs.Stepping.{Added, added}
+use Rattle.steps.proofs.Stepping.{added}
 use Rattle.leaves.specs.Making.{Instructed}
 use Rattle.leaves.proofs.Making.{Making, making, stopping}
 use Rattle.leaves.proofs.Singles.{pushable, pushed-words}

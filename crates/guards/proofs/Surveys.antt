@@ -1,9 +1,8 @@
 -- The survey of a packing before its WithCtrl's line: under no units nothing is executed, so the machine is as it was once the next id is.
-use Prim.Native.Nat.{ℕ, zero, suc, ◌+◌, ◌*◌, ◌-◌, ◌≤◌, ◌<◌}
+use Prim.Native.Nat.{ℕ, suc, ◌+◌, ◌-◌, ◌≤◌, ◌<◌}
 use mathlib.Core.List.Memᴰ
 use mathlib.Core.List.{List, [], ◌∷◌, ◌++◌, append-nil}
-use mathlib.Core.Logic.{◌⊎◌, ⊎_elim}
-use mathlib.Core.Option.{some}
+use mathlib.Core.Logic.{⊎_elim}
 use mathlib.Core.Path.{◌≡◌, refl, sym, ◌∙◌, ap, subst}
 use native.Mathlib.Omega.{arith}
 use lib.IntN.{ℤ}
@@ -20,7 +19,7 @@ use Rattle.snesl.specs.Trees.{Tree, leaf, node, order, map_tree}
 use Rattle.snesl.specs.Streams.{Store, bare, elements, contents, room}
 use Rattle.snesl.specs.Transducers.{signature, carried, empty}
 use Rattle.snesl.specs.Programs.{Program, done, define, with_ctrl, count, dv, fv, among, ascending}
-use Rattle.snesl.specs.Machine.{State, went, stopped, skipped, skip}
+use Rattle.snesl.specs.Machine.{State, went, skipped, skip}
 use Rattle.snesl.specs.Ids.{Below}
 use Rattle.snesl.specs.Translation.{pack_tree, pack_code}
 use Rattle.environment.specs.Words.{tree_words, tree_size}
@@ -28,13 +27,12 @@ use Rattle.environment.proofs.Stack.{part-drop, drop-above, at-written}
 use Rattle.environment.proofs.Finding.{length-tree}
 use Rattle.sink.specs.Sinks.{Mode, running, listing, surveying, Sink, opened, feed, surveyed}
 use Rattle.sink.specs.Sunk.{mode_word, Sunk, Tells, Opening, opening, Opens}
-use Rattle.sink.specs.Trees.{Placing}
 use Rattle.sink.proofs.Feeding.{opened-by}
 use Rattle.sink.proofs.Tidy.{Surveyable}
 use Rattle.sink.proofs.Packs.{pack-surveyable}
 use Rattle.sink.proofs.Surveying.{surveyed-mode, surveyed-own, opening_of}
 use Rattle.steps.specs.Walking.{walked}
-use Rattle.steps.specs.Holding.{place, counters, Held, keeps}
+use Rattle.steps.specs.Holding.{place, counters, Held}
 use Rattle.steps.proofs.Stores.{contents-append, named}
 use Rattle.steps.proofs.Walking.{walked-grown}
 use Rattle.steps.proofs.Executing.{next-id}

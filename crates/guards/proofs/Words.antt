@@ -2,14 +2,14 @@
 use Prim.Native.Nat.{ℕ, zero, suc, ◌+◌, ◌-◌, ◌≤◌}
 use mathlib.Core.List.{List, [], ◌∷◌, ◌++◌, append_assoc}
 use mathlib.Core.Logic.{◌⊎◌, inl, inr}
-use mathlib.Core.Path.{◌≡◌, refl, sym, ◌∙◌, ap, ap₂}
+use mathlib.Core.Path.{◌≡◌, sym, ◌∙◌, ap, ap₂}
 use native.Mathlib.Nat.{zero-add, suc-add}
 use native.Mathlib.Omega.{arith}
 use lib.ListN.{length, take, drop, length-append, length-drop}
 use lib.Seq.{drop-append-le, drop-drop, take-nil, take-take, length-take-le}
 use Rattle.laws.specs.Parts.{part, written}
 use Rattle.laws.proofs.Parts.{same-part}
-use Rattle.environment.proofs.Stack.{drop-above, part-drop, below-written, above-written, from-written, length-written}
+use Rattle.environment.proofs.Stack.{drop-above, part-drop, below-written, above-written, from-written}
 
 module _ {A : Type 0} where
   take-drop : (at n : ℕ) (l : List A) → drop at (take (at + n) l) ≡ take n (drop at l)

@@ -9,7 +9,7 @@ use Rattle.snesl.specs.Limits.{most_depth}
 use Rattle.snesl.specs.Trees.{Tree, leaf, node, order, map_tree}
 use Rattle.snesl.specs.Streams.{Stream, kind_of, len, data_kind, Store, ◌!◌}
 use Rattle.snesl.specs.Transducers.{signature}
-use Rattle.snesl.specs.Programs.{Program, dv, fv, among, ascending}
+use Rattle.snesl.specs.Programs.{dv, fv, among, ascending}
 use Rattle.snesl.specs.Machine.{State, Stop, Result, went, stopped}
 use Rattle.snesl.specs.Outcome.{refusal_of}
 use Rattle.snesl.specs.Translation.{pack_size, pack_tree, pack_code}

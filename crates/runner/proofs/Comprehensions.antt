@@ -22,7 +22,6 @@ use Rattle.snesl.specs.Checking.{listed_names, pointers}
 use Rattle.snesl.specs.Translation.{numbered, tree, code}
 use Rattle.environment.specs.Words.{place_words, tree_words, tree_size}
 use Rattle.steps.specs.Walking.{walked}
-use Rattle.environment.specs.Needs.{words}
 use Rattle.environment.proofs.Stack.{drop-above, rest-is}
 use Rattle.sink.specs.Sinks.{Sink, opened, closed, feed, told}
 use Rattle.sink.specs.Sunk.{Sunk, Tells}
@@ -33,11 +32,11 @@ use Rattle.steps.proofs.Stores.{kept}
 use Rattle.steps.proofs.Walking.{Grown, walked-grown}
 use Rattle.steps.proofs.Performing.{stopping-as}
 use Rattle.steps.proofs.Executing.{next-id, four-words}
-use Rattle.leaves.specs.Places.{Shapely, shapely-node, Shallow, shallow-more}
+use Rattle.leaves.specs.Places.{shapely-node, Shallow, shallow-more}
 use Rattle.leaves.specs.Scenes.{most_taken, Wide, Scene, Ran, Runs}
 use Rattle.runner.specs.declared.Body.{Body}
-use Rattle.runner.specs.Walks.{Ready, Over, opened_by, Opened, Entire, Comprehends}
-use Rattle.bodies.specs.Bodies.{Each, inner_trees, opens, Inside, Enters}
+use Rattle.runner.specs.Walks.{Ready, opened_by, Opened, Entire, Comprehends}
+use Rattle.bodies.specs.Bodies.{Each, inner_trees, Inside, Enters}
 use Rattle.leaves.specs.declared.Walked.{Walked}
 use Rattle.leaves.specs.declared.Walked.TheVariants as Walked-as
 use Rattle.bodies.specs.declared.Entered.{Entered}

@@ -1,5 +1,5 @@
 -- The walk's arms: for each route of a record, what its arm needs follows from what the walk was given, and what the arm answers is the walk's answer.
-use Prim.Native.Nat.{ℕ, suc, ◌+◌, ◌-◌, ◌≤◌, ◌<◌}
+use Prim.Native.Nat.{ℕ, ◌+◌, ◌-◌, ◌≤◌}
 use mathlib.Core.Bool.{Bool}
 use mathlib.Core.List.{List, ◌∷◌, ◌++◌}
 use mathlib.Core.Logic.{◌⊎◌, inl, inr}
@@ -14,7 +14,7 @@ use Rattle.snesl.specs.Limits.{most_depth, most_listed}
 use Rattle.snesl.specs.declared.code.Base.{Base}
 use Rattle.snesl.specs.declared.code.Base.TheVariants as base
 use Rattle.snesl.specs.declared.code.Operation.{Operation}
-use Rattle.snesl.specs.Values.{ValueType, scalar, int, depth_of, result_of}
+use Rattle.snesl.specs.Values.{ValueType, scalar, depth_of}
 use Rattle.snesl.specs.Terms as terms
 use Rattle.snesl.specs.Terms.{Term, any_type, listed_types, ◌▹◌, lookup}
 use Rattle.snesl.specs.declared.code.Transducer.{Transducer}
@@ -22,7 +22,7 @@ use Rattle.snesl.specs.declared.code.Transducer.TheVariants as transducer
 use Rattle.snesl.specs.Trees.{leaf, root, inner, outer}
 use Rattle.snesl.specs.Programs.{define, done}
 use Rattle.snesl.specs.Records.{byte_at, variable_at, variables_at, eaching, head_at}
-use Rattle.snesl.specs.Checking.{find, listed_names, pointers}
+use Rattle.snesl.specs.Checking.{listed_names, pointers}
 use Rattle.snesl.specs.Translation.{id, code, tree}
 use Rattle.snesl.specs.Formed.{Formed}
 use Rattle.snesl.proofs.Views.{by-var, by-const, by-truth, by-iota, by-operation, by-negation, by-sum, by-bind, by-each, not-absent, not-over}

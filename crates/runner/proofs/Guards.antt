@@ -1,5 +1,5 @@
 -- A guard: what stands at its record, and its body, which is then walked as any other comprehension's (proofs/Comprehensions.antt).
-use Prim.Native.Nat.{ℕ, suc, ◌+◌, ◌*◌, ◌-◌, ◌≤◌, ◌<◌}
+use Prim.Native.Nat.{ℕ, ◌+◌, ◌*◌, ◌-◌, ◌≤◌}
 use mathlib.Core.List.{List, [], ◌∷◌, ◌++◌}
 use mathlib.Core.Path.{◌≡◌, refl, sym, ◌∙◌, ap, subst}
 use native.Mathlib.Omega.{arith}
@@ -19,7 +19,7 @@ use Rattle.snesl.specs.Ids.{ids_of}
 use Rattle.snesl.specs.Records as records
 use Rattle.snesl.specs.Records.{byte_at, variable_at, variables_at, guarding, head_at}
 use Rattle.snesl.specs.Checking.{any_names, any_pointers}
-use Rattle.snesl.specs.Translation.{pack_size, packs_size, pack_tree, pack_trees, tree, code}
+use Rattle.snesl.specs.Translation.{pack_size, pack_tree, pack_trees, tree, code}
 use Rattle.snesl.specs.Formed.{Formed}
 use Rattle.snesl.proofs.Views.{by-guard}
 use Rattle.environment.specs.Words.{place_words}
@@ -45,7 +45,7 @@ use Rattle.bodies.proofs.Differences.{up-again}
 use Rattle.runner.specs.declared.Body.{Body}
 use Rattle.runner.specs.declared.Route.TheVariants as route
 use Rattle.runner.specs.Walks.{routed, Ready, Entire, Comprehends}
-use Rattle.guards.specs.Entering.{Guard, whole_code, inner_trees, opens_guard, GuardInside, GuardEnters}
+use Rattle.guards.specs.Entering.{Guard, inner_trees, GuardInside, GuardEnters}
 use Rattle.runner.proofs.Reading.{found-bool}
 use Rattle.runner.proofs.Measures.{length-any, any-shallow, packs-most}
 use Rattle.runner.proofs.Comprehensions.{order-long, Encloses, enclosed-runs}

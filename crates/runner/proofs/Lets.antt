@@ -16,14 +16,13 @@ use Rattle.snesl.specs.Programs.{count}
 use Rattle.snesl.specs.Machine.{onward}
 use Rattle.snesl.specs.Records.{byte_at, variable_at}
 use Rattle.snesl.specs.Formed.{Formed}
-use Rattle.snesl.specs.Translation.{size, within, tree, code}
+use Rattle.snesl.specs.Translation.{size, tree, code}
 use Rattle.environment.specs.Words.{tree_words, tree_size, spelled}
 use Rattle.environment.specs.Needs.{words}
 use Rattle.environment.proofs.Stack.{drop-written, length-written}
 use Rattle.environment.proofs.Entries.{bound}
 use Rattle.steps.specs.Walking.{walked}
 use Rattle.steps.specs.Holding.{place, most_streams}
-use Rattle.steps.proofs.Stores.{kept}
 use Rattle.steps.proofs.Walking.{walked_seq, Grown, walked-grown}
 use Rattle.steps.proofs.Performing.{stopping-as}
 use Rattle.sink.specs.Sinks.{feed}

@@ -1,5 +1,5 @@
 -- A result's words, just below where its expression was walked, moved up to just below where they are wanted.
-use Prim.Native.Nat.{ℕ, ◌+◌, ◌-◌, ◌≤◌}
+use Prim.Native.Nat.{ℕ, ◌-◌, ◌≤◌}
 use mathlib.Core.List.{List, ◌++◌}
 use mathlib.Core.Path.{◌≡◌, sym, ◌∙◌, ap}
 use native.Mathlib.Omega.{arith}

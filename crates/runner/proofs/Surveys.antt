@@ -1,24 +1,21 @@
 -- The survey of a body before its WithCtrl's line: under no units nothing is executed, so the machine is as it was once the next id is.
-use Prim.Native.Nat.{ℕ, zero, suc, ◌+◌, ◌*◌, ◌-◌, ◌≤◌, ◌<◌}
-use mathlib.Core.Bool.{Bool}
+use Prim.Native.Nat.{ℕ, ◌+◌, ◌*◌, ◌-◌, ◌≤◌, ◌<◌}
 use mathlib.Core.List.Memᴰ
 use mathlib.Core.List.{List, [], ◌∷◌, ◌++◌, append-nil, Memᴰ}
-use mathlib.Core.Logic.{◌⊎◌, inl, inr, ⊎_elim}
-use mathlib.Core.Option.{some}
+use mathlib.Core.Logic.{⊎_elim}
 use mathlib.Core.Path.{◌≡◌, refl, sym, ◌∙◌, ap, subst}
 use native.Mathlib.Omega.{arith}
 use lib.IntN.{ℤ}
 use lib.ListN.{length, get_or, take, drop, length-append}
 use lib.Seq.{get_or-drop}
 use Rattle.laws.proofs.Never.{never}
-use Rattle.laws.specs.Parts.{part}
 use Rattle.snesl.specs.declared.code.Kind.{Kind}
 use Rattle.snesl.specs.declared.code.Kind.TheVariants.{Ints, Bools, Flags, Units}
 use Rattle.snesl.specs.declared.refusal.Refusal.{Refusal}
 use Rattle.snesl.specs.Values.{ValueType, depth_of}
-use Rattle.snesl.specs.Terms.{All, ∅, ◌▹◌}
+use Rattle.snesl.specs.Terms.{All}
 use Rattle.snesl.specs.Trees.{IdTree, order, map_tree}
-use Rattle.snesl.specs.Streams.{Store, ◌!◌, data_of, flags, bare, elements, contents, room}
+use Rattle.snesl.specs.Streams.{Store, data_of, flags, bare, elements, contents, room}
 use Rattle.snesl.specs.Transducers.{signature, carried, empty}
 use Rattle.snesl.specs.Programs.{Program, done, define, with_ctrl, dv, fv, among, ascending}
 use Rattle.snesl.specs.Machine.{State, went, stopped, skipped, skip}
@@ -34,12 +31,12 @@ use Rattle.sink.proofs.Feeding.{opened-by}
 use Rattle.sink.specs.Trees.{Placing}
 use Rattle.sink.proofs.Surveying.{survey-mode, survey-own, opening-is}
 use Rattle.steps.specs.Walking.{walked}
-use Rattle.steps.specs.Holding.{place, counters, Held, keeps}
+use Rattle.steps.specs.Holding.{place, counters, Held}
 use Rattle.steps.proofs.Stores.{contents-append, named}
-use Rattle.steps.proofs.Walking.{Grown, walked-grown}
-use Rattle.steps.proofs.Executing.{next-id, four-words}
+use Rattle.steps.proofs.Walking.{walked-grown}
+use Rattle.steps.proofs.Executing.{next-id}
 use Rattle.leaves.specs.Places.{Shapely, shapely-leaf, shapely-node, Shaped, shaped-none, shaped-more}
-use Rattle.leaves.specs.Scenes.{Scene, Runs}
+use Rattle.leaves.specs.Scenes.{Runs}
 use Rattle.leaves.specs.declared.Walked.{Walked}
 use Rattle.leaves.specs.declared.Walked.TheVariants as Walked-as
 use Rattle.leaves.proofs.Making.{held-told}

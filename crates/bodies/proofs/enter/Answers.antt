@@ -145,10 +145,24 @@ pub shape_of-env-in-Bound : goal.shape_of-env-in-Bound
 shape_of-env-in-Bound c = c.bind_items.auto.env ∙ (c.distribute.auto.env ∙ c.move_words.auto.env)
 
 pub returns-in-Bound : goal.returns-in-Bound
-returns-in-Bound c = λ g. enters-inside g (c.find-p.ensures (sought g.scene g.pointer g.finds)) c.move_words.ensures _ (c.make.ensures _ _ (usum-ready g (c.find-p.ensures (sought g.scene g.pointer g.finds)) c.move_words.ensures _)) c.in-Made.is c.make.auto.buf (c.distribute.ensures (distributing g (c.find-p.ensures (sought g.scene g.pointer g.finds)) c.move_words.ensures _ (c.make.ensures _ _ (usum-ready g (c.find-p.ensures (sought g.scene g.pointer g.finds)) c.move_words.ensures _)) c.in-Made.is c.make.auto.buf)) c.in-Bound.is c.distribute.auto.env c.bind_items.ensures.0 c.bind_items.ensures.1
+returns-in-Bound c = λ g. enters-inside g
+    (c.find-p.ensures (sought g.scene g.pointer g.finds)) c.move_words.ensures _
+    (c.make.ensures _ _ (usum-ready g
+    (c.find-p.ensures (sought g.scene g.pointer g.finds)) c.move_words.ensures _)) c.in-Made.is c.make.auto.buf
+    (c.distribute.ensures (distributing g
+    (c.find-p.ensures (sought g.scene g.pointer g.finds)) c.move_words.ensures _
+    (c.make.ensures _ _ (usum-ready g
+    (c.find-p.ensures (sought g.scene g.pointer g.finds)) c.move_words.ensures _)) c.in-Made.is c.make.auto.buf)) c.in-Bound.is c.distribute.auto.env c.bind_items.ensures.0 c.bind_items.ensures.1
 
 pub returns-in-Stopped-distribute : goal.returns-in-Stopped-distribute
-returns-in-Stopped-distribute c = λ g. distr-stopped g (c.find-p.ensures (sought g.scene g.pointer g.finds)) c.move_words.ensures _ (c.make.ensures _ _ (usum-ready g (c.find-p.ensures (sought g.scene g.pointer g.finds)) c.move_words.ensures _)) c.in-Made.is c.make.auto.buf (c.distribute.ensures (distributing g (c.find-p.ensures (sought g.scene g.pointer g.finds)) c.move_words.ensures _ (c.make.ensures _ _ (usum-ready g (c.find-p.ensures (sought g.scene g.pointer g.finds)) c.move_words.ensures _)) c.in-Made.is c.make.auto.buf)) c.in-Stopped-distribute.is
+returns-in-Stopped-distribute c = λ g. distr-stopped g
+    (c.find-p.ensures (sought g.scene g.pointer g.finds)) c.move_words.ensures _
+    (c.make.ensures _ _ (usum-ready g
+    (c.find-p.ensures (sought g.scene g.pointer g.finds)) c.move_words.ensures _)) c.in-Made.is c.make.auto.buf
+    (c.distribute.ensures (distributing g
+    (c.find-p.ensures (sought g.scene g.pointer g.finds)) c.move_words.ensures _
+    (c.make.ensures _ _ (usum-ready g
+    (c.find-p.ensures (sought g.scene g.pointer g.finds)) c.move_words.ensures _)) c.in-Made.is c.make.auto.buf)) c.in-Stopped-distribute.is
 
 pub returns-in-Stopped : goal.returns-in-Stopped
 returns-in-Stopped c = λ g. usum-stopped g (c.find-p.ensures (sought g.scene g.pointer g.finds)) c.move_words.ensures _ (c.make.ensures _ _ (usum-ready g (c.find-p.ensures (sought g.scene g.pointer g.finds)) c.move_words.ensures _)) c.in-Stopped.is

@@ -1,5 +1,4 @@
 -- Two instructions (proofs/Asking.antt).
-use Prim.Native.Nat.{◌-◌}
 use native.Mathlib.Omega.{arith}
 use Rattle.guards.proofs.Asking.{flags-ready, flags-stopped, units-ready, answers}
 use Rattle.guards.proofs.count_true.Goals as goal

@@ -71,7 +71,10 @@ pub shape_of-text-in-Made-put : goal.shape_of-text-in-Made-put
 shape_of-text-in-Made-put c = c.make.auto.text ∙ (c.put-in-Made.auto.text ∙ c.put.auto.text)
 
 pub returns-in-Made-put : goal.returns-in-Made-put
-returns-in-Made-put c = λ d t f b e m k g. level-ends g _ (c.put.ensures _ _ (first-ready g)) c.in-Made.is c.put.auto.buf (c.put-in-Made.ensures _ _ (second-ready g _ (c.put.ensures _ _ (first-ready g)) c.in-Made.is)) c.in-Made-put.is (c.put-in-Made.auto.buf ∙ c.put.auto.buf) (c.make.ensures _ _ (third-ready g _ (c.put.ensures _ _ (first-ready g)) c.in-Made.is c.put.auto.buf (c.put-in-Made.ensures _ _ (second-ready g _ (c.put.ensures _ _ (first-ready g)) c.in-Made.is)) c.in-Made-put.is))
+returns-in-Made-put c = λ d t f b e m k g. level-ends g _ (c.put.ensures _ _ (first-ready g)) c.in-Made.is c.put.auto.buf
+    (c.put-in-Made.ensures _ _ (second-ready g _ (c.put.ensures _ _ (first-ready g)) c.in-Made.is)) c.in-Made-put.is (c.put-in-Made.auto.buf ∙ c.put.auto.buf)
+    (c.make.ensures _ _ (third-ready g _ (c.put.ensures _ _ (first-ready g)) c.in-Made.is c.put.auto.buf
+    (c.put-in-Made.ensures _ _ (second-ready g _ (c.put.ensures _ _ (first-ready g)) c.in-Made.is)) c.in-Made-put.is))
 
 pub shape_of-env-in-Stopped-put : goal.shape_of-env-in-Stopped-put
 shape_of-env-in-Stopped-put c = c.put-in-Made.auto.env ∙ c.put.auto.env

@@ -48,7 +48,10 @@ pub make-requires-in-Made-fill : goal.make-requires-in-Made-fill
 make-requires-in-Made-fill c = (
   _,
   _,
-  scan-ready c.args.n c.requires.3 (flags-id c.args.n c.requires.3) (c.make.ensures _ _ (units-ready c.args.n c.requires.3 _ (flags-id c.args.n c.requires.3))) c.make.auto.buf c.in-Made.is (c.fill.ensures _ _ (fill-ready c.args.n c.requires.3 (flags-id c.args.n c.requires.3) (c.make.ensures _ _ (units-ready c.args.n c.requires.3 _ (flags-id c.args.n c.requires.3))) c.make.auto.buf c.in-Made.is)) c.in-Made-fill.is (flags-id c.args.n c.requires.3) (ap (λ i. i + 2) (flags-id c.args.n c.requires.3)),
+  scan-ready c.args.n c.requires.3 (flags-id c.args.n c.requires.3)
+      (c.make.ensures _ _ (units-ready c.args.n c.requires.3 _ (flags-id c.args.n c.requires.3))) c.make.auto.buf c.in-Made.is
+      (c.fill.ensures _ _ (fill-ready c.args.n c.requires.3 (flags-id c.args.n c.requires.3)
+      (c.make.ensures _ _ (units-ready c.args.n c.requires.3 _ (flags-id c.args.n c.requires.3))) c.make.auto.buf c.in-Made.is)) c.in-Made-fill.is (flags-id c.args.n c.requires.3) (ap (λ i. i + 2) (flags-id c.args.n c.requires.3)),
 )
 
 pub returns-in-Made-fill : goal.returns-in-Made-fill

@@ -54,23 +54,30 @@ overflow_sub-sp c = omega (
 )
 
 pub push-requires-in-Made-count_up : goal.push-requires-in-Made-count_up
-push-requires-in-Made-count_up c = let q = iota-push c.requires (c.find-p.ensures (sought c.requires.scene c.requires.pointer c.requires.finds)) _ (c.make.ensures _ _ (flags-ready c.requires (c.find-p.ensures (sought c.requires.scene c.requires.pointer c.requires.finds)) _)) c.in-Made.is c.push.ensures c.make.auto.buf (c.count_up.ensures _ _ _ (flagged c.requires (c.find-p.ensures (sought c.requires.scene c.requires.pointer c.requires.finds)) _ (c.make.ensures _ _ (flags-ready c.requires (c.find-p.ensures (sought c.requires.scene c.requires.pointer c.requires.finds)) _)) c.in-Made.is c.push.ensures)) c.in-Made-count_up.is in (
-  omega (
-    arith,
-    c.requires.low,
-  ),
-  omega (
-    arith,
-    c.count_up.auto.env,
-    c.push.auto.env,
-    c.requires.scene.within,
-  ),
-  q.0,
-  q.1,
-  q.2,
-  q.3,
-  q.4,
-)
+push-requires-in-Made-count_up c = let q = iota-push c.requires
+    (c.find-p.ensures (sought c.requires.scene c.requires.pointer c.requires.finds)) _
+    (c.make.ensures _ _ (flags-ready c.requires
+    (c.find-p.ensures (sought c.requires.scene c.requires.pointer c.requires.finds)) _)) c.in-Made.is c.push.ensures c.make.auto.buf
+    (c.count_up.ensures _ _ _ (flagged c.requires
+    (c.find-p.ensures (sought c.requires.scene c.requires.pointer c.requires.finds)) _
+    (c.make.ensures _ _ (flags-ready c.requires
+    (c.find-p.ensures (sought c.requires.scene c.requires.pointer c.requires.finds)) _)) c.in-Made.is c.push.ensures)) c.in-Made-count_up.is in (
+      omega (
+        arith,
+        c.requires.low,
+      ),
+      omega (
+        arith,
+        c.count_up.auto.env,
+        c.push.auto.env,
+        c.requires.scene.within,
+      ),
+      q.0,
+      q.1,
+      q.2,
+      q.3,
+      q.4,
+    )
 
 pub returns-in-Made-count_up : goal.returns-in-Made-count_up
 returns-in-Made-count_up c = λ g. iota-runs g (c.find-p.ensures (sought g.scene g.pointer g.finds)) _ (c.make.ensures _ _ (flags-ready g (c.find-p.ensures (sought g.scene g.pointer g.finds)) _)) c.in-Made.is c.push.ensures c.make.auto.buf (c.count_up.ensures _
@@ -78,7 +85,14 @@ returns-in-Made-count_up c = λ g. iota-runs g (c.find-p.ensures (sought g.scene
     _ (c.make.ensures _ _ (flags-ready g (c.find-p.ensures (sought g.scene g.pointer g.finds)) _)) c.in-Made.is c.push.ensures)) c.in-Made-count_up.is _ c.count_up.auto.env c.push-in-Made-count_up.ensures
 
 pub returns-in-Stopped-count_up : goal.returns-in-Stopped-count_up
-returns-in-Stopped-count_up c = λ g. count-stopped g (c.find-p.ensures (sought g.scene g.pointer g.finds)) _ (c.make.ensures _ _ (flags-ready g (c.find-p.ensures (sought g.scene g.pointer g.finds)) _)) c.in-Made.is c.push.ensures c.make.auto.buf (c.count_up.ensures _ _ _ (flagged g (c.find-p.ensures (sought g.scene g.pointer g.finds)) _ (c.make.ensures _ _ (flags-ready g (c.find-p.ensures (sought g.scene g.pointer g.finds)) _)) c.in-Made.is c.push.ensures)) _ c.in-Stopped-count_up.is
+returns-in-Stopped-count_up c = λ g. count-stopped g
+    (c.find-p.ensures (sought g.scene g.pointer g.finds)) _
+    (c.make.ensures _ _ (flags-ready g
+    (c.find-p.ensures (sought g.scene g.pointer g.finds)) _)) c.in-Made.is c.push.ensures c.make.auto.buf
+    (c.count_up.ensures _ _ _ (flagged g
+    (c.find-p.ensures (sought g.scene g.pointer g.finds)) _
+    (c.make.ensures _ _ (flags-ready g
+    (c.find-p.ensures (sought g.scene g.pointer g.finds)) _)) c.in-Made.is c.push.ensures)) _ c.in-Stopped-count_up.is
 
 pub returns-in-Stopped : goal.returns-in-Stopped
 returns-in-Stopped c = λ g. flags-stopped g (c.find-p.ensures (sought g.scene g.pointer g.finds)) _ (c.make.ensures _ _ (flags-ready g (c.find-p.ensures (sought g.scene g.pointer g.finds)) _)) _ c.in-Stopped.is

@@ -6,6 +6,7 @@ use mir.Facts.{to_z-of_z}
 use Rattle.leaves.specs.declared.Form.TheVariants as form
 use Rattle.runner.specs.declared.Route.TheVariants as route
 use Rattle.runner.specs.Walks.{routed}
+use Rattle.std.proofs.Common.{rules, w32}
 use Rattle.runner.proofs.route_at.Goals as goal
 
 pub overflow_add-result : goal.overflow_add-result
@@ -34,6 +35,9 @@ returns-in-Var c = ap (routed c.args.k) (sym c.in-Var.is ∙ c.head_at.ensures)
 
 pub returns-in-Let : goal.returns-in-Let
 returns-in-Let c = ap (routed c.args.k) (sym c.in-Let.is ∙ c.head_at.ensures)
+
+pub returns-in-Const : goal.returns-in-Const
+returns-in-Const c = ap (λ u. route.Single (form.Const u) (c.args.k + 6)) (to_z-of_z {w = w32} (search rules)) ∙ ap (routed c.args.k) (sym c.in-Const.is ∙ c.head_at.ensures)
 
 pub returns-in-Truth : goal.returns-in-Truth
 returns-in-Truth c = ap (routed c.args.k) (sym c.in-Truth.is ∙ c.head_at.ensures)

@@ -4,40 +4,26 @@ use native.Mathlib.Omega.{arith}
 use Rattle.lister.proofs.Listing.{widened}
 use Rattle.lister.proofs.list.+lend_largest.Goals as goal
 
-pub +lend-largest-spec : {M : Type 1} → statement M
-+lend-largest-spec = close μ-lend-largest λ t. lend-largest-lts.spec (lend-largest-callees t)
-    (lend-largest-at t)
-    lend-largest.Post
-    (lend-largest-slice-aggregate-list-found t)
-    (lend-largest-list-found-requires t)
-    (lend-largest-mul-if1 t)
-    (lend-largest-add-if1 t)
-    (lend-largest-lend-largest-requires t)
-    (lend-largest-same-length t)
-    (lend-largest-returns t)
-    (lend-largest-same-length-2 t)
-    (lend-largest-returns-2 t)
-
 pub slice_bounds-list_found-end : goal.slice_bounds-list_found-end
 slice_bounds-list_found-end t c = refl
 
 pub list_found-listed-requires : goal.list_found-listed-requires
-list_found-listed-requires t c = (widened c.requires.1.1 c.requires.1.0, omega arith)
+list_found-listed-requires t c = (widened c.requires.1 c.requires.0, omega arith)
 
 pub overflow_mul-inputs : goal.overflow_mul-inputs
-overflow_mul-inputs t c = omega (arith, c.requires.1.1)
+overflow_mul-inputs t c = omega (arith, c.requires.1)
 
 pub overflow_add-words : goal.overflow_add-words
-overflow_add-words t c = omega (arith, c.requires.1.1)
+overflow_add-words t c = omega (arith, c.requires.1)
 
 pub lend_largest-requires : goal.lend_largest-requires
-lend_largest-requires t c = absurd (omega (arith, c.if-words-inputs-gt-LARGEST.true, c.requires.1.1))
+lend_largest-requires t c = absurd (omega (arith, c.if-words-inputs-gt-LARGEST.true, c.requires.1))
 
 pub shape_of-text-then-words-inputs-gt-LARGEST : goal.shape_of-text-then-words-inputs-gt-LARGEST
-shape_of-text-then-words-inputs-gt-LARGEST t c = absurd (omega (arith, c.if-words-inputs-gt-LARGEST.true, c.requires.1.1))
+shape_of-text-then-words-inputs-gt-LARGEST t c = absurd (omega (arith, c.if-words-inputs-gt-LARGEST.true, c.requires.1))
 
 pub returns-then-words-inputs-gt-LARGEST : goal.returns-then-words-inputs-gt-LARGEST
-returns-then-words-inputs-gt-LARGEST t c = absurd (omega (arith, c.if-words-inputs-gt-LARGEST.true, c.requires.1.1))
+returns-then-words-inputs-gt-LARGEST t c = absurd (omega (arith, c.if-words-inputs-gt-LARGEST.true, c.requires.1))
 
 pub returns : goal.returns
 returns t c = c.list_found-listed.ensures

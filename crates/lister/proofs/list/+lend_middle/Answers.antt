@@ -4,40 +4,26 @@ use native.Mathlib.Omega.{arith}
 use Rattle.lister.proofs.Listing.{widened}
 use Rattle.lister.proofs.list.+lend_middle.Goals as goal
 
-pub +lend-middle-spec : {M : Type 1} → statement M
-+lend-middle-spec = close μ-lend-middle λ t. lend-middle-lts.spec (lend-middle-callees t)
-    (lend-middle-at t)
-    lend-middle.Post
-    (lend-middle-slice-aggregate-list-found t)
-    (lend-middle-list-found-requires t)
-    (lend-middle-mul-if1 t)
-    (lend-middle-add-if1 t)
-    (lend-middle-lend-middle-requires t)
-    (lend-middle-same-length t)
-    (lend-middle-returns t)
-    (lend-middle-same-length-2 t)
-    (lend-middle-returns-2 t)
-
 pub slice_bounds-list_found-end : goal.slice_bounds-list_found-end
 slice_bounds-list_found-end t c = refl
 
 pub list_found-listed-requires : goal.list_found-listed-requires
-list_found-listed-requires t c = (widened c.requires.1.1 c.requires.1.0, omega arith)
+list_found-listed-requires t c = (widened c.requires.1 c.requires.0, omega arith)
 
 pub overflow_mul-inputs : goal.overflow_mul-inputs
-overflow_mul-inputs t c = omega (arith, c.requires.1.1)
+overflow_mul-inputs t c = omega (arith, c.requires.1)
 
 pub overflow_add-words : goal.overflow_add-words
-overflow_add-words t c = omega (arith, c.requires.1.1)
+overflow_add-words t c = omega (arith, c.requires.1)
 
 pub lend_middle-requires : goal.lend_middle-requires
-lend_middle-requires t c = absurd (omega (arith, c.if-words-inputs-gt-MIDDLE.true, c.requires.1.1))
+lend_middle-requires t c = absurd (omega (arith, c.if-words-inputs-gt-MIDDLE.true, c.requires.1))
 
 pub shape_of-text-then-words-inputs-gt-MIDDLE : goal.shape_of-text-then-words-inputs-gt-MIDDLE
-shape_of-text-then-words-inputs-gt-MIDDLE t c = absurd (omega (arith, c.if-words-inputs-gt-MIDDLE.true, c.requires.1.1))
+shape_of-text-then-words-inputs-gt-MIDDLE t c = absurd (omega (arith, c.if-words-inputs-gt-MIDDLE.true, c.requires.1))
 
 pub returns-then-words-inputs-gt-MIDDLE : goal.returns-then-words-inputs-gt-MIDDLE
-returns-then-words-inputs-gt-MIDDLE t c = absurd (omega (arith, c.if-words-inputs-gt-MIDDLE.true, c.requires.1.1))
+returns-then-words-inputs-gt-MIDDLE t c = absurd (omega (arith, c.if-words-inputs-gt-MIDDLE.true, c.requires.1))
 
 pub returns : goal.returns
 returns t c = c.list_found-listed.ensures

@@ -4,40 +4,26 @@ use native.Mathlib.Omega.{arith}
 use Rattle.lister.proofs.Listing.{widened}
 use Rattle.lister.proofs.list.+lend_small.Goals as goal
 
-pub +lend-small-spec : {M : Type 1} → statement M
-+lend-small-spec = close μ-lend-small λ t. lend-small-lts.spec (lend-small-callees t)
-    (lend-small-at t)
-    lend-small.Post
-    (lend-small-slice-aggregate-list-found t)
-    (lend-small-list-found-requires t)
-    (lend-small-mul-if1 t)
-    (lend-small-add-if1 t)
-    (lend-small-lend-small-requires t)
-    (lend-small-same-length t)
-    (lend-small-returns t)
-    (lend-small-same-length-2 t)
-    (lend-small-returns-2 t)
-
 pub slice_bounds-list_found-end : goal.slice_bounds-list_found-end
 slice_bounds-list_found-end t c = refl
 
 pub list_found-listed-requires : goal.list_found-listed-requires
-list_found-listed-requires t c = (widened c.requires.1.1 c.requires.1.0, omega arith)
+list_found-listed-requires t c = (widened c.requires.1 c.requires.0, omega arith)
 
 pub overflow_mul-inputs : goal.overflow_mul-inputs
-overflow_mul-inputs t c = omega (arith, c.requires.1.1)
+overflow_mul-inputs t c = omega (arith, c.requires.1)
 
 pub overflow_add-words : goal.overflow_add-words
-overflow_add-words t c = omega (arith, c.requires.1.1)
+overflow_add-words t c = omega (arith, c.requires.1)
 
 pub lend_small-requires : goal.lend_small-requires
-lend_small-requires t c = absurd (omega (arith, c.if-words-inputs-gt-SMALL.true, c.requires.1.1))
+lend_small-requires t c = absurd (omega (arith, c.if-words-inputs-gt-SMALL.true, c.requires.1))
 
 pub shape_of-text-then-words-inputs-gt-SMALL : goal.shape_of-text-then-words-inputs-gt-SMALL
-shape_of-text-then-words-inputs-gt-SMALL t c = absurd (omega (arith, c.if-words-inputs-gt-SMALL.true, c.requires.1.1))
+shape_of-text-then-words-inputs-gt-SMALL t c = absurd (omega (arith, c.if-words-inputs-gt-SMALL.true, c.requires.1))
 
 pub returns-then-words-inputs-gt-SMALL : goal.returns-then-words-inputs-gt-SMALL
-returns-then-words-inputs-gt-SMALL t c = absurd (omega (arith, c.if-words-inputs-gt-SMALL.true, c.requires.1.1))
+returns-then-words-inputs-gt-SMALL t c = absurd (omega (arith, c.if-words-inputs-gt-SMALL.true, c.requires.1))
 
 pub returns : goal.returns
 returns t c = c.list_found-listed.ensures

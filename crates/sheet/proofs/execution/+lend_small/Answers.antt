@@ -1,31 +1,8 @@
 -- A small stack is enough, so that the call of itself is never made.
-use Prim.Native.Nat.{ℕ}
 use mathlib.Core.Path.{refl}
 use native.Mathlib.Omega.{arith}
 use Rattle.sheet.proofs.Needing.{widened}
 use Rattle.sheet.proofs.execution.+lend_small.Goals as goal
-
--- any measure does: the call is never made
-abbrev μ-lend-small : Measures 4 lend-small-kinds.ps ℕ
-μ-lend-small κs a = 0
-
-pub +lend-small-spec : {M : Type 1} → statement M
-+lend-small-spec =
-    close μ-lend-small λ t.
-    lend-small-lts.spec (lend-small-callees t) (lend-small-at t) lend-small.Post
-    (lend-small-slice-aggregate-perform t)
-    (lend-small-slice-aggregate-perform-2 t)
-    (lend-small-slice-aggregate-perform-3 t)
-    (lend-small-perform-requires t)
-    (lend-small-mul-if1 t)
-    (lend-small-add-if1 t)
-    (lend-small-lend-small-requires t)
-    (lend-small-same-length t)
-    (lend-small-same-length-2 t)
-    (lend-small-returns t)
-    (lend-small-same-length-3 t)
-    (lend-small-same-length-4 t)
-    (lend-small-returns-2 t)
 
 pub slice_bounds-perform-end : goal.slice_bounds-perform-end
 slice_bounds-perform-end t c = refl
@@ -37,25 +14,25 @@ pub slice_bounds-perform-end-3 : goal.slice_bounds-perform-end-3
 slice_bounds-perform-end-3 t c = refl
 
 pub perform-performed-requires : goal.perform-performed-requires
-perform-performed-requires t c = record { admitted = (widened c.requires.task_bound.1.0 c.requires.task_bound.0.0, c.requires.task_bound.0.1); most_inputs_in_bounds = (omega arith, c.requires.task_bound.1.1, refl); }
+perform-performed-requires t c = record { admitted = (widened c.requires.task_bound.0 c.requires.admitted.0, c.requires.admitted.1); most_inputs_in_bounds = (omega arith, c.requires.task_bound.1, refl); }
 
 pub overflow_mul-task : goal.overflow_mul-task
-overflow_mul-task t c = omega (arith, c.requires.task_bound.1.0)
+overflow_mul-task t c = omega (arith, c.requires.task_bound.0)
 
 pub overflow_add-task : goal.overflow_add-task
-overflow_add-task t c = omega (arith, c.requires.task_bound.1.0)
+overflow_add-task t c = omega (arith, c.requires.task_bound.0)
 
 pub lend_small-requires : goal.lend_small-requires
-lend_small-requires t c = absurd (omega (arith, c.if-task-gt-SMALL.true, c.requires.task_bound.1.0))
+lend_small-requires t c = absurd (omega (arith, c.if-task-gt-SMALL.true, c.requires.task_bound.0))
 
 pub shape_of-buf-then-task-gt-SMALL : goal.shape_of-buf-then-task-gt-SMALL
-shape_of-buf-then-task-gt-SMALL t c = absurd (omega (arith, c.if-task-gt-SMALL.true, c.requires.task_bound.1.0))
+shape_of-buf-then-task-gt-SMALL t c = absurd (omega (arith, c.if-task-gt-SMALL.true, c.requires.task_bound.0))
 
 pub shape_of-answer-then-task-gt-SMALL : goal.shape_of-answer-then-task-gt-SMALL
-shape_of-answer-then-task-gt-SMALL t c = absurd (omega (arith, c.if-task-gt-SMALL.true, c.requires.task_bound.1.0))
+shape_of-answer-then-task-gt-SMALL t c = absurd (omega (arith, c.if-task-gt-SMALL.true, c.requires.task_bound.0))
 
 pub returns-then-task-gt-SMALL : goal.returns-then-task-gt-SMALL
-returns-then-task-gt-SMALL t c = absurd (omega (arith, c.if-task-gt-SMALL.true, c.requires.task_bound.1.0))
+returns-then-task-gt-SMALL t c = absurd (omega (arith, c.if-task-gt-SMALL.true, c.requires.task_bound.0))
 
 pub returns : goal.returns
-returns t c = λ here. c.perform-performed.ensures (widened c.requires.task_bound.1.0 here)
+returns t c = λ here. c.perform-performed.ensures (widened c.requires.task_bound.0 here)

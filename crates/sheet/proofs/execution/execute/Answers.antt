@@ -2,8 +2,5 @@
 use Rattle.sheet.proofs.Whole.{kept-used}
 use Rattle.sheet.proofs.execution.execute.Goals as goal
 
-pub lend-ran-requires : goal.lend-ran-requires
-lend-ran-requires c = let both = c.requires in record { admitted = both.0; task_bound = both.1; }
-
 pub returns : goal.returns
-returns c = let both = kept-used c.requires.admitted.0 c.requires.task_bound.1 (c.lend-ran.ensures c.requires.admitted.0) c.lend-ran.auto.buf c.spoiled_from-from.ensures c.clear.ensures in record { demands = both.0; }
+returns c = record { demands = kept-used c.requires.admitted.0 c.requires.task_bound.1 (c.lend-ran.ensures c.requires.admitted.0) c.lend-ran.auto.buf c.spoiled_from-from.ensures c.clear.ensures }

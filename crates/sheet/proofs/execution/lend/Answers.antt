@@ -20,8 +20,5 @@ lend_middle-requires c = record { admitted = c.requires.admitted; task_bound = (
 pub returns-then-need-le-MIDDLE : goal.returns-then-need-le-MIDDLE
 returns-then-need-le-MIDDLE c = c.lend_middle.ensures
 
-pub lend_largest-requires : goal.lend_largest-requires
-lend_largest-requires c = let both = c.requires in record { admitted = both.0; task_bound = both.1; }
-
 pub returns : goal.returns
 returns c = c.lend_largest.ensures

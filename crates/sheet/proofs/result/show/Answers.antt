@@ -13,19 +13,16 @@ pub overflow_cast-depth : goal.overflow_cast-depth
 overflow_cast-depth c = omega (arith, shallow c.args.base c.args.depth c.requires)
 
 pub value_text-bytes-requires : goal.value_text-bytes-requires
-value_text-bytes-requires c = let starts = c.tree_starts in
-    value-stands c.args.base c.args.depth c.requires starts.new.1.1.1.0 starts.ensures starts.auto.1.1.1.0
+value_text-bytes-requires c = value-stands c.args.base c.args.depth c.requires c.tree_starts.new.places c.tree_starts.ensures c.tree_starts.auto.places
 
 pub returns-then-bytes-answer : goal.returns-then-bytes-answer
-returns-then-bytes-answer c = let starts = c.tree_starts in
-    λ g. too_long c.args.base c.args.depth g starts.new.1.1.1.0 starts.ensures c.value_text-bytes.ensures c.args.answer.now c.if-bytes-answer.true
+returns-then-bytes-answer c = λ g. too_long c.args.base c.args.depth g c.tree_starts.new.places c.tree_starts.ensures c.value_text-bytes.ensures c.args.answer.now c.if-bytes-answer.true
 
 pub overflow_cast-depth-2 : goal.overflow_cast-depth-2
 overflow_cast-depth-2 c = omega (arith, shallow c.args.base c.args.depth c.requires)
 
 pub value_text-room-requires : goal.value_text-room-requires
-value_text-room-requires c = let starts = c.tree_starts in
-    value-stands c.args.base c.args.depth c.requires starts.new.1.1.1.0 starts.ensures starts.auto.1.1.1.0
+value_text-room-requires c = value-stands c.args.base c.args.depth c.requires c.tree_starts.new.places c.tree_starts.ensures c.tree_starts.auto.places
 
 pub bounds-state-1 : goal.bounds-state-1
 bounds-state-1 c = omega (arith, four c.requires)
@@ -37,6 +34,5 @@ pub bounds-state-3 : goal.bounds-state-3
 bounds-state-3 c = omega (arith, four c.requires)
 
 pub returns : goal.returns
-returns c = let starts = c.tree_starts in
-    λ g.
-    written c.args.base c.args.depth g starts.new.1.1.1.0 starts.ensures c.value_text-bytes.ensures c.args.answer.now c.value_text-room.new.answer c.if-bytes-answer.false c.value_text-room.ensures
+returns c = λ g.
+    written c.args.base c.args.depth g c.tree_starts.new.places c.tree_starts.ensures c.value_text-bytes.ensures c.args.answer.now c.value_text-room.new.answer c.if-bytes-answer.false c.value_text-room.ensures

@@ -18,12 +18,14 @@ execute-requires c = let taken = taken_in c.args.job.now c.in-Admitted.task (sym
     let long = length-take-le c.used_part-used.result c.args.streams.now (omega (arith, c.used_part-used.ensures)) in record { admitted = (taken.0, counted_of taken.0 (replicate 144 0) c.admit.ensures.counts_after (omega arith) c.admit.auto.counts); task_bound = (taken.1, omega (arith, long, c.used_part-used.ensures)); }
 
 pub returns-in-Refused : goal.returns-in-Refused
-returns-in-Refused c = let refusal = c.refusal-1.given in
-    let k = kept-untouched refusal.0.0 c.args.streams.now c.args.answer.now (turned c.args.job.now refusal.0.0 (sym refusal.1 ∙ c.admit.ensures.value)) in let both = search (k, exacted (Refused refusal.0.0) k) in record { exact = both.0; demands = both.1; }
+returns-in-Refused c =
+    let refusal = c.in-Refused.refusal in
+    let k = kept-untouched refusal c.args.streams.now c.args.answer.now (turned c.args.job.now refusal (sym c.in-Refused.is ∙ c.admit.ensures.value)) in
+    search (k, exacted (Refused refusal) k)
 
 pub returns-in-Admitted : goal.returns-in-Admitted
-returns-in-Admitted c = let executed = c.execute in
+returns-in-Admitted c =
     let streams = c.args.streams.now in
-    let used = c.used_part-used in
-    let long = length-take-le used.result streams (omega (arith, used.ensures)) in
-    let k = kept_whole streams executed.new.1.1.1.0 used.result used.ensures long executed.auto.1.1.1.0 executed.result executed.ensures in let both = search (k, exacted executed.result k) in record { exact = both.0; demands = both.1; }
+    let long = length-take-le c.used_part-used.result streams (omega (arith, c.used_part-used.ensures)) in
+    let k = kept_whole streams c.execute.new.buf c.used_part-used.result c.used_part-used.ensures long c.execute.auto.buf c.execute.result c.execute.ensures.demands in
+    search (k, exacted c.execute.result k)
