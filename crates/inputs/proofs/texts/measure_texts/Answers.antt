@@ -64,7 +64,10 @@ pub returns-in-No : goal.returns-in-No
 returns-in-No c = let none = sym c.in-No.is ∙ c.measure_text.ensures.value in
     let back = counts-back c.declared-input.result.base c.declared-input.result.depth (text_from c.args.job.now c.loop-i.k c.text_end-next.result) c.loop-i.counts c.loop-i.i c.measure_text.ensures.counts_after in
     let base = ap (λ (r : Declaration). r.base) c.declared-input.ensures in
-    let depth = ap (λ (r : Declaration). r.depth) c.declared-input.ensures in record { value = λ g. (told-bad (c.loop-i.invariant.1 g.inputs g.spans (inputs-supplied g)) c.loop-i-test.true c.text_end-next.result c.text_end-next.ensures base depth back none).0; counts_after = λ g. (told-bad (c.loop-i.invariant.1 g.inputs g.spans (inputs-supplied g)) c.loop-i-test.true c.text_end-next.result c.text_end-next.ensures base depth back none).1 }
+    let depth = ap (λ (r : Declaration). r.depth) c.declared-input.ensures in record {
+      value = λ g. (told-bad (c.loop-i.invariant.1 g.inputs g.spans (inputs-supplied g)) c.loop-i-test.true c.text_end-next.result c.text_end-next.ensures base depth back none).0;
+      counts_after = λ g. (told-bad (c.loop-i.invariant.1 g.inputs g.spans (inputs-supplied g)) c.loop-i-test.true c.text_end-next.result c.text_end-next.ensures base depth back none).1;
+    }
 
 pub overflow_add-i : goal.overflow_add-i
 overflow_add-i c = omega (arith, c.loop-i-test.true)
