@@ -159,8 +159,12 @@ class Term:
         step = w.step[q][1]
         if r and r[0] == "ensures" and len(r) > 1 and r[1].isdigit():
             clause = w.data["clauses"][q]
-            if clause and clause["fields"] and int(r[1]) < len(clause["fields"]):
-                r = ["ensures", clause["fields"][int(r[1])]] + r[2:]
+            if clause and clause["fields"]:
+                last, k = len(clause["fields"]) - 1, 1  # the clauses stood as a pair of the first and the rest
+                while k < last and r[k : k + 1] == ["1"]:
+                    k += 1
+                if r[k : k + 1] and r[k] in "01":
+                    r = ["ensures", clause["fields"][k - 1 + int(r[k])]] + r[k + 1:]
         if r and r[0] in ("auto", "new", "kept"):
             n, k = 0, 1
             while k < len(r) and r[k] == "1":
@@ -206,10 +210,14 @@ def as_record(text, fields):
                 ok = False
                 break
         parts = [p.strip() for p in split_top(inner, ",")] if ok else []
+        while ok and len(parts) < len(fields) and parts and parts[-1].startswith("(") and parts[-1].endswith(")"):
+            parts = parts[:-1] + [p.strip() for p in split_top(parts[-1][1:-1].strip().rstrip(","), ",")]
         if len(parts) == len(fields):
             sp = " " if head and not head.endswith((" ", "\n")) else ""
             return head + sp + "record { " + " ".join(f"{f} = {p};" for f, p in zip(fields, parts)) + " }"
     sp = " " if head and not head.endswith((" ", "\n")) else ""
+    if e.startswith("search"):
+        return head + sp + e
     return head + sp + f"let both = {e} in record {{ " + " ".join(f"{f} = both.{i};" for i, f in enumerate(fields)) + " }"
 
 

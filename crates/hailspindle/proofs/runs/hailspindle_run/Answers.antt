@@ -3,7 +3,7 @@ use Rattle.hailspindle.proofs.Replying.{refused-keeps, valued-keeps, keeps-exact
 use Rattle.hailspindle.proofs.runs.hailspindle_run.Goals as goal
 
 pub returns-in-Refused : goal.returns-in-Refused
-returns-in-Refused c = let k = refused-keeps c.run.ensures.demands c.in-Refused.refusal c.in-Refused.is c.number.ensures c.place-at.ensures c.four.ensures in let both = search (k, keeps-exactly k) in record { exact = both.0; demands = both.1; }
+returns-in-Refused c = let k = refused-keeps c.run.ensures.demands c.in-Refused.refusal c.in-Refused.is c.number.ensures c.place-at.ensures c.four.ensures in search (k, keeps-exactly k)
 
 pub returns-in-Value : goal.returns-in-Value
-returns-in-Value c = let k = valued-keeps c.run.ensures.demands c.in-Value.counts c.in-Value.is c.four-in-Value.ensures in let both = search (k, keeps-exactly k) in record { exact = both.0; demands = both.1; }
+returns-in-Value c = let k = valued-keeps c.run.ensures.demands c.in-Value.counts c.in-Value.is c.four-in-Value.ensures in search (k, keeps-exactly k)
