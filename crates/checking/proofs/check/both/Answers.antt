@@ -4,18 +4,6 @@ use Rattle.checking.specs.Checks.{both_in}
 use Rattle.checking.proofs.Turning.{both-ints, second_none, first-none}
 use Rattle.checking.proofs.check.both.Goals as goal
 
-pub enum_told-1 : goal.enum_told-1
-enum_told-1 c = c.in-Missing.in-Missing-own.keys1
-
-pub enum_known-first : goal.enum_known-first
-enum_known-first c = c.in-Word.in-Word-own.keys2
-
-pub enum_told-in-Missing-second : goal.enum_told-in-Missing-second
-enum_told-in-Missing-second c = c.in-Missing-second.in-Missing-second-own.keys1
-
-pub enum_known-second : goal.enum_known-second
-enum_known-second c = c.in-Word-second.in-Word-second-own.keys2
-
 pub returns-then-b-eq-INT : goal.returns-then-b-eq-INT
 returns-then-b-eq-INT c = both-ints _ _ _ _ c.if-a-eq-INT.true c.if-b-eq-INT.true ∙ ap₂ (both_in c.args.k c.args.gives) (sym c.in-Word.is) (sym c.in-Word-second.is)
 

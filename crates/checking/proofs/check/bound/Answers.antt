@@ -5,12 +5,6 @@ use Rattle.checking.specs.Checks.{bound_in, words_of}
 use Rattle.checking.proofs.Closing.{second_more, first_more}
 use Rattle.checking.proofs.check.bound.Goals as goal
 
-pub enum_known-second : goal.enum_known-second
-enum_known-second c = c.in-Refused.in-Refused-own.keys1
-
-pub enum_known-second-in-Found-1 : goal.enum_known-second-in-Found-1
-enum_known-second-in-Found-1 c = c.in-Found.in-Found-own.keys2
-
 pub overflow_add-behind-in-Found : goal.overflow_add-behind-in-Found
 overflow_add-behind-in-Found c = omega (arith, c.requires, ap words_of c.in-Found.is)
 

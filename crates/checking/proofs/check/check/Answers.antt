@@ -3,20 +3,8 @@ use mathlib.Core.Path.{sym, ◌∙◌}
 use Rattle.checking.proofs.Checks.{front_read, front-checked, refused-read}
 use Rattle.checking.proofs.check.check.Goals as goal
 
-pub enum_known-refusal : goal.enum_known-refusal
-enum_known-refusal c = c.in-Refused.in-Refused-own.keys1
-
-pub enum_known-formula : goal.enum_known-formula
-enum_known-formula c = c.in-Found.in-Found-own.keys2
-
 pub check_front-requires : goal.check_front-requires
 check_front-requires c = (front_read c.args.bytes.now _ (sym c.in-Found.is ∙ c.read_formula.ensures)).0
-
-pub enum_known-refusal-in-Refused-check_front : goal.enum_known-refusal-in-Refused-check_front
-enum_known-refusal-in-Refused-check_front c = c.in-Refused-check_front.in-Refused-check_front-own.keys1
-
-pub enum_known-found : goal.enum_known-found
-enum_known-found c = c.in-Typed.in-Typed-own.keys2
 
 pub returns-in-Refused : goal.returns-in-Refused
 returns-in-Refused c = refused-read _ _ (sym c.in-Refused.is ∙ c.read_formula.ensures)

@@ -10,12 +10,6 @@ slice_bounds-enter-end c = refl
 pub enter-requires : goal.enter-requires
 enter-requires c = record { fact_1 = declared-here c.args.bytes.now c.args.formula c.requires; fact_2 = omega (arith, few-inputs c.args.bytes.now c.args.formula c.requires) }
 
-pub enum_known-refusal : goal.enum_known-refusal
-enum_known-refusal c = c.in-Refused.in-Refused-own.keys1
-
-pub enum_known-sp : goal.enum_known-sp
-enum_known-sp c = c.in-Scope.in-Scope-own.keys2
-
 pub slice_bounds-walk-end : goal.slice_bounds-walk-end
 slice_bounds-walk-end c = sym c.enter.auto.env
 
@@ -23,12 +17,6 @@ pub walk-requires : goal.walk-requires
 walk-requires c = walk-asked c.args.bytes.now c.args.formula c.requires
     (enters-at _ _ _ c.in-Scope.is c.enter.ensures)
     c.enter.auto.env
-
-pub enum_known-refusal-in-Refused-walk : goal.enum_known-refusal-in-Refused-walk
-enum_known-refusal-in-Refused-walk c = c.in-Refused-walk.in-Refused-walk-own.keys1
-
-pub enum_known-word : goal.enum_known-word
-enum_known-word c = c.in-Found.in-Found-own.keys2
 
 pub returns-in-Refused : goal.returns-in-Refused
 returns-in-Refused c = entry-refused c.args.bytes.now c.args.formula c.requires

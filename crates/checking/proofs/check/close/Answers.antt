@@ -5,12 +5,6 @@ use Rattle.checking.specs.Checks.{closed_in, words_of}
 use Rattle.checking.proofs.Closing.{one_deeper, too-deep}
 use Rattle.checking.proofs.check.close.Goals as goal
 
-pub enum_known-body : goal.enum_known-body
-enum_known-body c = c.in-Refused.in-Refused-own.keys1
-
-pub enum_known-body-in-Found-1 : goal.enum_known-body-in-Found-1
-enum_known-body-in-Found-1 c = c.in-Found.in-Found-own.keys2
-
 pub overflow_mul-entered : goal.overflow_mul-entered
 overflow_mul-entered c = omega (arith, c.requires.fact_2)
 

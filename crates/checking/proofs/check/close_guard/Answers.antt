@@ -5,12 +5,6 @@ use Rattle.checking.specs.Checks.{guarded_in, words_of}
 use Rattle.checking.proofs.Closing.{guard-spread, guard-body, guard-deep}
 use Rattle.checking.proofs.check.close_guard.Goals as goal
 
-pub enum_known-body : goal.enum_known-body
-enum_known-body c = c.in-Refused.in-Refused-own.keys1
-
-pub enum_known-body-in-Found-1 : goal.enum_known-body-in-Found-1
-enum_known-body-in-Found-1 c = c.in-Found.in-Found-own.keys2
-
 pub overflow_add-result : goal.overflow_add-result
 overflow_add-result c = omega (arith, c.requires.fact_1, c.requires.fact_2, ap words_of c.in-Found.is, c.if-word-lt-DEPTH.true)
 

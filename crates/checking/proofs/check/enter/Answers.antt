@@ -13,9 +13,6 @@ declared-input-requires c = (fits _ _ c.loop-i.invariant c.loop-i-test.true).0
 pub look-requires : goal.look-requires
 look-requires c = omega (arith, c.loop-i.invariant.at, c.loop-i.invariant.long)
 
-pub enum_told-1 : goal.enum_told-1
-enum_told-1 c = c.in-Missing.in-Missing-own.keys1
-
 pub word_of-word-requires : goal.word_of-word-requires
 word_of-word-requires c = shallow-at _ _ c.loop-i.invariant c.loop-i-test.true c.declared-input.ensures
 
@@ -32,9 +29,6 @@ pub loop-i-preserved : goal.loop-i-preserved
 loop-i-preserved c = turn_at _ _ c.loop-i.invariant c.loop-i-test.true c.declared-input.ensures (sym c.in-Missing.is ∙ c.look.ensures) c.word_of-word.ensures
     c.push-sp.ensures
     c.push-sp.auto.env
-
-pub enum_told-in-Word : goal.enum_told-in-Word
-enum_told-in-Word c = c.in-Word.in-Word-own.keys2
 
 pub shape_of-env-in-Word : goal.shape_of-env-in-Word
 shape_of-env-in-Word c = c.loop-i.invariant.long

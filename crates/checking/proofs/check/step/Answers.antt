@@ -7,47 +7,23 @@ use Rattle.checking.specs.Checks.{var_in, want_in, both_in, leaf_in, turn_in}
 use Rattle.records.proofs.Heads.{told}
 use Rattle.checking.proofs.check.step.Goals as goal
 
-pub enum_told-1 : goal.enum_told-1
-enum_told-1 c = c.in-Absent.in-Absent-own.keys1
-
-pub enum_told-in-Over : goal.enum_told-in-Over
-enum_told-in-Over c = c.in-Over.in-Over-own.keys2
-
-pub enum_known-x : goal.enum_known-x
-enum_known-x c = c.in-Var.in-Var-own.keys3
-
 pub look-requires : goal.look-requires
 look-requires c = c.requires
 
 pub overflow_add-k : goal.overflow_add-k
 overflow_add-k c = omega (arith, (told c.args.bytes.now c.args.k _ (sym c.in-Var.is ∙ c.head_at.ensures)).1)
 
-pub enum_known-x-in-Let-1 : goal.enum_known-x-in-Let-1
-enum_known-x-in-Let-1 c = c.in-Let.in-Let-own.keys4
-
-pub enum_told-in-Const : goal.enum_told-in-Const
-enum_told-in-Const c = c.in-Const.in-Const-own.keys5
-
 pub overflow_add-result : goal.overflow_add-result
 overflow_add-result c = omega (arith, (told c.args.bytes.now c.args.k _ (sym c.in-Const.is ∙ c.head_at.ensures)).1)
 
-pub enum_told-in-Truth : goal.enum_told-in-Truth
-enum_told-in-Truth c = c.in-Truth.in-Truth-own.keys6
-
 pub overflow_add-result-in-Truth : goal.overflow_add-result-in-Truth
 overflow_add-result-in-Truth c = omega (arith, (told c.args.bytes.now c.args.k _ (sym c.in-Truth.is ∙ c.head_at.ensures)).1)
-
-pub enum_known-x-in-Iota-1 : goal.enum_known-x-in-Iota-1
-enum_known-x-in-Iota-1 c = c.in-Iota.in-Iota-own.keys7
 
 pub look-requires-in-Iota : goal.look-requires-in-Iota
 look-requires-in-Iota c = c.requires
 
 pub overflow_add-k-in-Iota : goal.overflow_add-k-in-Iota
 overflow_add-k-in-Iota c = omega (arith, (told c.args.bytes.now c.args.k _ (sym c.in-Iota.is ∙ c.head_at.ensures)).1)
-
-pub enum_known-operation : goal.enum_known-operation
-enum_known-operation c = c.in-Operation.in-Operation-own.keys8
 
 pub look-requires-in-Operation : goal.look-requires-in-Operation
 look-requires-in-Operation c = c.requires
@@ -58,29 +34,17 @@ look-requires-in-Operation-2 c = c.requires
 pub overflow_add-k-in-Operation : goal.overflow_add-k-in-Operation
 overflow_add-k-in-Operation c = omega (arith, (told c.args.bytes.now c.args.k _ (sym c.in-Operation.is ∙ c.head_at.ensures)).1)
 
-pub enum_known-x-in-Negation-1 : goal.enum_known-x-in-Negation-1
-enum_known-x-in-Negation-1 c = c.in-Negation.in-Negation-own.keys9
-
 pub look-requires-in-Negation : goal.look-requires-in-Negation
 look-requires-in-Negation c = c.requires
 
 pub overflow_add-k-in-Negation : goal.overflow_add-k-in-Negation
 overflow_add-k-in-Negation c = omega (arith, (told c.args.bytes.now c.args.k _ (sym c.in-Negation.is ∙ c.head_at.ensures)).1)
 
-pub enum_known-x-in-Sum-1 : goal.enum_known-x-in-Sum-1
-enum_known-x-in-Sum-1 c = c.in-Sum.in-Sum-own.keys10
-
 pub look-requires-in-Sum : goal.look-requires-in-Sum
 look-requires-in-Sum c = c.requires
 
 pub overflow_add-k-in-Sum : goal.overflow_add-k-in-Sum
 overflow_add-k-in-Sum c = omega (arith, (told c.args.bytes.now c.args.k _ (sym c.in-Sum.is ∙ c.head_at.ensures)).1)
-
-pub enum_known-x-in-Each-1 : goal.enum_known-x-in-Each-1
-enum_known-x-in-Each-1 c = c.in-Each.in-Each-own.keys11
-
-pub enum_known-g : goal.enum_known-g
-enum_known-g c = c.in-Guard.in-Guard-own.keys12
 
 pub returns-in-Absent : goal.returns-in-Absent
 returns-in-Absent c = ap (turn_in (scope c.args.sp c.args.floor c.args.env.now) c.args.k)

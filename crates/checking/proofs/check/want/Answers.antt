@@ -4,12 +4,6 @@ use Rattle.checking.specs.Checks.{want_in}
 use Rattle.checking.proofs.Turning.{wanted-is, wanted-not}
 use Rattle.checking.proofs.check.want.Goals as goal
 
-pub enum_told-1 : goal.enum_told-1
-enum_told-1 c = c.in-Missing.in-Missing-own.keys1
-
-pub enum_known-kind : goal.enum_known-kind
-enum_known-kind c = c.in-Word.in-Word-own.keys2
-
 pub returns-in-Missing : goal.returns-in-Missing
 returns-in-Missing c = ap (want_in c.args.k c.args.wanted c.args.gives) (sym c.in-Missing.is)
 

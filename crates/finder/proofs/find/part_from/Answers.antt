@@ -7,14 +7,8 @@ use Rattle.finder.proofs.find.part_from.Goals as goal
 pub loop-next-init : goal.loop-next-init
 loop-next-init c = start _ c.requires
 
-pub enum_told-1 : goal.enum_told-1
-enum_told-1 c = c.in-Cut.in-Cut-own.keys1
-
 pub returns-in-Cut : goal.returns-in-Cut
 returns-in-Cut c = absurd (never _ c.loop-next.invariant (sym c.in-Cut.is ∙ c.text_at.ensures))
-
-pub enum_known-next : goal.enum_known-next
-enum_known-next c = c.in-Found.in-Found-own.keys2
 
 pub overflow_add-start : goal.overflow_add-start
 overflow_add-start c = omega (arith, within _ c.loop-next.invariant _ (sym c.in-Found.is ∙ c.text_at.ensures))

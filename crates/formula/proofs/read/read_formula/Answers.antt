@@ -3,12 +3,6 @@ use mathlib.Core.Path.{sym, ◌∙◌}
 use Rattle.formula.proofs.Fronts.{read-alone, all_read, left_over}
 use Rattle.formula.proofs.read.read_formula.Goals as goal
 
-pub enum_known-refusal : goal.enum_known-refusal
-enum_known-refusal c = c.in-Refused.in-Refused-own.keys1
-
-pub enum_known-formula : goal.enum_known-formula
-enum_known-formula c = c.in-Found.in-Found-own.keys2
-
 pub returns-in-Refused : goal.returns-in-Refused
 returns-in-Refused c = read-alone c.args.bytes.now (sym c.in-Refused.is ∙ c.front.ensures)
 

@@ -3,18 +3,6 @@ use mathlib.Core.Path.{sym, ◌∙◌}
 use Rattle.formula.proofs.Fronts.{read-supplied, read-texted, all-texts, more_bytes}
 use Rattle.formula.proofs.read.read_job.Goals as goal
 
-pub enum_known-refusal : goal.enum_known-refusal
-enum_known-refusal c = c.in-Refused.in-Refused-own.keys1
-
-pub enum_known-formula : goal.enum_known-formula
-enum_known-formula c = c.in-Found.in-Found-own.keys2
-
-pub enum_known-refusal-in-Refused-texts_from : goal.enum_known-refusal-in-Refused-texts_from
-enum_known-refusal-in-Refused-texts_from c = c.in-Refused-texts_from.in-Refused-texts_from-own.keys1
-
-pub enum_known-end : goal.enum_known-end
-enum_known-end c = c.in-Found-texts_from.in-Found-texts_from-own.keys2
-
 pub returns-in-Refused : goal.returns-in-Refused
 returns-in-Refused c = read-supplied c.args.bytes.now (sym c.in-Refused.is ∙ c.front.ensures)
 

@@ -6,14 +6,8 @@ use Rattle.formula.proofs.read.texts_from.Goals as goal
 pub loop-left-init : goal.loop-left-init
 loop-left-init c = start _ _ _
 
-pub enum_told-1 : goal.enum_told-1
-enum_told-1 c = c.in-Cut.in-Cut-own.keys1
-
 pub returns-in-Cut : goal.returns-in-Cut
 returns-in-Cut c = stopped _ c.loop-left.invariant c.loop-left-test.true (sym c.in-Cut.is ∙ c.text_at.ensures)
-
-pub enum_known-next : goal.enum_known-next
-enum_known-next c = c.in-Found.in-Found-own.keys2
 
 pub loop-left-preserved : goal.loop-left-preserved
 loop-left-preserved c = turn _ c.loop-left.invariant _ c.loop-left-test.true (sym c.in-Found.is ∙ c.text_at.ensures)

@@ -7,12 +7,6 @@ use Rattle.scopes.proofs.listed.first_usable.Goals as goal
 pub look-requires : goal.look-requires
 look-requires c = c.requires.fact_2
 
-pub enum_told-1 : goal.enum_told-1
-enum_told-1 c = c.in-Missing.in-Missing-own.keys1
-
-pub enum_told-in-Word : goal.enum_told-in-Word
-enum_told-in-Word c = c.in-Word.in-Word-own.keys2
-
 pub returns-then-named : goal.returns-then-named
 returns-then-named c = first-once _ _ _ _ (sym c.look.ensures ∙ c.in-Word.is) true (sym c.named.ensures ∙ c.if-named.true)
 

@@ -10,14 +10,8 @@ loop-i-init c = start _ _ _ _
 pub look-requires : goal.look-requires
 look-requires c = c.requires.fact_2
 
-pub enum_told-1 : goal.enum_told-1
-enum_told-1 c = c.in-Missing.in-Missing-own.keys1
-
 pub returns-in-Missing : goal.returns-in-Missing
 returns-in-Missing c = stop _ _ _ _ c.loop-i.invariant c.loop-i-test.true false (scalars-missing _ _ _ (sym c.look.ensures ∙ c.in-Missing.is))
-
-pub enum_known-word : goal.enum_known-word
-enum_known-word c = c.in-Word.in-Word-own.keys2
 
 pub loop-i-preserved : goal.loop-i-preserved
 loop-i-preserved c = turn _ _ _ _ c.loop-i.invariant c.loop-i-test.true (scalars-on _ _ _ _ (sym c.look.ensures ∙ c.in-Word.is) c.if-word-lt-BRACES.true)

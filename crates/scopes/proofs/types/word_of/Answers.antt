@@ -6,12 +6,6 @@ use Rattle.scopes.specs.TypeWords.{word_of}
 use Rattle.scopes.proofs.TypeWords.{int_word, bool_word}
 use Rattle.scopes.proofs.types.word_of.Goals as goal
 
-pub enum_told-1 : goal.enum_told-1
-enum_told-1 c = c.in-Int.in-Int-own.keys1
-
-pub enum_told-in-Bool : goal.enum_told-in-Bool
-enum_told-in-Bool c = c.in-Bool.in-Bool-own.keys2
-
 pub returns-in-Int : goal.returns-in-Int
 returns-in-Int c = int_word c.args.depth ∙ ap (λ (b : Base). word_of (type_of b c.args.depth)) (sym c.in-Int.is)
 
