@@ -5,7 +5,7 @@ use mathlib.Core.List.{List, [], ◌∷◌}
 use mathlib.Core.Option.{Option, some, none}
 use mathlib.Core.Path.{◌≡◌, refl}
 use lib.IntN.{ℤ, pos, ◌+ℤ◌}
-use Rattle.snesl.specs.Transducers.{Feed, alone, each_f, each_t, takes, fed, misfit, count_f, spread, scans, sums, only_if, kept_segments}
+use Rattle.snesl.specs.Transducers.{Feed, takes, fed, misfit, count_f, spread, scans, sums, only_if, kept_segments}
 use Rattle.flags.specs.Segments.{leading, wholes}
 
 module _ {A : Type 0} (flag : A → Option Bool) where

@@ -1,7 +1,7 @@
 -- How a flag is stored: a 32-bit number is 0, 1 or neither, and so is its flag.
 use Prim.Native.Nat.{zero, suc, ◌<◌, ◌^◌}
-use mathlib.Core.Bool.{Bool, true, false}
-use mathlib.Core.Option.{Option, some, none}
+use mathlib.Core.Bool.{true, false}
+use mathlib.Core.Option.{some, none}
 use mathlib.Core.Path.{◌≡◌, refl, sym, ◌∙◌, ap}
 use mathlib.Core.List.{List, ◌∷◌}
 use lib.IntN.{ℤ, pos, negsuc}

@@ -91,7 +91,11 @@ fn print_checked(rt: &impl Print, checked: Checked) -> io::Result<()> {
             print_base(rt, found.base)?;
             print!(rt; "depth {}", found.depth)
         }
-        Checked::Refused(refusal) => print!(rt; "refused {} at {}", number(refusal), place(refusal)),
+        Checked::Refused(refusal) => print!(rt;
+            "refused {} at {}",
+            number(refusal),
+            place(refusal)
+        ),
     }
 }
 

@@ -1,8 +1,8 @@
 -- Figures that are stored one after another, a store past the slice's end changing nothing, are noted.
-use Prim.Native.Nat.{ℕ, zero, suc}
+use Prim.Native.Nat.{ℕ, suc}
 use mathlib.Core.List.{List, [], ◌∷◌, ◌++◌}
 use mathlib.Core.Path.{◌≡◌, refl, sym, ap, ◌∙◌}
-use lib.ListN.{length, take, drop, set}
+use lib.ListN.{length, set}
 use lib.Seq.{sets, take-nil}
 use Rattle.hailspindle.specs.Replies.{noted}
 

@@ -5,7 +5,7 @@ use mathlib.Core.Bool.{Bool, true, false}
 use mathlib.Core.List.{List, [], ◌∷◌, map}
 use mathlib.Core.Option.{Option, some, none}
 use mathlib.Core.Path.{◌≡◌, refl, sym, ◌∙◌, ap}
-use lib.ListN.{length, length-map}
+use lib.ListN.{length-map}
 use Rattle.snesl.specs.Streams.{bit}
 use Rattle.snesl.specs.Transducers.{bool_of, Feed, takes, fed, misfit, spread, kept, first_negative, unary, unitary, to_flags, b2u}
 

@@ -17,11 +17,9 @@ use Rattle.snesl.specs.Limits.{most_bytes, most_inputs, most_records, most_nesti
 use Rattle.snesl.specs.Values.{ValueType, scalar, braces, int, bool, depth_of, result_of}
 use Rattle.snesl.specs.Terms as terms
 use Rattle.snesl.specs.Terms.{◌∋◌, Term, any_type, listed_types, All, ∅, ◌▹◌}
-use Rattle.snesl.specs.Records
 use Rattle.snesl.specs.Records.{Raw, var, bind, const, truth, iota, operation, negation, sum, each, guard, Head, absent, over, single, letting, eaching, guarding, whole, operation_of, operation_head, head_at}
 use Rattle.snesl.specs.Records.{byte_at, mark_at, variable_at, variables_at, variables_ok, int_at, mark_vr, mark_lt, mark_kn, mark_kb, mark_io, mark_no, mark_sm, mark_ea, mark_gu}
 use Rattle.snesl.specs.Records.{Scanned, scanned, then_scan, too_deep, counted, scan, Input, Declared, declared, inputs_at, Front, front, expression_after, inputs_then, front_of, formula_end, read_formula, Texts, texts, texts_at, texts_then, JobRead, job, job_end, read_job, Span}
-use Rattle.snesl.specs.Checking
 use Rattle.snesl.specs.Checking.{Name, Found, missing, found, find, is_bound, as_scalar, as_int, as_bool, as_ints, Sequence, no_sequence, sequence, as_sequence, names, usable, NamedScalars, listed_scalars, listed_names, pointers, NamedListing, listed_any, any_names, any_pointers}
 use Rattle.snesl.specs.Checking.{Typed, typed, demand, typed_if, typed_sequence, typed_then, check, turned, context, input_names, repeated, check_inputs, check_formula}
 use Rattle.snesl.specs.Formed.{Formed, formed-var, formed-bind, formed-const, formed-truth, formed-iota, formed-operation, formed-negation, formed-sum, formed-each, formed-guard}

@@ -1,5 +1,5 @@
 -- Checking (002, 1.1.2; 01, refusals 5 and 6): from a raw formula to a typed expression. Names live beside the context, and only here.
-use Rattle.std.specs.Prelude.{ℕ, Bool, true, false, ◌&&◌, ◌||◌, not, List, [], ◌∷◌, map, eqb, ltb}
+use Rattle.std.specs.Prelude.{ℕ, Bool, true, false, ◌&&◌, ◌||◌, not, List, [], ◌∷◌, eqb, ltb}
 use Rattle.std.proofs.Math.Option.{Option, some, none}
 use Rattle.snesl.specs.declared.code.Base.{Base}
 use Rattle.snesl.specs.declared.code.Base.TheVariants as base

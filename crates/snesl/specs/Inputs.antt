@@ -4,7 +4,7 @@ use Rattle.std.proofs.Math.Option.{Option, some, none}
 use Rattle.snesl.specs.Values.{ValueType, depth_of, Val}
 use Rattle.snesl.specs.Terms.{All, ∅, ◌▹◌}
 use Rattle.snesl.specs.Trees.{Tree, IdTree, leaf, node, order}
-use Rattle.snesl.specs.Streams.{Store, contents, room}
+use Rattle.snesl.specs.Streams.{Store, room}
 use Rattle.snesl.specs.Representation.{represent}
 use Rattle.snesl.specs.Text.{value_of}
 use Rattle.snesl.specs.Records.{Input, Span}

@@ -1,12 +1,12 @@
 -- The listing (01, "Two programs, one job"): a program's text, a line for each instruction, and the result's tree.
-use Rattle.std.specs.Prelude.{ℕ, zero, suc, ◌+◌, true, false, List, [], ◌∷◌, ◌++◌, map, leb, ℤ, length}
+use Rattle.std.specs.Prelude.{ℕ, suc, ◌+◌, true, false, List, [], ◌∷◌, ◌++◌, map, leb, ℤ, length}
 use Rattle.std.proofs.Math.Option.{Option, some, none}
 use Rattle.snesl.specs.declared.code.Transducer.{Transducer}
 use Rattle.snesl.specs.declared.code.Base.TheVariants.{Int}
 use Rattle.snesl.specs.declared.refusal.Refusal.{Refusal}
 use Rattle.snesl.specs.declared.refusal.Refusal.TheVariants.{NoAnswerRoom}
 use Rattle.snesl.specs.Values.{ValueType}
-use Rattle.snesl.specs.Terms.{Term, All, ∅}
+use Rattle.snesl.specs.Terms.{Term, ∅}
 use Rattle.snesl.specs.Ascii.{ascii, pieces}
 use Rattle.snesl.specs.Text.{show_number, show_int, joined}
 use Rattle.snesl.specs.Trees.{Tree, leaf, node}

@@ -3,7 +3,7 @@ use Rattle.std.specs.Prelude.{ℕ, zero, suc, ◌+◌, Bool, true, false, List, 
 use Rattle.std.proofs.Math.Option.{Option, some, none, get_or}
 use Rattle.snesl.specs.declared.code.Transducer.{Transducer}
 use Rattle.snesl.specs.Streams.{Stream, ints, bools, flags, units, len, Store, ◌!◌, room}
-use Rattle.snesl.specs.Transducers.{Answer, made, unfit, negative, outside, apply, operands, empty}
+use Rattle.snesl.specs.Transducers.{made, unfit, negative, outside, apply, operands, empty}
 use Rattle.snesl.specs.Programs.{Program, done, define, with_ctrl}
 
 -- the store, and what has been spent on it

@@ -1,5 +1,5 @@
 -- The whole job (01): what a run of the job's bytes gives where so many stream elements and so many answer bytes are lent. The order of the refusals is 01's.
-use Rattle.std.specs.Prelude.{ℕ, zero, suc, ◌+◌, Bool, true, false, List, [], ◌∷◌, ◌++◌, leb, ℤ, pos, length, drop, replicate}
+use Rattle.std.specs.Prelude.{ℕ, true, false, List, [], ◌∷◌, ◌++◌, leb, ℤ, pos, length, drop, replicate}
 use Rattle.std.proofs.Math.Option.{Option, some, none}
 use Rattle.snesl.specs.declared.refusal.Refusal.{Refusal}
 use Rattle.snesl.specs.declared.refusal.Refusal.TheVariants.{TooLong, NoRecord, OverLimit, TooMany, Unbound, WrongType, NoValueText, NoValue, NoRoom, NoAnswerRoom, NoRepresentation}

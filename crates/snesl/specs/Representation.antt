@@ -1,5 +1,5 @@
 -- Values as streams and back (002, 1.4; 01, "Representation by itself"), for a list of values side by side: one value is a list of one.
-use Rattle.std.specs.Prelude.{ℕ, zero, suc, ◌+◌, Bool, true, false, ◌&&◌, List, [], ◌∷◌, ◌++◌, map, reverse, ◌≡◌, eqb, ℤ, length, replicate, take, drop}
+use Rattle.std.specs.Prelude.{ℕ, suc, Bool, true, false, ◌&&◌, List, [], ◌∷◌, ◌++◌, map, reverse, ◌≡◌, eqb, ℤ, length, replicate, take, drop}
 use Rattle.std.proofs.Math.Option.{Option, some, none}
 use Rattle.snesl.specs.declared.code.Base.{Base}
 use Rattle.snesl.specs.declared.code.Base.TheVariants as base

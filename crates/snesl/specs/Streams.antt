@@ -1,6 +1,6 @@
 -- Streams and the store (002, 1.2.1 and 1.2.2).
 -- The store is a list: a stream's id is its position, and executing a definition appends. So ids run up from 0 without gaps.
-use Rattle.std.specs.Prelude.{ℕ, zero, suc, ◌+◌, Bool, true, false, List, [], ◌∷◌, ◌++◌, map, ℤ, pos, length}
+use Rattle.std.specs.Prelude.{ℕ, ◌+◌, Bool, true, false, List, [], ◌∷◌, ◌++◌, map, ℤ, pos, length}
 use Rattle.std.proofs.Math.Option.{Option, some, none}
 use Rattle.std.proofs.Math.ListN.{get_elem?}
 use Rattle.snesl.specs.declared.code.Kind.{Kind}

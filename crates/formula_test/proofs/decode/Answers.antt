@@ -1,7 +1,6 @@
 -- The position stays within the line, and the count within the room.
-use Prim.Native.Nat.{◌-◌}
 use native.Mathlib.Omega.{arith}
-use lib.ListN.{length, length-set}
+use lib.ListN.{length-set}
 use Rattle.formula_test.proofs.decode.Goals as goal
 
 pub shape_of-out-then-line-at-lt2 : goal.shape_of-out-then-line-at-lt2

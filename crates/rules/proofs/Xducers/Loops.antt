@@ -1,5 +1,5 @@
 -- What holds of every transducer's rules: their streams have its kinds, and a derivation for n + 1 units is a block and one for n units.
-use Prim.Native.Nat.{ℕ, suc, ◌+◌}
+use Prim.Native.Nat.{ℕ, suc}
 use mathlib.Core.Bool.{Bool}
 use mathlib.Core.List.{List, [], ◌∷◌, ◌++◌, map}
 use mathlib.Core.Path.{◌≡◌, refl, ap, ◌∙◌}

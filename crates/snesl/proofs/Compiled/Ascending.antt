@@ -2,10 +2,9 @@
 use Prim.Native.Nat.{ℕ, ◌<◌}
 use native.Mathlib.Omega.{arith}
 use mathlib.Core.List.Memᴰ
-use mathlib.Core.List.{List, [], ◌∷◌}
+use mathlib.Core.List.{List, ◌∷◌}
 use mathlib.Core.Logic.{⊎_elim}
-use mathlib.Core.Path.{◌≡◌, refl, sym, ap₂, subst}
-use lib.ListN.{length}
+use mathlib.Core.Path.{◌≡◌, refl, sym, ap₂}
 use Rattle.snesl.specs.Programs.{Within, ascending}
 use Rattle.snesl.proofs.Compiled.Members.{◌∈◌, Ascends, none, next, of-ascending, to-ascending, ascending-ascends}
 

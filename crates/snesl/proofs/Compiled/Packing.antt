@@ -5,9 +5,7 @@ use native.Mathlib.Omega.{arith}
 use mathlib.Core.List.Memᴰ
 use mathlib.Core.List.{List, [], ◌∷◌, ◌++◌}
 use mathlib.Core.Logic.{◌⊎◌, inl, inr, ⊎_elim}
-use mathlib.Core.Path.{◌≡◌, refl, sym, ◌∙◌, ap, ap₂}
-use Rattle.snesl.specs.declared.code.Transducer.{Transducer}
-use Rattle.snesl.specs.Transducers.{operands}
+use mathlib.Core.Path.{◌≡◌, refl, ◌∙◌, ap₂}
 use Rattle.snesl.specs.Values.{ValueType, depth_of}
 use Rattle.snesl.specs.Terms.{Listing, All, lookup}
 use Rattle.snesl.specs.Trees.{Tree, IdTree, leaf, node, order}

@@ -9,7 +9,7 @@ use Rattle.snesl.specs.Terms.{Term, All}
 use Rattle.snesl.specs.Streams.{Store, room}
 use Rattle.snesl.specs.Trees.{IdTree, order}
 use Rattle.snesl.specs.Programs.{Program, dv, fv, Apart, Within, WellFormed, Scoped}
-use Rattle.snesl.specs.Machine.{State, Stop, full, went, stopped, run, boundless, holding}
+use Rattle.snesl.specs.Machine.{State, full, went, stopped, run, boundless, holding}
 use Rattle.snesl.specs.Translation.{size, tree, code}
 use Rattle.snesl.specs.Ids.{ids_of, Below}
 use Rattle.snesl.specs.Bounded.{Passes}

@@ -2,7 +2,6 @@
 use Prim.Native.Nat.{ℕ, ◌+◌, ◌-◌, ◌≤◌, ◌<◌}
 use mathlib.Core.Bool.{true, false}
 use mathlib.Core.List.{List, [], ◌∷◌, ◌++◌, map}
-use mathlib.Core.Path.{ap}
 use lib.IntN.{ℤ}
 use lib.ListN.{length, replicate}
 use Rattle.laws.proofs.Emits.{Emits}

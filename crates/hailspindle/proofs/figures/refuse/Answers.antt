@@ -5,4 +5,4 @@ use Rattle.hailspindle.specs.Replies.{noted}
 use Rattle.hailspindle.proofs.figures.refuse.Goals as goal
 
 pub returns : goal.returns
-returns c = record { value = c.number.ensures; figures_after = c.one.ensures ∙ ap (λ p. noted (p ∷ []) c.args.figures.now) c.place.ensures; }
+returns c = record { value = c.number.ensures; figures_after = c.one.ensures ∙ ap (λ p. noted (p ∷ []) c.args.figures.now) c.place.ensures }
