@@ -14,7 +14,10 @@ pub slice_bounds-perform-end-3 : goal.slice_bounds-perform-end-3
 slice_bounds-perform-end-3 t c = refl
 
 pub perform-performed-requires : goal.perform-performed-requires
-perform-performed-requires t c = record { admitted = (widened c.requires.task_bound.0 c.requires.admitted.0, c.requires.admitted.1); most_inputs_in_bounds = (omega arith, c.requires.task_bound.1, refl) }
+perform-performed-requires t c = record {
+  admitted = (widened c.requires.task_bound.0 c.requires.admitted.0, c.requires.admitted.1);
+  most_inputs_in_bounds = (omega arith, c.requires.task_bound.1, refl);
+}
 
 pub overflow_mul-task : goal.overflow_mul-task
 overflow_mul-task t c = omega (arith, c.requires.task_bound.0)

@@ -4,7 +4,10 @@ use Rattle.sheet.proofs.Performing.{valued-of, crowded, ready, low, halted, fini
 use Rattle.sheet.proofs.execution.perform.Goals as goal
 
 pub load-requires : goal.load-requires
-load-requires c = record { valued = (valued-of c.requires.admitted.0, c.requires.admitted.1); most_inputs_in_bounds = (c.requires.most_inputs_in_bounds.0, c.requires.most_inputs_in_bounds.1, c.requires.most_inputs_in_bounds.2) }
+load-requires c = record {
+  valued = (valued-of c.requires.admitted.0, c.requires.admitted.1);
+  most_inputs_in_bounds = (c.requires.most_inputs_in_bounds.0, c.requires.most_inputs_in_bounds.1, c.requires.most_inputs_in_bounds.2);
+}
 
 pub walk-requires : goal.walk-requires
 walk-requires c = let here = c.requires.admitted.0 in

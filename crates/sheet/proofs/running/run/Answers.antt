@@ -15,7 +15,10 @@ slice_bounds-execute-end-in-Admitted-2 c = sym (length-take-le c.used_part-used.
 
 pub execute-requires : goal.execute-requires
 execute-requires c = let taken = taken_in c.args.job.now c.in-Admitted.task (sym c.in-Admitted.is ∙ c.admit.ensures.value) in
-    let long = length-take-le c.used_part-used.result c.args.streams.now (omega (arith, c.used_part-used.ensures)) in record { admitted = (taken.0, counted_of taken.0 (replicate 144 0) c.admit.ensures.counts_after (omega arith) c.admit.auto.counts); task_bound = (taken.1, omega (arith, long, c.used_part-used.ensures)) }
+    let long = length-take-le c.used_part-used.result c.args.streams.now (omega (arith, c.used_part-used.ensures)) in record {
+      admitted = (taken.0, counted_of taken.0 (replicate 144 0) c.admit.ensures.counts_after (omega arith) c.admit.auto.counts);
+      task_bound = (taken.1, omega (arith, long, c.used_part-used.ensures));
+    }
 
 pub returns-in-Refused : goal.returns-in-Refused
 returns-in-Refused c =
