@@ -1,11 +1,9 @@
 -- The first scene of a listing: the inputs as empty streams of their kinds, which take no room, so that each stands at 0 and is 0 long.
-use Prim.Native.Nat.{ℕ, zero, suc, ◌+◌, ◌≤◌}
+use Prim.Native.Nat.{ℕ, zero, suc, ◌+◌}
 use native.Mathlib.Omega.{arith}
-use native.Mathlib.Nat.{add-zero}
 use mathlib.Core.List.{List, [], ◌∷◌, ◌++◌, append_assoc, append-nil}
 use mathlib.Core.Option.{some}
 use mathlib.Core.Path.{◌≡◌, refl, sym, ap, ap₂, ◌∙◌, subst}
-use lib.IntN.{ℤ}
 use lib.ListN.{length, take, length-append}
 use Rattle.snesl.specs.declared.code.Kind.{Kind}
 use Rattle.snesl.specs.declared.code.Kind.TheVariants.{Ints, Bools, Flags, Units}
@@ -14,12 +12,12 @@ use Rattle.snesl.specs.declared.code.Base.TheVariants as base
 use Rattle.snesl.specs.Values.{ValueType, scalar, braces, depth_of}
 use Rattle.snesl.specs.Terms.{All, ∅, ◌▹◌}
 use Rattle.snesl.specs.Trees.{Tree, IdTree, leaf, node, map_tree}
-use Rattle.snesl.specs.Streams.{Stream, flags, data_of, len, bare, Store, ◌!◌, contents, room}
+use Rattle.snesl.specs.Streams.{flags, data_of, len, bare, Store, ◌!◌, contents}
 use Rattle.snesl.specs.Checking.{turned_onto, turned}
 use Rattle.snesl.specs.Inputs.{input_tree, input_trees, input_start}
-use Rattle.steps.specs.Holding.{place, start_of, length_in, length_of}
+use Rattle.steps.specs.Holding.{place, start_of, length_of}
 use Rattle.steps.proofs.Stores.{newest}
-use Rattle.leaves.specs.Places.{places, Shapely, shapely-leaf, shapely-node, Shaped, shaped-none, shaped-more}
+use Rattle.leaves.specs.Places.{places, Shapely, shapely-leaf, shapely-node, Shaped, shaped-more}
 use Rattle.leaves.proofs.Places.{shapely-kept, shaped-kept}
 use Rattle.lister.specs.Inputs.{placed, places_of, places_in}
 use Rattle.lister.specs.Lists.{Bare, bare-none, bare-more}

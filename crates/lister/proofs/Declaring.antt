@@ -16,7 +16,6 @@ use Rattle.snesl.specs.declared.code.Base.{Base}
 use Rattle.snesl.specs.Values.{ValueType, depth_of}
 use Rattle.snesl.specs.Terms.{All, ∅, ◌▹◌}
 use Rattle.snesl.specs.Trees.{IdTree}
-use Rattle.snesl.specs.Records as records
 use Rattle.snesl.specs.Records.{byte_at, mark_at, Input, input_base, input_at, Declared, declared, input_first, input_ok, inputs_at}
 use Rattle.snesl.specs.Checking.{Name, turned_onto, turned, input_type, input_types, input_names}
 use Rattle.snesl.specs.Inputs.{input_tree, input_trees, input_start}
@@ -25,7 +24,6 @@ use Rattle.environment.specs.Words.{tree_words, tree_size, spelled}
 use Rattle.environment.proofs.Finding.{length-tree}
 use Rattle.environment.proofs.Entries.{bound}
 use Rattle.environment.proofs.Stack.{from-written, length-written}
-use Rattle.lister.specs.declared.inputs.Inputs.{Inputs}
 use Rattle.lister.specs.Inputs.{places_of, places_in, Declares, Enters}
 
 -- ---- the first input of some

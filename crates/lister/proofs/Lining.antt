@@ -8,28 +8,25 @@ use lib.ListN.{length, get_or, take, drop, replicate, length-append}
 use Rattle.snesl.specs.declared.refusal.Refusal.{Refusal}
 use Rattle.snesl.specs.Limits.{most_nesting}
 use Rattle.snesl.specs.Values.{depth_of}
-use Rattle.snesl.specs.Streams.{contents, room}
+use Rattle.snesl.specs.Streams.{contents}
 use Rattle.snesl.specs.Programs.{Program}
 use Rattle.snesl.specs.Translation.{tree, code}
-use Rattle.snesl.specs.Machine.{State, Result, went, skip}
+use Rattle.snesl.specs.Machine.{State, went, skip}
 use Rattle.snesl.specs.Listing.{lines_of, result_line}
 use Rattle.snesl.specs.Trees.{map_tree}
 use Rattle.decimals.specs.Writing.{Writes}
 use Rattle.environment.specs.Words.{spelled, tree_words, tree_size}
 use Rattle.sink.specs.Sinks.{Sink, listing, far, feed}
 use Rattle.sink.specs.Sunk.{Sunk}
-use Rattle.sink.specs.Trees.{Placing}
 use Rattle.sink.proofs.Sinking.{landed, at-word}
 use Rattle.sink.proofs.Feeding.{feed-listing}
-use Rattle.steps.specs.Holding.{counters, Held, place}
+use Rattle.steps.specs.Holding.{Held, place}
 use Rattle.steps.specs.Walking.{walked}
 use Rattle.leaves.specs.Places.{places}
 use Rattle.leaves.specs.Scenes.{Scene, Left, answer, Runs}
 use Rattle.leaves.specs.declared.Walked.{Walked}
 use Rattle.leaves.specs.declared.Walked.TheVariants as walks
 use Rattle.runner.specs.Walks.{Ready}
-use Rattle.lister.specs.declared.list.Lines.{Lines}
-use Rattle.lister.specs.Inputs.{places_in}
 use Rattle.lister.specs.Lists.{WholeReady, Lined, whole_text}
 use Rattle.lister.proofs.Bare.{bare-contents, bare-places}
 

@@ -3,7 +3,7 @@ use Prim.Native.Nat.{ℕ, zero, suc, ◌+◌, ◌-◌, ◌*◌, ◌≤◌, ◌<�
 use native.Mathlib.Omega.{arith}
 use mathlib.Core.Bool.{Bool, true, false}
 use mathlib.Core.List.Memᴰ
-use mathlib.Core.List.{List, [], ◌∷◌, ◌++◌, append-nil}
+use mathlib.Core.List.{List, [], ◌∷◌, ◌++◌}
 use mathlib.Core.Logic.{⊎_elim}
 use mathlib.Core.Path.{◌≡◌, refl, sym, ap, ◌∙◌, subst}
 use borrow.Author.Tests.{le-leb, lt-leb}
@@ -18,19 +18,16 @@ use Rattle.snesl.specs.declared.code.Base.{Base}
 use Rattle.snesl.specs.Values.{ValueType, depth_of}
 use Rattle.snesl.specs.Terms.{All, ∅, ◌▹◌}
 use Rattle.snesl.specs.Trees.{IdTree, order}
-use Rattle.snesl.specs.Programs.{count}
 use Rattle.snesl.specs.Translation.{size, tree, code}
 use Rattle.snesl.specs.Ids.{ids_of, Below}
-use Rattle.snesl.specs.Records as records
 use Rattle.snesl.specs.Records.{byte_at, Input, Raw, declared, input_at, inputs_at, Front, front, front_of, formula_end, read_formula}
-use Rattle.snesl.specs.Checking as checking
 use Rattle.snesl.specs.Checking.{Typed, typed, context, turned_onto, turned, input_type, input_types, input_names, check_formula}
 use Rattle.snesl.specs.Inputs.{input_tree, input_trees, input_start}
 use Rattle.snesl.specs.Listing as listing
 use Rattle.snesl.specs.Listing.{lines_of, result_line, room_for, listed_typed, listed_front}
 use Rattle.snesl.proofs.Types.{depth-of-type}
 use Rattle.snesl.proofs.Compiled.Members.{◌∈◌}
-use Rattle.snesl.proofs.Compiled.Freshness.{count_code, defined-next, result-ids}
+use Rattle.snesl.proofs.Compiled.Freshness.{defined-next, result-ids}
 use Rattle.snesl.proofs.Formed.{FrontRead, FormulaFormed, formula-read, formula-formed}
 use Rattle.decimals.specs.Writing.{Writes}
 use Rattle.decimals.proofs.Stores.{sets-none}
@@ -43,10 +40,9 @@ use Rattle.checking.proofs.Entering.{few}
 use Rattle.environment.specs.Words.{spelled}
 use Rattle.environment.specs.Needs.{words}
 use Rattle.sink.specs.Sinks.{far}
-use Rattle.leaves.specs.Places.{Shallow, shallow-none, shallow-more, Shaped, shaped-none, most_words}
+use Rattle.leaves.specs.Places.{Shallow, shallow-none, shallow-more, shaped-none, most_words}
 use Rattle.runner.proofs.Measures.{spans, shallow-type, words-most}
 use Rattle.lister.specs.declared.inputs.Inputs.{Inputs}
-use Rattle.lister.specs.declared.list.Listed.{Listed}
 use Rattle.lister.specs.declared.list.Listed.TheVariants.{Length, Refused}
 use Rattle.lister.specs.Inputs.{places_in, Declares, Enters}
 use Rattle.lister.specs.Lists.{whole_text, WholeReady, Found, listed_answer, text_after}

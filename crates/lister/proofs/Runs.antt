@@ -8,7 +8,7 @@ use lib.ListN.{length, length-append}
 use Rattle.laws.specs.Parts.{written}
 use lib.Seq.{sets}
 use Rattle.laws.proofs.Parts.{sets-written, sets-append}
-use Rattle.snesl.specs.Trees.{Tree, order}
+use Rattle.snesl.specs.Trees.{order}
 use Rattle.snesl.specs.Inputs.{input_tree}
 use Rattle.environment.specs.Words.{tree_words}
 use Rattle.environment.proofs.Stack.{length-written}

@@ -8,7 +8,7 @@ use mathlib.Core.List.Memᴰ
 use mathlib.Core.List.{List, [], ◌∷◌, ◌++◌, append-nil}
 use mathlib.Core.Logic.{⊎_elim}
 use mathlib.Core.Path.{◌≡◌, refl, ap, ◌∙◌, subst}
-use lib.Dec.{eqb, ltb}
+use lib.Dec.{ltb}
 use lib.IntN.{ℤ, pos, negsuc}
 use lib.ListN.{length, get_or, length-append}
 use lib.Signed.{mag}
@@ -30,17 +30,14 @@ use Rattle.snesl.specs.Records as records
 use Rattle.snesl.specs.Checking.{Name, pointers, any_pointers}
 use Rattle.snesl.specs.Listing.{id_text, ids_text, name_text, define_line, with_ctrl_line, close_line, lines_of, tree_text, result_line}
 use Rattle.snesl.specs.Formed.{Formed, formed-var, formed-bind, formed-const, formed-truth, formed-iota, formed-operation, formed-negation, formed-sum, formed-each, formed-guard}
-use Rattle.snesl.proofs.Compiled.Members.{◌∈◌, of-among, to-among, of-ascending}
-use Rattle.snesl.proofs.Compiled.Ascending.{ascending-same}
+use Rattle.snesl.proofs.Compiled.Members.{◌∈◌, of-among, of-ascending}
 use Rattle.snesl.proofs.Compiled.Freshness.{copies, front, code-each, lead, ones, totals, code-iota, gate, count-gate, code-guard, count-front, count_code, ids-root, ids-outer, ids-lookup, order-inner, order-root, defined-next, free-ids}
 use Rattle.snesl.proofs.Compiled.Packing.{count-pack, defined-pack, free-pack}
 use Rattle.snesl.proofs.Compiled.WellFormed.{below-result, below-within, below-packed}
 use Rattle.decimals.proofs.NumberWriting.{at-most-20}
-use Rattle.lines.specs.Pieces.{next_text, rest_text}
-use Rattle.lines.proofs.IdLists.{ids-text}
 use Rattle.records.specs.declared.head.Shape.{Shape}
 use Rattle.records.proofs.Heads.{Reading, none, beyond, a_var, a_let, a_const, a_truth, an_iota, an_operation, a_negation, a_sum, an_each, a_guard, reading}
-use Rattle.sink.proofs.Shorts.{Small, id-short, rest-short, ids_short, ascending-length}
+use Rattle.sink.proofs.Shorts.{Small, id-short, ids_short, ascending-length}
 use Rattle.sink.proofs.Using.{none-small, one-small, two-small}
 use Rattle.sink.proofs.Surveying.{within-length}
 use Rattle.sink.proofs.Feeding.{lines-seq}

@@ -12,7 +12,7 @@ use Rattle.snesl.proofs.Types.{depth-of-type}
 use Rattle.formula.specs.Declarations.{base_at}
 use Rattle.environment.specs.Words.{PlaceTree, tree_words, spelled}
 use Rattle.environment.proofs.Finding.{length-tree}
-use Rattle.leaves.specs.Places.{Shallow, shallow-none, shallow-more}
+use Rattle.leaves.specs.Places.{Shallow, shallow-more}
 use Rattle.inputs.specs.Loading.{binding_words}
 use Rattle.inputs.proofs.Supplying.{Supplied, supplied-none, supplied-more}
 use Rattle.sheet.specs.declared.admission.Task.{Task}

@@ -1,6 +1,5 @@
 -- i inputs are entered.
 use native.Mathlib.Omega.{arith}
-use Prim.Native.Nat.{◌-◌}
 use mathlib.Core.Path.{refl}
 use Rattle.lister.proofs.Declaring as declaring
 use Rattle.lister.proofs.inputs.enter_inputs.Goals as goal

@@ -1,6 +1,5 @@
 -- i places are put.
 use native.Mathlib.Omega.{arith}
-use Prim.Native.Nat.{◌-◌}
 use Rattle.lister.proofs.Runs.{put-none, put-length, put_one, put_all}
 use Rattle.lister.proofs.inputs.put_places.Goals as goal
 

@@ -1,8 +1,8 @@
 -- The first i starts are there.
-use Prim.Native.Nat.{ℕ, ◌+◌, ◌*◌, ◌-◌}
+use Prim.Native.Nat.{ℕ, ◌+◌, ◌*◌}
 use mathlib.Core.Path.{refl}
 use native.Mathlib.Omega.{arith}
-use lib.ListN.{length, get_or, length-set}
+use lib.ListN.{get_or, length-set}
 use Rattle.sheet.proofs.Starts.{filled_on}
 use Rattle.sheet.proofs.result.tree_starts.Goals as goal
 

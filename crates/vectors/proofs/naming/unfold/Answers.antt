@@ -1,5 +1,5 @@
 -- The count stays within the room.
-use Rattle.std.proofs.Common.{◌-◌, length, arith, length-set}
+use Rattle.std.proofs.Common.{arith, length-set}
 use Rattle.io.proofs.Counting.{prefix_len_of_le}
 use Rattle.vectors.proofs.naming.unfold.Goals as goal
 

@@ -1,5 +1,5 @@
 -- The count stays within the room.
-use Rattle.std.proofs.Common.{◌-◌, length, arith, length-set}
+use Rattle.std.proofs.Common.{arith, length-set}
 use Rattle.vectors.proofs.showing.read_elements.Goals as goal
 
 pub offset_bounds-elements-n : goal.offset_bounds-elements-n

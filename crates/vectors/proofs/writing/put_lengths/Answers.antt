@@ -1,5 +1,5 @@
 -- The end stays within the text.
-use Rattle.std.proofs.Common.{◌-◌, length, arith}
+use Rattle.std.proofs.Common.{arith}
 use Rattle.vectors.proofs.writing.put_lengths.Goals as goal
 
 pub loop-i-preserved : goal.loop-i-preserved
