@@ -76,6 +76,8 @@ def respelled(name):
 
 
 def main():
+    if sys.argv[1:] not in ([], ["--dry"]):
+        sys.exit(__doc__)
     texts = {}
     for path in files():
         with open(path, encoding="utf-8") as f:

@@ -8,7 +8,7 @@ use std::process::{Command, Stdio};
 /// The program says that its input is longer than it reads where it reads this many bytes.
 const READ: usize = 131_072;
 
-/// Runs a proved program, named as its argument, on any processor.
+/// Runs a proved program, named as its argument.
 const RUNS_A_PROGRAM: &str = concat!(env!("CARGO_MANIFEST_DIR"), "/../../tools/program");
 
 /// Lines to run together, each with the seed of its case.

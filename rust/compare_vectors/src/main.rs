@@ -1,8 +1,7 @@
 //! The program `compare_vectors`: random jobs as vector lines with the model's answers, through the
 //! proved program `vectors`, which runs each through the library and tells which differ.
 //!
-//! The library itself is x86-64 code and links into no program of another processor; the program
-//! runs on any. A line that it would not read whole is counted and told, not run.
+//! It links nothing. A line that the program would not read whole is counted and told, not run.
 
 #![forbid(unsafe_code)]
 
