@@ -1,14 +1,18 @@
-// What the programs share of standard input and output: input is read until it ends or the buffer is full.
+// What the programs share of standard input: it is read until it ends or the buffer is full.
 #![tactic(auto)]
 
-ghost use Rattle.std.specs.Prelude.{◌≤◌, length, IfOk};
+ghost use Rattle.std.specs.Prelude.{◌<◌, ◌≤◌, length, take, IfOk};
+ghost use Rattle.std.specs.Io.KnownBytes.{Consumes, IsAtEnd};
 
 use std::io;
 use std::io::Read;
 
-// How many bytes were read: the buffer holds the input's first bytes, all of them where the buffer is longer than the input.
+// How many bytes were read: the reader's first ones, which stand at the buffer's start, and all of them where there is room left. Of a reader whose bytes are
+// known the contract leaves one answer and one such start; of standard input no contract can say what it gives.
 pub fn read_full<R: Read>(from: &mut R, bytes: &mut [u8]) -> io::Result<usize>
-    ensures { IfOk result (λ n. n ≤ length bytes.new) }
+    ensures within { IfOk result (λ n. n ≤ length bytes.new) }
+    ensures first { IfOk result (λ n. Consumes (R.remaining from.old) (R.remaining from.new) (take n bytes.new)) }
+    ensures all { IfOk result (λ n. n < length bytes.new → IsAtEnd (R.remaining from.new)) }
 {
     let mut n = 0;
     while n < bytes.len() {
