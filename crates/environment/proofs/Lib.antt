@@ -1,4 +1,3 @@
 pub mod Stack
 pub mod Finding
-pub mod Moving
 pub mod Entries

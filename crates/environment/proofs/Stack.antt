@@ -1,14 +1,14 @@
 -- What stands from a position of a list on, over any element type: a stack that grows down is read and written by these.
 use Prim.Native.Nat.{ℕ, ◌+◌, ◌-◌, ◌≤◌, ◌<◌}
 use mathlib.Core.Path.{◌≡◌, refl, sym, ◌∙◌, ap}
-use mathlib.Core.List.{List, [], ◌∷◌, ◌++◌, append_assoc}
+use mathlib.Core.List.{List, ◌∷◌, ◌++◌, append_assoc}
 use native.Mathlib.Nat.{add-zero}
-use native.Mathlib.Numerals.{add-one, add-two}
 use native.Mathlib.Omega.{arith}
-use lib.ListN.{length, get_or, take, drop, set, length-append, length-take, length-drop, take-append-drop}
-use lib.Seq.{sets, length-sets, drop-drop, drop_at, take_at, take-take, take-add, get_or-drop, length-take-le}
+use lib.ListN.{length, get_or, take, drop, length-append, length-take, length-drop, take-append-drop}
+use borrow.Rule.Slice.PartMut.{put_mid}
+use lib.Seq.{paste, sets, length-sets, drop-drop, drop_at, take_at, take-take, take-add, get_or-drop, length-take-le}
 use Rattle.laws.specs.Parts.{part, written}
-use Rattle.laws.proofs.Parts.{sets-append, sets-written}
+use Rattle.laws.proofs.Parts.{length_part, sets-append, sets-written}
 
 module _ {A : Type 0} where
   -- an element and what stands behind it
@@ -70,11 +70,14 @@ module _ {A : Type 0} where
       ap (λ j. drop j l) (sym q)
       ∙ (sym (drop-drop (k - p) p l) ∙ (ap (drop (k - p)) e ∙ (drop-drop (k - p) p l' ∙ ap (λ j. drop j l') q)))
 
+  parted-any : (l : List A) (at : ℕ) (w : List A) → written at w l ≡ take at l ++ (w ++ drop (at + length w) l)
+  unfolding written
+  parted-any l at w = append_assoc (take at l) w (drop (at + length w) l)
+
   -- words written at a place
   module _ (l : List A) (at : ℕ) (w : List A) (h : at + length w ≤ length l) where
     parted : written at w l ≡ take at l ++ (w ++ drop (at + length w) l)
-    unfolding written
-    parted = append_assoc (take at l) w (drop (at + length w) l)
+    parted = parted-any l at w
 
     long : length (take at l) ≡ at
     long = length-take-le at l (omega arith)
@@ -96,13 +99,14 @@ module _ {A : Type 0} where
     pub below-written : take at (written at w l) ≡ take at l
     below-written = rw parted (take_at (take at l) (w ++ drop (at + length w) l) at long)
 
-  -- words stored one by one
-  pub two-written : (l : List A) (at : ℕ) (a b : A) → at + 2 ≤ length l → set (set l at a) (at + 1) b ≡ written at (a ∷ b ∷ []) l
-  two-written l at a b h = rw add-one (sets-written at (a ∷ b ∷ []) l h)
+  -- a part that holds these words now, after a copy to it
+  pub copied : (l : List A) (at n : ℕ) (w now : List A) → now ≡ w → n ≡ length w → put_mid at n l now ≡ written at w l
+  copied l at n w now e k = rw (e, k, parted-any l at w) (ap (λ r. take at l ++ (w ++ r)) (drop-drop (length w) at l))
 
-  pub three-written : (l : List A) (at : ℕ) (a b c : A) → at + 3 ≤ length l
-      → set (set (set l at a) (at + 1) b) (at + 2) c ≡ written at (a ∷ b ∷ c ∷ []) l
-  three-written l at a b c h = rw (add-one, add-two) (sets-written at (a ∷ b ∷ c ∷ []) l h)
+  -- a part copied to another place
+  pub moved : (l : List A) (from to count n : ℕ) → from + count ≤ length l → n ≡ count → paste l to (drop from l) n ≡ written to (part from count l) l
+  unfolding written part
+  moved l from to count n h e = rw e (ap (λ k. take to l ++ take count (drop from l) ++ drop (to + k) l) (sym (length_part from count l h)))
 
   -- n words just below a place
   pub lowered : (l : List A) (sp n : ℕ) (w : List A) → length w ≡ n → n ≤ sp → sp ≤ length l → drop (sp - n) (written (sp - n) w l) ≡ w ++ drop sp l

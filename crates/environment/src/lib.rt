@@ -1,6 +1,9 @@
 // The stack of words that a walk over a formula's bytes keeps its environment on (specs/Words.antt).
 #![tactic(auto)]
 
+pub mod machine;
+pub mod stacks;
+
 ghost use Rattle.std.specs.Prelude.{◌≡◌, [], ◌∷◌, ◌⊎◌, ◌+◌, ◌-◌, ◌≤◌, ◌<◌, length};
 ghost use Rattle.laws.specs.Parts.{part, written};
 ghost use Rattle.snesl.specs.Terms.{lookup};
@@ -13,9 +16,9 @@ pub fn find(env: &[u32], sp: usize, x: Variable) -> usize
     requires { Sought env.now sp x }
     ensures { (g : Sought env.now sp x) → Entry env.now sp result (lookup g.pointer g.trees) }
 {
-    let name = x.0 as u32;
+    // An entry's own words say where the next one stands, so that no range or iterator has these places.
     let mut p = sp;
-    while env[p] != name {
+    while env[p] != u32::from(x.0) {
         p += 5 + 3 * env[p + 1] as usize;
     }
     p
@@ -26,11 +29,7 @@ pub fn move_words(env: &mut [u32], from: usize, to: usize, count: usize)
     requires { (from + count ≤ length env.old) × (to + count ≤ length env.old) × ((from ≤ to) ⊎ (to + count ≤ from)) }
     ensures { env.new ≡ written to (part from count env.old) env.old }
 {
-    let mut i = count;
-    while 0 < i {
-        i -= 1;
-        env[to + i] = env[from + i];
-    }
+    env.copy_within(from..from + count, to);
 }
 
 // One stream's three words.
@@ -38,9 +37,7 @@ pub fn put_place(env: &mut [u32], at: usize, id: usize, first: usize, second: us
     requires { (at + 3 ≤ length env.old) × (id < 4294967296) × (first < 4294967296) × (second < 4294967296) }
     ensures { env.new ≡ written at (id ∷ first ∷ second ∷ []) env.old }
 {
-    env[at] = id as u32;
-    env[at + 1] = first as u32;
-    env[at + 2] = second as u32;
+    env[at..at + 3].copy_from_slice(&[id as u32, first as u32, second as u32]);
 }
 
 // The two words that make a binding of the tree whose words follow them.
@@ -48,8 +45,7 @@ pub fn put_name(env: &mut [u32], at: usize, x: Variable, depth: usize)
     requires { (at + 2 ≤ length env.old) × (depth < 4294967296) }
     ensures { env.new ≡ written at (x.0 ∷ depth ∷ []) env.old }
 {
-    env[at] = x.0 as u32;
-    env[at + 1] = depth as u32;
+    env[at..at + 2].copy_from_slice(&[u32::from(x.0), depth as u32]);
 }
 
 // A tree of this depth whose words stand just below sp becomes a binding of x in place; where it starts.

@@ -6,21 +6,12 @@ ghost use Rattle.laws.specs.Range.{fitting, held_of};
 pub fn in_range(z: i64) -> bool
     ensures { result ≡ fitting z }
 {
-    if z < -2147483648 {
-        return false;
-    }
-    if 2147483647 < z {
-        return false;
-    }
-    true
+    i32::try_from(z).is_ok()
 }
 
 // The same number in 32 bits where they hold it, and else 0: a loop that a number out of range doesn't end stores this.
 pub fn held(z: i64) -> i32
     ensures { result ≡ held_of z }
 {
-    if in_range(z) {
-        return z as i32;
-    }
-    0
+    i32::try_from(z).unwrap_or(0)
 }

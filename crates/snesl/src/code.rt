@@ -2,22 +2,22 @@
 // type of its own, and only an environment maps one to the other.
 
 // The name of a value in a formula.
-#[derive(Clone, Copy)]
+#[derive(Clone, Copy, Debug, PartialEq, Eq)]
 pub struct Variable(pub u8);
 
 // The name of a stream: its position among all streams of a run, inputs first.
-#[derive(Clone, Copy)]
+#[derive(Clone, Copy, Debug, PartialEq, Eq)]
 pub struct StreamId(pub usize);
 
 // What a scalar is (001: int and bool).
-#[derive(Clone, Copy)]
+#[derive(Clone, Copy, Debug, PartialEq, Eq)]
 pub enum Base {
     Int,
     Bool,
 }
 
 // What the elements of a stream are. Bools are data, as ints are; flags only say where segments end.
-#[derive(Clone, Copy)]
+#[derive(Clone, Copy, Debug, PartialEq, Eq)]
 pub enum Kind {
     Ints,
     Bools,
@@ -26,7 +26,7 @@ pub enum Kind {
 }
 
 // A scalar operation on two ints.
-#[derive(Clone, Copy)]
+#[derive(Clone, Copy, Debug, PartialEq, Eq)]
 pub enum Operation {
     Plus,
     LessEqual,
@@ -34,7 +34,7 @@ pub enum Operation {
 }
 
 // A transducer (002's Xducer) with its own operands: stream ids, and the constant where it has one.
-#[derive(Clone, Copy)]
+#[derive(Clone, Copy, Debug, PartialEq, Eq)]
 pub enum Transducer {
     Const(i32),
     ConstBool(bool),
@@ -51,7 +51,7 @@ pub enum Transducer {
 }
 
 // One line of stream code. What a WithCtrl takes in and puts out are lists and stand beside it: an enum can hold no array.
-#[derive(Clone, Copy)]
+#[derive(Clone, Copy, Debug, PartialEq, Eq)]
 pub enum Instruction {
     Define(StreamId, Transducer),
     WithCtrl(StreamId),

@@ -1,5 +1,11 @@
 // Why a call has no answer, and where (document 01, "Refusal numbers"). specs/Refusals.antt gives each its number and its place.
-#[derive(Clone, Copy)]
+ghost use Rattle.std.specs.Prelude.{◌≡◌};
+ghost use Rattle.snesl.specs.Refusals.{number, place};
+
+use std::error::Error;
+use std::fmt;
+
+#[derive(Clone, Copy, Debug, PartialEq, Eq)]
 pub enum Refusal {
     // 1: over the byte limit.
     TooLong,
@@ -24,3 +30,50 @@ pub enum Refusal {
     // 11: streams that represent no value.
     NoRepresentation(usize),
 }
+
+impl Refusal {
+    pub fn number(self) -> u64
+        ensures { result ≡ number self }
+    {
+        match self {
+            Refusal::TooLong => 1,
+            Refusal::NoRecord(_) => 2,
+            Refusal::OverLimit(_) => 3,
+            Refusal::TooMany(_) => 4,
+            Refusal::Unbound(_) => 5,
+            Refusal::WrongType(_) => 6,
+            Refusal::NoValueText(_) => 7,
+            Refusal::NoValue(_) => 8,
+            Refusal::NoRoom(_) => 9,
+            Refusal::NoAnswerRoom(_) => 10,
+            Refusal::NoRepresentation(_) => 11,
+        }
+    }
+
+    // A formula or a job that is too long is refused at 0.
+    pub fn place(self) -> usize
+        ensures { result ≡ place self }
+    {
+        match self {
+            Refusal::TooLong => 0,
+            Refusal::NoRecord(place)
+            | Refusal::OverLimit(place)
+            | Refusal::TooMany(place)
+            | Refusal::Unbound(place)
+            | Refusal::WrongType(place)
+            | Refusal::NoValueText(place)
+            | Refusal::NoValue(place)
+            | Refusal::NoRoom(place)
+            | Refusal::NoAnswerRoom(place)
+            | Refusal::NoRepresentation(place) => place,
+        }
+    }
+}
+
+impl fmt::Display for Refusal {
+    fn fmt<W: fmt::Write>(&self, f: &mut fmt::Formatter<W>) -> fmt::Result {
+        write!(f, "refused {} at {}", self.number(), self.place())
+    }
+}
+
+impl Error for Refusal {}

@@ -1,11 +1,7 @@
--- Two stores one after the other.
-use native.Mathlib.Omega.{arith}
-use lib.ListN.{length-set}
-use Rattle.environment.proofs.Stack.{two-written}
+-- The two words are copied to their part.
+use Rattle.std.proofs.Common.{◌∙◌, ap, ◌∷◌, [], arith}
+use Rattle.environment.proofs.Stack.{copied}
 use Rattle.environment.proofs.put_name.Goals as goal
 
-pub bounds-env-at-2 : goal.bounds-env-at-2
-bounds-env-at-2 c = simp length-set (omega arith)
-
 pub returns : goal.returns
-returns c = two-written c.args.env.now c.args.at c.args.x.0 c.args.depth c.requires.0
+returns c = copied _ _ _ _ _ (c.copy_from_slice.ensures.after ∙ ap (λ v. v ∷ c.args.depth ∷ []) c.from.ensures) (omega arith)
