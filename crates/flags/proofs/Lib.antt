@@ -1,4 +1,4 @@
 pub mod Clauses
 pub mod Fronts
-pub mod Standing
 pub mod Stored
+pub mod Written

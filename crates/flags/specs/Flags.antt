@@ -1,16 +1,8 @@
--- What the functions that read flags answer, by the definitions.
-use Rattle.std.specs.Prelude.{ℕ, Bool, true, false}
+-- What the functions that read flags answer, of what the definitions say.
+use Rattle.std.specs.Prelude as rust
 use Rattle.std.proofs.Math.Option.{Option, some, none}
-use Rattle.flags.specs.declared.reading.Flag.{Flag}
-use Rattle.flags.specs.declared.reading.Flag.TheVariants.{F, T, Neither}
-use Rattle.flags.specs.declared.reading.Shape.{Shape}
-use Rattle.flags.specs.declared.reading.Shape.TheVariants.{Whole, Ragged}
 
-abbrev pub flag_for : Option Bool → Flag
-flag_for none = Neither
-flag_for (some false) = F
-flag_for (some true) = T
-
-abbrev pub shape_for : Option ℕ → Shape
-shape_for none = Ragged
-shape_for (some n) = Whole n
+-- a value that is there or not
+abbrev pub found : {A : Type 0} → Option A → rust.Option A
+found none = rust.None
+found (some a) = rust.Some a

@@ -5,5 +5,5 @@
 pub mod reading;
 mod writing;
 
-pub use reading::{flag_at, next_end, segments};
+pub use reading::{flag_at, next_end, next_segment, segments};
 pub use writing::put_segment;

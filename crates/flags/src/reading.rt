@@ -1,83 +1,63 @@
 // Flags are read here.
-ghost use Rattle.std.specs.Prelude.{◌≡◌, false, ◌+◌, ◌≤◌, ◌<◌, pos, length, drop, get_or};
-ghost use Rattle.laws.specs.Parts.{part};
+ghost use Rattle.std.specs.Prelude.{◌≡◌, false, ◌+◌, ◌<◌, pos, length, drop, get_or};
 ghost use Rattle.snesl.specs.Transducers.{flag_of};
 ghost use Rattle.flags.specs.Segments.{leading, wholes};
-ghost use Rattle.flags.specs.Flags.{flag_for, shape_for};
+ghost use Rattle.flags.specs.Flags.{found};
 
-// An element read as a flag.
-#[derive(Clone, Copy)]
-pub enum Flag {
-    F,
-    T,
-    Neither,
-}
-
-// So many whole segments, or flags that are none: the last T is missing, or an element is no flag.
-#[derive(Clone, Copy)]
-pub enum Shape {
-    Whole(usize),
-    Ragged,
-}
-
-// One flag.
-pub fn flag_at(buf: &[i32], at: usize) -> Flag
+// One flag, T as true; an element may be none.
+pub fn flag_at(buf: &[i32], at: usize) -> Option<bool>
     requires { at < length buf.now }
-    ensures { result ≡ flag_for (flag_of (get_or buf.now at (pos 0))) }
+    ensures { result ≡ found (flag_of (get_or buf.now at (pos 0))) }
 {
-    let z = buf[at];
-    if z == 0 {
-        return Flag::F;
+    match buf[at] {
+        0 => Some(false),
+        1 => Some(true),
+        _ => None,
     }
-    if z == 1 {
-        return Flag::T;
-    }
-    Flag::Neither
 }
 
-// How many segments the `len` flags at `at` are. No flag ends the loop, so that it goes over many at once.
-pub fn segments(buf: &[i32], at: usize, len: usize) -> Shape
-    requires { at + len ≤ length buf.now }
-    ensures { result ≡ shape_for (wholes flag_of 0 false (part at len buf.now)) }
+// How many whole segments the flags are; none where the last T is missing, or an element is no flag. No flag ends the loop, so that it goes over
+// many at once.
+pub fn segments(flags: &[i32]) -> Option<usize>
+    ensures { result ≡ found (wholes flag_of 0 false flags.now) }
 {
-    let mut i = 0;
     let mut ends = 0;
     let mut within = false;
     let mut clean = true;
-    while i < len {
-        let z = buf[at + i];
+    for &z in flags {
         if z == 1 {
             ends += 1;
             within = false;
-            i += 1;
         } else if z == 0 {
             within = true;
-            i += 1;
         } else {
             clean = false;
-            i += 1;
         }
     }
-    if clean {
-        if within {
-            return Shape::Ragged;
-        }
-        return Shape::Whole(ends);
-    }
-    Shape::Ragged
+    if clean && !within { Some(ends) } else { None }
 }
 
-// Where the segment ends that begins `from` flags behind `at`: its T is there, so no end of the buffer is looked out for.
-pub fn next_end(buf: &[i32], at: usize, from: usize) -> usize
-    requires { leading flag_of (drop (at + from) buf.now) < length (drop (at + from) buf.now) }
-    ensures { result ≡ from + leading flag_of (drop (at + from) buf.now) }
+// How many F's the first segment has: its T is there, so no end of the flags is looked out for. (`position` looks out for it, and takes a sixth longer
+// where segments are long.)
+pub fn next_end(flags: &[i32]) -> usize
+    requires { leading flag_of flags.now < length flags.now }
+    ensures { result ≡ leading flag_of flags.now }
 {
-    let mut i = from;
+    let mut end = 0;
     loop {
-        let z = buf[at + i];
-        if z != 0 {
-            return i;
+        if flags[end] != 0 {
+            return end;
         }
-        i += 1;
+        end += 1;
     }
+}
+
+// The first segment off the flags: how many F's it has, and the flags behind its T.
+pub fn next_segment(flags: &[i32]) -> (usize, &[i32])
+    requires { leading flag_of flags.now < length flags.now }
+    ensures count { result.0 ≡ leading flag_of flags.now }
+    ensures rest { result.1.now ≡ drop (leading flag_of flags.now + 1) flags.now }
+{
+    let count = next_end(flags);
+    (count, &flags[count + 1..])
 }

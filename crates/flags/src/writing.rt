@@ -8,10 +8,6 @@ pub fn put_segment(buf: &mut [i32], at: usize, n: usize)
     requires { at + n < length buf.old }
     ensures { buf.new ≡ sets buf.old at (map bit (replicate n false ++ true ∷ [])) }
 {
-    let mut i = 0;
-    while i < n {
-        buf[at + i] = 0;
-        i += 1;
-    }
+    buf[at..at + n].fill(0);
     buf[at + n] = 1;
 }

@@ -1,4 +1,3 @@
--- What these transducers share: one item for each unit, how a call ends; the exact sum of two.
+-- What these transducers share: streams of one item for each unit, and the exact sum of two items.
 pub mod Lengths
-pub mod Calls
 pub mod Pairs

@@ -1,15 +1,13 @@
 -- What the functions behind the comparisons answer.
-use Rattle.std.specs.Prelude.{ℕ, Bool, true, false, List, ℤ, length}
-use Rattle.std.specs.Int.Signed.{le_z}
+use Rattle.std.specs.Prelude.{ℕ, Bool, ℤ, List, length, ◌≡◌, FitsSigned}
+use Rattle.std.specs.Int.{w32}
 use Rattle.snesl.specs.Streams.{bools}
-use Rattle.snesl.specs.Values.{equal_z}
 use Rattle.snesl.specs.Transducers.{Answer, length_misfit, made, pairwise, unfit, unless}
 
--- of two comparisons, the one that is asked for: whether x and y are equal, or else whether x is at most y
-abbrev pub compared : (equal : Bool) → ℤ → ℤ → Bool
-compared false x y = le_z x y
-compared true x y = equal_z x y
+-- whatever such a test answers for two 32-bit numbers, it is their f
+abbrev pub Computes : (post : ℤ → ℤ → Bool → Type 0) → (f : ℤ → ℤ → Bool) → Type 0
+Computes post f = (x y : ℤ) (b : Bool) → FitsSigned w32 x → FitsSigned w32 y → post x y b → b ≡ f x y
 
--- it, for the two items of each of n units
-abbrev pub comparison : (equal : Bool) → ℕ → List ℤ → List ℤ → Answer
-comparison equal n xs ys = unless (length_misfit n (length xs) (length ys)) unfit (made (bools (pairwise (compared equal) xs ys)))
+-- a comparison of the two items of each of n units
+abbrev pub comparison : (f : ℤ → ℤ → Bool) → ℕ → List ℤ → List ℤ → Answer
+comparison f n xs ys = unless (length_misfit n (length xs) (length ys)) unfit (made (bools (pairwise f xs ys)))

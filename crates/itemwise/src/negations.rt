@@ -1,44 +1,36 @@
 // MapOneNot (001): T for each F and F for each T.
-ghost use Rattle.std.specs.Prelude.{not, map, ◌≡◌, ◌+◌, ◌≤◌, length};
+ghost use Rattle.std.specs.Prelude.{not, map, ◌≡◌, ◌≤◌, length};
 ghost use Rattle.std.proofs.lemmas.List.Edits.{sets};
-ghost use Rattle.laws.specs.Parts.{part};
 ghost use Rattle.snesl.specs.Streams.{bit};
 ghost use Rattle.snesl.specs.Transducers as snesl;
 ghost use Rattle.snesl.specs.Transducers.{bool_of};
 ghost use Rattle.streams.specs.Answers.{Answers};
 
-use streams::fit::{Misfit, lengths};
-use streams::output::Output;
+use streams::fit::lengths;
+use streams::output::Failure;
 
-pub fn map_one_not(buf: &mut [i32], out: usize, n: usize, at: usize, len: usize) -> Output
-    requires { (at + len ≤ out) × (out ≤ length buf.old) }
-    ensures { Answers out buf.old (snesl.map_one_not n (map bool_of (part at len buf.old))) result buf.new }
+pub fn map_one_not(n: usize, bools: &[i32], out: &mut [i32]) -> Result<usize, Failure>
+    ensures { Answers out.old (snesl.map_one_not n (map bool_of bools.now)) result out.new }
 {
-    let misfit = lengths(n, len, len);
-    if let Misfit::At(k) = misfit {
-        return Output::Unfit(k);
+    lengths(n, bools.len(), bools.len())?;
+    if out.len() < n {
+        return Err(Failure::NoRoom);
     }
-    if buf.len() - out < n {
-        return Output::NoRoom;
-    }
-    negate(buf, out, n, at);
-    Output::Made(n)
+    negate(bools, out);
+    Ok(n)
 }
 
-fn negate(buf: &mut [i32], out: usize, n: usize, at: usize)
-    requires { (at + n ≤ out) × (out + n ≤ length buf.old) }
-    ensures { buf.new ≡ sets buf.old out (map bit (map not (map bool_of (part at n buf.old)))) }
+fn negate(bools: &[i32], out: &mut [i32])
+    requires { length bools.now ≤ length out.old }
+    ensures { out.new ≡ sets out.old 0 (map bit (map not (map bool_of bools.now))) }
 {
-    let mut i = 0;
-    while i < n {
-        let c = buf[at + i];
-        buf[out + i] = negated(c);
-        i += 1;
+    for (i, c) in bools.iter().enumerate() {
+        out[i] = negated(*c);
     }
 }
 
 fn negated(c: i32) -> i32
     ensures { result ≡ bit (not (bool_of c)) }
 {
-    if c == 0 { 1 } else { 0 }
+    i32::from(c == 0)
 }

@@ -1,74 +1,50 @@
 // Pack (001): the items whose bool is T. What an item is does not matter to it.
-ghost use Rattle.std.specs.Prelude.{map, ◌≡◌, ◌+◌, ◌≤◌, length};
+ghost use Rattle.std.specs.Prelude.{map, ◌≡◌, ◌≤◌, length};
 ghost use Rattle.std.proofs.lemmas.List.Edits.{sets};
-ghost use Rattle.laws.specs.Parts.{part};
 ghost use Rattle.snesl.specs.declared.code.Base.TheVariants.{Int};
 ghost use Rattle.snesl.specs.Charges.{count_true};
 ghost use Rattle.snesl.specs.Transducers as snesl;
 ghost use Rattle.snesl.specs.Transducers.{bool_of, kept};
 ghost use Rattle.streams.specs.Answers.{Answers};
 
-use streams::fit::{Misfit, lengths};
-use streams::output::Output;
+use streams::fit::lengths;
+use streams::output::Failure;
 
-pub fn pack(
-    buf: &mut [i32],
-    out: usize,
-    n: usize,
-    bools_at: usize,
-    bools_len: usize,
-    at: usize,
-    len: usize,
-) -> Output
-    requires { (bools_at + bools_len ≤ out) × (at + len ≤ out) × (out ≤ length buf.old) }
-    ensures { Answers out buf.old (snesl.pack n (map bool_of (part bools_at bools_len buf.old)) Int (part at len buf.old)) result buf.new }
+pub fn pack(n: usize, bools: &[i32], items: &[i32], out: &mut [i32]) -> Result<usize, Failure>
+    ensures { Answers out.old (snesl.pack n (map bool_of bools.now) Int items.now) result out.new }
 {
-    let misfit = lengths(n, bools_len, len);
-    if let Misfit::At(k) = misfit {
-        return Output::Unfit(k);
+    lengths(n, bools.len(), items.len())?;
+    let made = trues(bools);
+    if out.len() < made {
+        return Err(Failure::NoRoom);
     }
-    let made = trues(buf, n, bools_at);
-    if buf.len() - out < made {
-        return Output::NoRoom;
-    }
-    keep(buf, out, n, bools_at, at);
-    Output::Made(made)
+    keep(bools, items, out);
+    Ok(made)
 }
 
-// How many of the n bools are T.
-fn trues(buf: &[i32], n: usize, at: usize) -> usize
-    requires { at + n ≤ length buf.now }
-    ensures { result ≡ count_true (map bool_of (part at n buf.now)) }
+// How many of the bools are T.
+fn trues(bools: &[i32]) -> usize
+    ensures { result ≡ count_true (map bool_of bools.now) }
 {
-    let mut i = 0;
-    let mut found = 0;
-    while i < n {
-        let b = buf[at + i];
-        if b == 0 {
-            i += 1;
-        } else {
-            found += 1;
-            i += 1;
-        }
-    }
-    found
+    bools
+        .iter()
+        .filter(
+            |b|
+                ensures { result ≡ bool_of b.now.now }
+            { **b != 0 },
+        )
+        .count()
 }
 
-fn keep(buf: &mut [i32], out: usize, n: usize, bools_at: usize, at: usize)
-    requires { (bools_at + n ≤ out) × (at + n ≤ out) × (out + length (kept (map bool_of (part bools_at n buf.old)) (part at n buf.old)) ≤ length buf.old) }
-    ensures { buf.new ≡ sets buf.old out (kept (map bool_of (part bools_at n buf.old)) (part at n buf.old)) }
+fn keep(bools: &[i32], items: &[i32], out: &mut [i32])
+    requires { (length bools.now ≡ length items.now) × (length (kept (map bool_of bools.now) items.now) ≤ length out.old) }
+    ensures { out.new ≡ sets out.old 0 (kept (map bool_of bools.now) items.now) }
 {
-    let mut i = 0;
-    let mut to = out;
-    while i < n {
-        let c = buf[bools_at + i];
-        if c == 0 {
-            i += 1;
-        } else {
-            let x = buf[at + i];
-            buf[to] = x;
+    let mut to = 0;
+    for (i, b) in bools.iter().enumerate() {
+        if *b != 0 {
+            out[to] = items[i];
             to += 1;
-            i += 1;
         }
     }
 }

@@ -1,6 +1,5 @@
 // MapTwo+ (002, 1.2.3): the sum of the two items of each unit.
-ghost use Rattle.std.specs.Prelude.{◌≡◌, ◌+◌, ◌≤◌, drop, length};
-ghost use Rattle.laws.specs.Parts.{part};
+ghost use Rattle.std.specs.Prelude.{◌≡◌, ◌≤◌, drop, length};
 ghost use Rattle.snesl.specs.declared.code.Operation.TheVariants.{Plus};
 ghost use Rattle.snesl.specs.Transducers as snesl;
 ghost use Rattle.snesl.specs.Transducers.{first_outside, pluses};
@@ -9,67 +8,45 @@ ghost use Rattle.streams.specs.Walks.{told_outside};
 ghost use Rattle.streams.specs.Fills.{Fills};
 
 use laws::range::{held, in_range};
-use streams::fit::{Misfit, lengths};
-use streams::output::Output;
+use streams::fit::lengths;
+use streams::output::Failure;
 
-pub fn map_two_plus(
-    buf: &mut [i32],
-    out: usize,
-    n: usize,
-    at1: usize,
-    len1: usize,
-    at2: usize,
-    len2: usize,
-) -> Output
-    requires { (at1 + len1 ≤ out) × (at2 + len2 ≤ out) × (out ≤ length buf.old) }
-    ensures answers { Answers out buf.old (snesl.map_two Plus n (part at1 len1 buf.old) (part at2 len2 buf.old)) result buf.new }
-    ensures buf_unchanged { drop (out + n) buf.new ≡ drop (out + n) buf.old }
+pub fn map_two_plus(n: usize, xs: &[i32], ys: &[i32], out: &mut [i32]) -> Result<usize, Failure>
+    ensures answers { Answers out.old (snesl.map_two Plus n xs.now ys.now) result out.new }
+    ensures out_unchanged { drop n out.new ≡ drop n out.old }
 {
-    let misfit = lengths(n, len1, len2);
-    if let Misfit::At(k) = misfit {
-        return Output::Unfit(k);
+    lengths(n, xs.len(), ys.len())?;
+    if n <= out.len() && add(xs, ys, out) {
+        Ok(n)
+    } else {
+        Err(first_outside(xs, ys))
     }
-    if buf.len() - out < n {
-        return first_outside(buf, n, at1, at2);
-    }
-    if add(buf, out, n, at1, at2) {
-        return Output::Made(n);
-    }
-    first_outside(buf, n, at1, at2)
 }
 
-// All n sums, and whether each is in range. One that isn't does not end the loop, so that it goes over many at once.
-fn add(buf: &mut [i32], out: usize, n: usize, at1: usize, at2: usize) -> bool
-    requires { (at1 + n ≤ out) × (at2 + n ≤ out) × (out + n ≤ length buf.old) }
-    ensures { Fills (pluses 0 (part at1 n buf.old) (part at2 n buf.old)) out n buf.old result buf.new }
+// All the sums, and whether each is in range. One that isn't does not end the loop, so that it goes over many at once.
+fn add(xs: &[i32], ys: &[i32], out: &mut [i32]) -> bool
+    requires { (length xs.now ≡ length ys.now) × (length xs.now ≤ length out.old) }
+    ensures { Fills (pluses 0 xs.now ys.now) (length xs.now) out.old result out.new }
 {
-    let mut i = 0;
     let mut inside = true;
-    while i < n {
-        let x = buf[at1 + i];
-        let y = buf[at2 + i];
-        let z = x as i64 + y as i64;
-        inside = inside & in_range(z);
-        buf[out + i] = held(z);
-        i += 1;
+    // By index and not by `zip`: of what a zip wrote to nothing would be known.
+    for (i, x) in xs.iter().enumerate() {
+        let z = i64::from(*x) + i64::from(ys[i]);
+        inside &= in_range(z);
+        out[i] = held(z);
     }
     inside
 }
 
 // The first sum that is out of range, or that there is no room.
-fn first_outside(buf: &[i32], n: usize, at1: usize, at2: usize) -> Output
-    requires { (at1 + n ≤ length buf.now) × (at2 + n ≤ length buf.now) }
-    ensures { result ≡ told_outside (first_outside (pluses 0 (part at1 n buf.now) (part at2 n buf.now))) }
+fn first_outside(xs: &[i32], ys: &[i32]) -> Failure
+    requires { length xs.now ≡ length ys.now }
+    ensures { result ≡ told_outside (first_outside (pluses 0 xs.now ys.now)) }
 {
-    let mut i = 0;
-    while i < n {
-        let x = buf[at1 + i];
-        let y = buf[at2 + i];
-        if in_range(x as i64 + y as i64) {
-            i += 1;
-        } else {
-            return Output::Outside(i);
+    for (i, x) in xs.iter().enumerate() {
+        if !in_range(i64::from(*x) + i64::from(ys[i])) {
+            return Failure::Outside(i);
         }
     }
-    Output::NoRoom
+    Failure::NoRoom
 }

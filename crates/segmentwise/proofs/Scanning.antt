@@ -1,17 +1,18 @@
--- ScanPlus, which writes or only looks: the buffer is what it would have written (`shadow`), or as it was. And the totals of a segment.
-use Prim.Native.Nat.{ℕ, zero, suc, ◌+◌, ◌-◌, ◌≤◌}
+-- ScanPlus: the totals of a segment, with its element.
+use Prim.Native.Nat.{ℕ, zero, suc, ◌+◌, ◌-◌}
 use mathlib.Core.Bool.{Bool, true, false, ◌&&◌}
 use mathlib.Core.List.{List, [], ◌∷◌, ◌++◌, map}
 use mathlib.Core.Option.{some, none}
-use mathlib.Core.Path.{◌≡◌, refl, sym, ◌∙◌, ap}
+use mathlib.Core.Path.{◌≡◌, refl, sym, ◌∙◌, ap, transport}
 use native.Mathlib.Omega.{arith}
 use lib.IntN.{ℤ, ◌+ℤ◌}
-use lib.ListN.{length, take, drop, set, length-append, length-drop, length-map}
-use lib.Seq.{sets, length-take-le}
-use Rattle.laws.proofs.Emits as E
-use Rattle.laws.proofs.Emits.{Emits}
+use lib.ListN.{length, take, drop, length-append, length-drop, length-map}
+use lib.Seq.{length-take-le}
+use mir.Facts.{to_z-of_z}
+use mir.Syntax.{w32}
+use mir.Val.{SFits, to_z, of_z}
+use Rattle.std.specs.Prelude.{Result}
 use Rattle.laws.proofs.Never.{never}
-use Rattle.laws.proofs.Parts.{drop-sets}
 use Rattle.laws.proofs.Tests.{both_true}
 use Rattle.snesl.specs.Values.{in_range}
 use Rattle.snesl.specs.Transducers.{each_f, first_outside, flag_of, misfit, scans}
@@ -20,31 +21,9 @@ use Rattle.flags.proofs.Clauses.{scans-end}
 use Rattle.flags.proofs.Fronts as fronts
 use Rattle.flags.proofs.Fronts.{front-scans, used-up}
 use Rattle.streams.specs.Walks.{all_inside}
+use Rattle.streams.specs.declared.output.Failure.{Failure}
+use Rattle.segmentwise.specs.Segmented.{Scans}
 use Rattle.streams.proofs.Filling.{values, inside-next, inside-end, outside-not, outside-here}
-use Rattle.segmentwise.specs.Segmented.{stored}
-
-abbrev pub shown : (writes : Bool) → List ℤ → List ℤ → List ℤ
-shown true shadow old = shadow
-shown false shadow old = old
-
-pub stores : (w : Bool) (p : ℕ) (v : ℤ) (buf shadow old : List ℤ) → buf ≡ shown w shadow old → stored w p v buf ≡ shown w (set shadow p v) old
-stores true p v buf shadow old h = ap (λ l. set l p v) h
-stores false p v buf shadow old h = h
-
-module _ {old shadow ws rest : List ℤ} {out r : ℕ} (e : Emits old shadow out ws rest r) where
-  pub below : (w : Bool) {buf : List ℤ} → buf ≡ shown w shadow old → take out buf ≡ take out old
-  below true h = ap (take out) h ∙ E.below e
-  below false h = ap (take out) h
-
-  pub same_length : (w : Bool) {buf : List ℤ} → buf ≡ shown w shadow old → length buf ≡ length old
-  same_length true h = ap length h ∙ E.same_length e
-  same_length false h = ap length h
-
-  pub behind : (w : Bool) {buf : List ℤ} → buf ≡ shown w shadow old → (m : ℕ) → out + r ≤ m → drop m buf ≡ drop m old
-  behind true h m g = ap (drop m) (h ∙ e.stored) ∙ drop-sets e.done old m out (omega (arith, e.count))
-  behind false h m g = ap (drop m) h
-
--- ---- the totals of a segment, with its element
 
 pub running-next : (t x : ℤ) (xs : List ℤ) → running t (x ∷ xs) ≡ t ∷ running (t +ℤ x) xs
 unfolding running
@@ -98,8 +77,7 @@ scans-long (suc m) k s t bs xs fit =
     let l4 : length (drop f.count xs) ≡ length xs - f.count = length-drop f.count xs in
     omega (arith, f.items, scans-long m (suc k) s s (drop (suc f.count) bs) (drop f.count xs) f.rest)
 
--- a segment's totals, written or not
-pub shows-next : (w : Bool) (buf new shadow old : List ℤ) (p : ℕ) (zs : List ℤ) → buf ≡ shown w shadow old → (w ≡ true → new ≡ sets buf p zs) → (w ≡ false → new ≡ buf) →
-    new ≡ shown w (sets shadow p zs) old
-shows-next true buf new shadow old p zs h f g = f refl ∙ ap (λ l. sets l p zs) h
-shows-next false buf new shadow old p zs h f g = g refl ∙ h
+-- ScanPlus's first total is `start` itself, which code has as its bits
+pub restart : {start : ℤ} (bs xs : List ℤ) {old new : List ℤ} {r : Result (Unit {0}) Failure} → SFits w32 start →
+    Scans (scans flag_of (to_z w32 (of_z w32 start)) 0 (to_z w32 (of_z w32 start)) bs xs) old r new → Scans (scans flag_of start 0 start bs xs) old r new
+restart {start} bs xs {old} {new} {r} f s = transport (λ i. Scans (scans flag_of (to_z-of_z f i) 0 (to_z-of_z f i) bs xs) old r new) s

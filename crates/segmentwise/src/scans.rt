@@ -1,101 +1,79 @@
 // ScanPlus (002, 1.2.3): at each F the total of the items before it in its segment, from `start`.
-ghost use Rattle.std.specs.Prelude.{◌≡◌, ℕ, ◌+◌, ◌≤◌, drop, length};
-ghost use Rattle.laws.specs.Parts.{part};
+ghost use Rattle.std.specs.Prelude.{◌≡◌, ◌+◌, ◌<◌, ◌^◌, drop, length, set};
+ghost use Rattle.std.proofs.Math.Option.{none};
 ghost use Rattle.snesl.specs.Transducers as snesl;
-ghost use Rattle.snesl.specs.Transducers.{flag_of, scans};
+ghost use Rattle.snesl.specs.Transducers.{each_f, flag_of, misfit, scans};
 ghost use Rattle.streams.specs.Answers.{Answers};
-ghost use Rattle.segmentwise.specs.Segmented.{Runs, Scannable, Scans, stored};
+ghost use Rattle.segmentwise.specs.Segmented.{Runs, Scans};
 
-use flags::next_end;
+use flags::next_segment;
 use laws::range::{held, in_range};
-use streams::fit::{Misfit, fits};
-use streams::output::Output;
+use streams::fit::fits;
+use streams::output::Failure;
 
 pub fn scan_plus(
-    buf: &mut [i32],
-    out: usize,
     n: usize,
     start: i32,
-    flags_at: usize,
-    flags_len: usize,
-    at: usize,
-    len: usize,
-) -> Output
-    requires { (flags_at + flags_len ≤ out) × (at + len ≤ out) × (out ≤ length buf.old) }
-    ensures answers { Answers out buf.old (snesl.scan_plus flag_of start n (part flags_at flags_len buf.old) (part at len buf.old)) result buf.new }
-    ensures buf_unchanged { drop (out + len) buf.new ≡ drop (out + len) buf.old }
+    flags: &[i32],
+    items: &[i32],
+    out: &mut [i32],
+) -> Result<usize, Failure>
+    ensures answers { Answers out.old (snesl.scan_plus flag_of start n flags.now items.now) result out.new }
+    ensures out_unchanged { drop (length items.now) out.new ≡ drop (length items.now) out.old }
 {
-    let misfit = fits(buf, n, flags_at, flags_len, len, true, false);
-    if let Misfit::At(k) = misfit {
-        return Output::Unfit(k);
+    fits(flags, n, items.len(), true, false)?;
+    if items.len() <= out.len() {
+        scan(n, start, flags, items, &mut out[..items.len()])?;
+        return Ok(items.len());
     }
-    let room = len <= buf.len() - out;
-    let outside = scan(buf, out, n, start, flags_at, at, room);
-    if let Misfit::At(k) = outside {
-        return Output::Outside(k);
-    }
-    if room {
-        return Output::Made(len);
-    }
-    Output::NoRoom
+    // Nothing is written, but an element that is out of range comes before the lack of room.
+    scan(n, start, flags, items, &mut out[..0])?;
+    Err(Failure::NoRoom)
 }
 
-// The first segment with a total that is out of range. The totals before it are written if `writes`.
-fn scan(
-    buf: &mut [i32],
-    out: usize,
-    n: usize,
-    start: i32,
-    flags_at: usize,
-    at: usize,
-    writes: bool,
-) -> Misfit
-    requires { (flen len : ℕ) × Scannable buf.old out n flags_at flen at len writes }
-    ensures { (flen len : ℕ) → Scannable buf.old out n flags_at flen at len writes → Scans (scans flag_of start 0 start (part flags_at flen buf.old) (part at len buf.old)) out len buf.old writes result buf.new }
+// The first segment with a total that is out of range. The totals before it are written, where there is room.
+fn scan(n: usize, start: i32, flags: &[i32], items: &[i32], out: &mut [i32]) -> Result<(), Failure>
+    requires { misfit flag_of each_f 0 n flags.now items.now ≡ none }
+    ensures { Scans (scans flag_of start 0 start flags.now items.now) out.old result out.new }
 {
-    let mut i = 0;
-    let mut j = 0;
-    let mut k = 0;
-    while k < n {
-        let end = next_end(buf, flags_at, i);
-        if run(buf, out + j, at + j, end - i, start, writes) {
-            j += end - i;
-            i = end + 1;
-            k += 1;
-        } else {
-            return Misfit::At(k);
+    let mut flags = flags;
+    let mut items = items;
+    let mut to = 0;
+    for k in 0..n {
+        let (count, rest) = next_segment(flags);
+        let (these, left) = items.split_at(count);
+        if !run(these, start, out, to) {
+            return Err(Failure::Outside(k));
         }
+        flags = rest;
+        items = left;
+        to += count;
     }
-    Misfit::Nowhere
+    Ok(())
 }
 
-fn store(buf: &mut [i32], at: usize, v: i32, writes: bool)
-    ensures { buf.new ≡ stored writes at v buf.old }
+// A store past the end changes nothing.
+fn store(out: &mut [i32], at: usize, v: i32)
+    ensures { out.new ≡ set out.old at v }
 {
-    if writes {
-        if at < buf.len() {
-            buf[at] = v;
-        }
+    if at < out.len() {
+        out[at] = v;
     }
 }
 
-// The totals before each of the `count` items at `at`, and whether each is in range. Each total waits for the one before, so that nothing is lost by
+// The totals before each of the items, from `to` on, and whether each is in range. Each total waits for the one before, so that nothing is lost by
 // leaving the loop at one that isn't.
-fn run(buf: &mut [i32], out: usize, at: usize, count: usize, start: i32, writes: bool) -> bool
-    requires { (at + count ≤ out) × (at + count ≤ length buf.old) × (out ≤ length buf.old + length buf.old) }
-    ensures { Runs start (part at count buf.old) out buf.old writes result buf.new }
+fn run(items: &[i32], start: i32, out: &mut [i32], to: usize) -> bool
+    requires { to + length items.now < 2 ^ 64 }
+    ensures { Runs start items.now to out.old result out.new }
 {
-    let mut i = 0;
-    let mut total = start as i64;
-    while i < count {
-        if in_range(total) {
-            let x = buf[at + i];
-            store(buf, out + i, held(total), writes);
-            total += x as i64;
-            i += 1;
-        } else {
+    let mut total = i64::from(start);
+    for (i, &x) in items.iter().enumerate() {
+        if !in_range(total) {
             return false;
         }
+        store(out, to + i, held(total));
+        total += i64::from(x);
     }
     true
 }

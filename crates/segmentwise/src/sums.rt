@@ -1,100 +1,80 @@
 // SumPlus (01, "Translation"): the exact total of each segment, an empty one's too. Only a total must be in range, no running total.
-ghost use Rattle.std.specs.Prelude.{◌≡◌, ℕ, ◌+◌, ◌-◌, ◌≤◌, pos, drop, length};
-ghost use Rattle.laws.specs.Parts.{part};
+ghost use Rattle.std.specs.Prelude.{◌≡◌, ◌≤◌, pos, drop, length};
+ghost use Rattle.std.proofs.Math.Option.{none};
 ghost use Rattle.snesl.specs.Transducers as snesl;
-ghost use Rattle.snesl.specs.Transducers.{first_outside, flag_of, sums};
+ghost use Rattle.snesl.specs.Transducers.{each_f, first_outside, flag_of, misfit, sums};
 ghost use Rattle.streams.specs.Answers.{Answers, widest_buffer};
 ghost use Rattle.streams.specs.Fills.{Fills};
 ghost use Rattle.streams.specs.Walks.{told_outside};
-ghost use Rattle.segmentwise.specs.Segmented.{Fitting};
 ghost use Rattle.flags.specs.Segments.{total_from};
 
-use flags::next_end;
+use flags::next_segment;
 use laws::range::{held, in_range};
-use streams::fit::{Misfit, fits};
-use streams::output::Output;
+use streams::fit::fits;
+use streams::output::Failure;
 
-pub fn sum_plus(
-    buf: &mut [i32],
-    out: usize,
-    n: usize,
-    flags_at: usize,
-    flags_len: usize,
-    at: usize,
-    len: usize,
-) -> Output
-    requires { (flags_at + flags_len ≤ out) × (at + len ≤ out) × (out ≤ length buf.old) × (length buf.old ≤ widest_buffer) }
-    ensures answers { Answers out buf.old (snesl.sum_plus flag_of n (part flags_at flags_len buf.old) (part at len buf.old)) result buf.new }
-    ensures buf_unchanged { drop (out + n) buf.new ≡ drop (out + n) buf.old }
+pub fn sum_plus(n: usize, flags: &[i32], items: &[i32], out: &mut [i32]) -> Result<usize, Failure>
+    requires { length items.now ≤ widest_buffer }
+    ensures answers { Answers out.old (snesl.sum_plus flag_of n flags.now items.now) result out.new }
+    ensures out_unchanged { drop n out.new ≡ drop n out.old }
 {
-    let misfit = fits(buf, n, flags_at, flags_len, len, true, false);
-    if let Misfit::At(k) = misfit {
-        return Output::Unfit(k);
+    fits(flags, n, items.len(), true, false)?;
+    if n <= out.len() && sum(n, flags, items, out) {
+        return Ok(n);
     }
-    if buf.len() - out < n {
-        return first_outside(buf, n, flags_at, at);
-    }
-    if sum(buf, out, n, flags_at, at) {
-        return Output::Made(n);
-    }
-    first_outside(buf, n, flags_at, at)
+    Err(first_outside(n, flags, items))
 }
 
-// The total of the items from `from` up to `to`.
-fn total(buf: &[i32], from: usize, to: usize) -> i64
-    requires { (from ≤ to) × (to ≤ length buf.now) × (length buf.now ≤ widest_buffer) }
-    ensures { result ≡ total_from (pos 0) (part from (to - from) buf.now) }
+// The total of the items.
+fn total(items: &[i32]) -> i64
+    requires { length items.now ≤ widest_buffer }
+    ensures { result ≡ total_from (pos 0) items.now }
 {
-    let mut i = from;
-    let mut sum: i64 = 0;
-    while i < to {
-        let x = buf[i];
-        sum += x as i64;
-        i += 1;
+    let mut sum = 0;
+    for &x in items {
+        sum += i64::from(x);
     }
     sum
 }
 
-// All n totals, and whether each is in range. Segment k begins at flag i and item j.
-fn sum(buf: &mut [i32], out: usize, n: usize, flags_at: usize, at: usize) -> bool
-    requires { ((flen len : ℕ) × Fitting buf.old out n flags_at flen at len) × (out + n ≤ length buf.old) }
-    ensures { (flen len : ℕ) → Fitting buf.old out n flags_at flen at len → Fills (sums flag_of 0 (pos 0) (part flags_at flen buf.old) (part at len buf.old)) out n buf.old result buf.new }
+// All n totals, and whether each is in range. No total ends the loop.
+fn sum(n: usize, flags: &[i32], items: &[i32], out: &mut [i32]) -> bool
+    requires fit { misfit flag_of each_f 0 n flags.now items.now ≡ none }
+    requires few { length items.now ≤ widest_buffer }
+    requires room { n ≤ length out.old }
+    ensures { Fills (sums flag_of 0 (pos 0) flags.now items.now) n out.old result out.new }
 {
-    let mut i = 0;
-    let mut j = at;
-    let mut k = 0;
+    let mut flags = flags;
+    let mut items = items;
     let mut inside = true;
-    while k < n {
-        let end = next_end(buf, flags_at, i);
-        let next = j + (end - i);
-        let t = total(buf, j, next);
+    for k in 0..n {
+        let (count, rest) = next_segment(flags);
+        let (these, left) = items.split_at(count);
+        let t = total(these);
         inside = inside & in_range(t);
-        buf[out + k] = held(t);
-        i = end + 1;
-        j = next;
-        k += 1;
+        out[k] = held(t);
+        flags = rest;
+        items = left;
     }
     inside
 }
 
 // The first total that is out of range, or that there is no room.
-fn first_outside(buf: &[i32], n: usize, flags_at: usize, at: usize) -> Output
-    requires { (flen len out : ℕ) × Fitting buf.now out n flags_at flen at len }
-    ensures { (flen len out : ℕ) → Fitting buf.now out n flags_at flen at len → result ≡ told_outside (first_outside (sums flag_of 0 (pos 0) (part flags_at flen buf.now) (part at len buf.now))) }
+fn first_outside(n: usize, flags: &[i32], items: &[i32]) -> Failure
+    requires fit { misfit flag_of each_f 0 n flags.now items.now ≡ none }
+    requires few { length items.now ≤ widest_buffer }
+    ensures { result ≡ told_outside (first_outside (sums flag_of 0 (pos 0) flags.now items.now)) }
 {
-    let mut i = 0;
-    let mut j = at;
-    let mut k = 0;
-    while k < n {
-        let end = next_end(buf, flags_at, i);
-        let next = j + (end - i);
-        if in_range(total(buf, j, next)) {
-            i = end + 1;
-            j = next;
-            k += 1;
-        } else {
-            return Output::Outside(k);
+    let mut flags = flags;
+    let mut items = items;
+    for k in 0..n {
+        let (count, rest) = next_segment(flags);
+        let (these, left) = items.split_at(count);
+        if !in_range(total(these)) {
+            return Failure::Outside(k);
         }
+        flags = rest;
+        items = left;
     }
-    Output::NoRoom
+    Failure::NoRoom
 }

@@ -1,18 +1,17 @@
--- Exact results rs, written from `out` on without a look at their range: r of them are stored and `rest` is to come. One that is out of range is stored as
+-- Exact results rs, written one after another without a look at their range: r of them are stored and `rest` is to come. One that is out of range is stored as
 -- whatever it may be, and `inside` says whether there was none so far.
-use Prim.Native.Nat.{ℕ, suc, ◌+◌, ◌≤◌}
+use Prim.Native.Nat.{ℕ, ◌+◌, ◌≤◌}
 use mathlib.Core.Bool.{Bool, true, false, ◌&&◌}
 use mathlib.Core.List.{List, [], ◌∷◌, ◌++◌, map, append_assoc, append-nil}
 use mathlib.Core.Option.{some, none}
 use mathlib.Core.Path.{◌≡◌, refl, sym, ◌∙◌, ap}
-use native.Mathlib.Nat.{le_refl}
+use native.Mathlib.Nat.{zero-add}
 use native.Mathlib.Omega.{arith}
 use lib.IntN.{ℤ}
-use lib.ListN.{length, drop, take, set, get_or, length-append}
+use lib.ListN.{length, drop, set, length-append}
 use lib.Seq.{sets, length-sets}
-use Rattle.laws.specs.Parts.{part}
 use Rattle.laws.proofs.Never.{never}
-use Rattle.laws.proofs.Parts.{part-next, same-below, same-part, sets-append, take-sets, drop-sets}
+use Rattle.laws.proofs.Parts.{sets-append, drop-sets}
 use Rattle.laws.proofs.Tests.{both_true}
 use Rattle.snesl.specs.Values.{in_range}
 use Rattle.snesl.specs.Transducers.{first_outside}
@@ -63,23 +62,23 @@ some-outside (r ∷ rs) e = go (in_range r.1) refl (some-outside rs)
 
 -- ---- under way
 
-pub record Filling (rs : List (ℕ × ℤ)) (old buf : List ℤ) (out : ℕ) (rest : List (ℕ × ℤ)) (inside : Bool) (r : ℕ) : Type 0 where
+pub record Filling (rs : List (ℕ × ℤ)) (old buf : List ℤ) (rest : List (ℕ × ℤ)) (inside : Bool) (r : ℕ) : Type 0 where
   pub done : List ℤ
   pub count : length done ≡ r
-  pub stored : buf ≡ sets old out done
+  pub stored : buf ≡ sets old 0 done
   pub all : all_inside rs ≡ inside && all_inside rest
   pub long : length rs ≡ r + length rest
   pub right : inside ≡ true → values rs ≡ done ++ values rest
 
-pub start : (rs : List (ℕ × ℤ)) (old : List ℤ) (out : ℕ) → Filling rs old old out rs true 0
-start rs old out = record { done = []; count = refl; stored = refl; all = refl; long = omega arith; right = λ e. refl }
+pub start : (rs : List (ℕ × ℤ)) (old : List ℤ) → Filling rs old old rs true 0
+start rs old = record { done = []; count = refl; stored = refl; all = refl; long = omega arith; right = λ e. refl }
 
 and_assoc : (a b c : Bool) → a && (b && c) ≡ (a && b) && c
 and_assoc true b c = refl
 and_assoc false b c = refl
 
-module _ {rs : List (ℕ × ℤ)} {old buf : List ℤ} {out : ℕ} {rest : List (ℕ × ℤ)} {inside : Bool} {r : ℕ} (f : Filling rs old buf out rest inside r) where
-  pub again : {rest' : List (ℕ × ℤ)} → rest ≡ rest' → Filling rs old buf out rest' inside r
+module _ {rs : List (ℕ × ℤ)} {old buf : List ℤ} {rest : List (ℕ × ℤ)} {inside : Bool} {r : ℕ} (f : Filling rs old buf rest inside r) where
+  pub again : {rest' : List (ℕ × ℤ)} → rest ≡ rest' → Filling rs old buf rest' inside r
   again p =
       record {
         done = f.done;
@@ -91,17 +90,17 @@ module _ {rs : List (ℕ × ℤ)} {old buf : List ℤ} {out : ℕ} {rest : List 
       }
 
   -- one result
-  pub put : (k : ℕ) (z v : ℤ) {new : List ℤ} {rest' : List (ℕ × ℤ)} {b : Bool} → rest ≡ (k, z) ∷ rest' → (in_range z ≡ true → v ≡ z) → new ≡ set buf (out + r) v →
-      b ≡ in_range z → Filling rs old new out rest' (inside && b) (r + 1)
+  pub put : (k : ℕ) (z v : ℤ) {new : List ℤ} {rest' : List (ℕ × ℤ)} {b : Bool} → rest ≡ (k, z) ∷ rest' → (in_range z ≡ true → v ≡ z) → new ≡ set buf r v →
+      b ≡ in_range z → Filling rs old new rest' (inside && b) (r + 1)
   put k z v {new} {rest'} {b} p h q e =
       record {
         done = f.done ++ v ∷ [];
         count = length-append f.done (v ∷ []) ∙ ap (λ k. k + 1) f.count;
         stored =
             q
-            ∙ ap (λ l. set l (out + r) v) f.stored
-            ∙ ap (λ k. set (sets old out f.done) (out + k) v) (sym f.count)
-            ∙ sym (sets-append f.done (v ∷ []) old out);
+            ∙ ap (λ l. set l r v) f.stored
+            ∙ ap (λ k. set (sets old 0 f.done) k v) (sym f.count ∙ sym (zero-add (length f.done)))
+            ∙ sym (sets-append f.done (v ∷ []) old 0);
         all =
             f.all
             ∙ ap (λ l. inside && all_inside l) p
@@ -117,30 +116,17 @@ module _ {rs : List (ℕ × ℤ)} {old buf : List ℤ} {out : ℕ} {rest : List 
       }
 
   pub same_length : length buf ≡ length old
-  same_length = ap length f.stored ∙ length-sets old out f.done
+  same_length = ap length f.stored ∙ length-sets old 0 f.done
 
-  pub below : take out buf ≡ take out old
-  below = ap (take out) f.stored ∙ take-sets f.done old out out (le_refl out)
-
-  pub behind : (m : ℕ) → r ≤ m → drop (out + m) buf ≡ drop (out + m) old
-  behind m h = ap (drop (out + m)) f.stored ∙ drop-sets f.done old (out + m) out (omega (arith, f.count))
-
-  -- an operand that lies before `out`
-  pub next : (at n i : ℕ) (d : ℤ) → at + n ≤ out → out ≤ length old → suc i ≤ n →
-      drop i (part at n old) ≡ get_or buf (at + i) d ∷ drop (i + 1) (part at n old)
-  next at n i d h room lt =
-      part-next at n i old d (omega arith) lt
-      ∙ ap (λ x. x ∷ drop (i + 1) (part at n old)) (sym (same-below out buf old (at + i) d below (omega arith)))
-
-  pub operand : (at n : ℕ) → at + n ≤ out → part at n buf ≡ part at n old
-  operand at n h = same-part out buf old at n below h
+  pub behind : (m : ℕ) → r ≤ m → drop m buf ≡ drop m old
+  behind m h = ap (drop m) f.stored ∙ drop-sets f.done old m 0 (omega (arith, f.count))
 
   -- nothing is left
-  pub over : rest ≡ [] → (inside ≡ all_inside rs) × (length rs ≡ r) × (inside ≡ true → buf ≡ sets old out (values rs))
+  pub over : rest ≡ [] → (inside ≡ all_inside rs) × (length rs ≡ r) × (inside ≡ true → buf ≡ sets old 0 (values rs))
   over p = (
     sym (f.all ∙ ap (λ l. inside && all_inside l) p ∙ ap (λ b. inside && b) inside-end ∙ and-true inside),
     (let l = f.long ∙ ap (λ l. r + length l) p in omega (arith, l)),
-    λ e. f.stored ∙ ap (sets old out) (sym (f.right e ∙ ap (λ l. f.done ++ values l) p ∙ append-nil f.done)),
+    λ e. f.stored ∙ ap (sets old 0) (sym (f.right e ∙ ap (λ l. f.done ++ values l) p ∙ append-nil f.done)),
   )
     where
       and-true : (b : Bool) → (b && true) ≡ b

@@ -1,24 +1,12 @@
-// Runs of stores over the stream buffer.
-ghost use Rattle.std.specs.Prelude.{◌≡◌, ◌-◌, ◌≤◌, pos, length, replicate};
-ghost use Rattle.std.proofs.lemmas.List.Edits.{sets};
+// The stream buffer is set to zero.
+ghost use Rattle.std.specs.Prelude.{◌≡◌, pos};
 ghost use Rattle.laws.specs.Parts.{cleared};
-
-// z from `from` up to `to`.
-pub fn fill(buf: &mut [i32], from: usize, to: usize, z: i32)
-    requires { to ≤ length buf.old }
-    ensures { buf.new ≡ sets buf.old from (replicate (to - from) z) }
-{
-    let mut i = from;
-    while i < to {
-        buf[i] = z;
-        i += 1;
-    }
-}
 
 // Zeros from `from` to the end.
 pub fn clear(buf: &mut [i32], from: usize)
     ensures { buf.new ≡ cleared (pos 0) from buf.old }
 {
-    let end = buf.len();
-    fill(buf, from, end, 0);
+    if from < buf.len() {
+        buf[from..].fill(0);
+    }
 }

@@ -1,18 +1,15 @@
 // Const_z (002, 1.2.3): z for each unit.
-ghost use Rattle.std.specs.Prelude.{◌≤◌, length};
 ghost use Rattle.snesl.specs.Transducers as snesl;
 ghost use Rattle.streams.specs.Answers.{Answers};
 
-use crate::buffer::fill;
-use crate::output::Output;
+use crate::output::Failure;
 
-pub fn constant(buf: &mut [i32], out: usize, n: usize, z: i32) -> Output
-    requires { out ≤ length buf.old }
-    ensures { Answers out buf.old (snesl.constant z n) result buf.new }
+pub fn constant(n: usize, z: i32, out: &mut [i32]) -> Result<usize, Failure>
+    ensures { Answers out.old (snesl.constant z n) result out.new }
 {
-    if buf.len() - out < n {
-        return Output::NoRoom;
+    if out.len() < n {
+        return Err(Failure::NoRoom);
     }
-    fill(buf, out, out + n, z);
-    Output::Made(n)
+    out[..n].fill(z);
+    Ok(n)
 }

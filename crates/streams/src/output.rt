@@ -1,8 +1,6 @@
-// What a transducer answers: how many elements it made, or why it stopped and at which element. NoRoom comes last: it is answered only
-// where the streams fit and every element has a value.
-#[derive(Clone, Copy)]
-pub enum Output {
-    Made(usize),
+// Why a transducer makes nothing, and at which element. NoRoom comes last: it is answered only where the streams fit and every element has a value.
+#[derive(Clone, Copy, Debug, PartialEq, Eq)]
+pub enum Failure {
     Unfit(usize),
     Negative(usize),
     Outside(usize),

@@ -1,14 +1,15 @@
 -- `reading::next_end`: the F's that still stand in front, counted from the flag that was reached.
 use Prim.Native.Nat.{ℕ, suc, ◌+◌, ◌-◌, ◌<◌, ◌^◌}
 use mathlib.Core.List.{List, ◌∷◌}
-use mathlib.Core.Path.{◌≡◌, refl, ◌∙◌, ap}
+use mathlib.Core.Path.{◌≡◌, sym, ◌∙◌, ap}
+use native.Mathlib.Numerals.{add-one}
 use native.Mathlib.Omega.{arith}
 use lib.IntN.{ℤ, pos}
 use lib.ListN.{length, drop, get_or, length-drop}
-use lib.Seq.{drop-cons}
 use lib.Signed.{mag}
 use mir.Syntax.{w32}
 use mir.Val.{of_z}
+use lib.Seq.{drop-cons}
 use Rattle.snesl.specs.Transducers.{flag_of}
 use Rattle.flags.specs.Segments.{leading}
 use Rattle.flags.proofs.Clauses as clause
@@ -16,49 +17,27 @@ use Rattle.flags.proofs.Stored.{zero_flag, other-flag}
 use Rattle.flags.proofs.reading.next_end.Invariants.{Head}
 use Rattle.flags.proofs.reading.next_end.Goals as goal
 
-module _ {buf : List ℤ} {at from i : ℕ} (a : Head buf at from i) where
-  inside : at + i < length buf
-  inside = let l : length (drop (at + i) buf) ≡ length buf - (at + i) = length-drop (at + i) buf in omega (arith, a.within)
+module _ {flags : List ℤ} {i : ℕ} (a : Head flags i) where
+  inside : i < length flags
+  inside = let l : length (drop i flags) ≡ length flags - i = length-drop i flags in omega (arith, a.within)
 
-  next : drop (at + i) buf ≡ get_or buf (at + i) (pos 0) ∷ drop (suc (at + i)) buf
-  next = drop-cons buf (at + i) (pos 0) inside
+  next : drop i flags ≡ get_or flags i (pos 0) ∷ drop (i + 1) flags
+  next = drop-cons flags i (pos 0) inside ∙ ap (λ m. get_or flags i (pos 0) ∷ drop m flags) (sym (add-one i))
 
-  found : (of_z w32 (get_or buf (at + i) (pos 0)) ≡ 0 → ⊥) → i ≡ from + leading flag_of (drop (at + from) buf)
+  found : (of_z w32 (get_or flags i (pos 0)) ≡ 0 → ⊥) → i ≡ leading flag_of flags
   found f =
-      let none_left : leading flag_of (drop (at + i) buf) ≡ 0 = ap (leading flag_of) next ∙ other-flag (get_or buf (at + i) (pos 0)) f _ in
+      let none_left : leading flag_of (drop i flags) ≡ 0 = ap (leading flag_of) next ∙ other-flag (get_or flags i (pos 0)) f _ in
       omega (arith, a.same)
 
-  turn : mag (get_or buf (at + i) (pos 0)) < 2 ^ 31 → of_z w32 (get_or buf (at + i) (pos 0)) ≡ 0 → Head buf at from (i + 1)
+  turn : mag (get_or flags i (pos 0)) < 2 ^ 31 → of_z w32 (get_or flags i (pos 0)) ≡ 0 → Head flags (i + 1)
   turn h e =
-      let one_less : leading flag_of (drop (at + i) buf) ≡ suc (leading flag_of (drop (suc (at + i)) buf)) =
-      ap (leading flag_of) next ∙ clause.leading-false flag_of (get_or buf (at + i) (pos 0)) (drop (suc (at + i)) buf) (zero_flag (get_or buf (at + i) (pos 0)) h e) in
-      let shorter : length (drop (at + i) buf) ≡ suc (length (drop (suc (at + i)) buf)) = ap length next in
-      let there : suc (at + i) ≡ at + (i + 1) = omega arith in
-      let d : drop (suc (at + i)) buf ≡ drop (at + (i + 1)) buf = ap (λ m. drop m buf) there in
-      let e2 : leading flag_of (drop (suc (at + i)) buf) ≡ leading flag_of (drop (at + (i + 1)) buf) = ap (leading flag_of) d in
-      let e3 : length (drop (suc (at + i)) buf) ≡ length (drop (at + (i + 1)) buf) = ap length d in
-      record { within = omega (arith, a.within); same = a.same ∙ omega arith }
+      let one_less : leading flag_of (drop i flags) ≡ suc (leading flag_of (drop (i + 1) flags)) =
+      ap (leading flag_of) next ∙ clause.leading-false flag_of (get_or flags i (pos 0)) (drop (i + 1) flags) (zero_flag (get_or flags i (pos 0)) h e) in
+      let shorter : length (drop i flags) ≡ suc (length (drop (i + 1) flags)) = ap length next in
+      record { within = omega (arith, a.within); same = omega (arith, a.same) }
 
-pub loop-at-init : goal.loop-at-init
-loop-at-init c = record { within = c.requires; same = refl }
+pub returns-then-flags-end-ne0 : goal.returns-then-flags-end-ne0
+returns-then-flags-end-ne0 c = found c.loop-end.invariant c.if-flags-end-ne0.true
 
-pub overflow_add-z : goal.overflow_add-z
-overflow_add-z c = omega (arith, inside c.loop-at.invariant)
-
-pub offset_bounds-buf-at : goal.offset_bounds-buf-at
-offset_bounds-buf-at c = omega (arith, inside c.loop-at.invariant)
-
-pub bounds-buf-at : goal.bounds-buf-at
-bounds-buf-at c = inside c.loop-at.invariant
-
-pub returns-then-z-ne0 : goal.returns-then-z-ne0
-returns-then-z-ne0 c = found c.loop-at.invariant c.if-z-ne0.true
-
-pub overflow_add-i : goal.overflow_add-i
-overflow_add-i c = omega (arith, inside c.loop-at.invariant)
-
-pub loop-at-smaller : goal.loop-at-smaller
-loop-at-smaller c = omega (arith, inside c.loop-at.invariant)
-
-pub loop-at-preserved : goal.loop-at-preserved
-loop-at-preserved c = turn c.loop-at.invariant c.z-1.given c.if-z-ne0.false
+pub loop-end-preserved : goal.loop-end-preserved
+loop-end-preserved c = turn c.loop-end.invariant (omega arith) c.if-flags-end-ne0.false

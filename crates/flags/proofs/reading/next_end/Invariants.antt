@@ -8,12 +8,12 @@ use Rattle.snesl.specs.Transducers.{flag_of}
 use Rattle.flags.specs.Segments.{leading}
 use Rattle.flags.proofs.reading.next_end.Given as goal
 
-pub record Head (buf : List ℤ) (at from i : ℕ) : Type 0 where
-  pub within : leading flag_of (drop (at + i) buf) < length (drop (at + i) buf)
-  pub same : from + leading flag_of (drop (at + from) buf) ≡ i + leading flag_of (drop (at + i) buf)
+pub record Head (flags : List ℤ) (i : ℕ) : Type 0 where
+  pub within : leading flag_of (drop i flags) < length (drop i flags)
+  pub same : leading flag_of flags ≡ i + leading flag_of (drop i flags)
 
-abbrev pub invariant-loop-at : goal.invariant-loop-at
-invariant-loop-at l = Head l.buf l.at l.from l.i
+abbrev pub invariant-loop-end : goal.invariant-loop-end
+invariant-loop-end l = Head l.flags l.end
 
-abbrev pub decreases-loop-at : goal.decreases-loop-at
-decreases-loop-at l = length l.buf - l.i
+abbrev pub decreases-loop-end : goal.decreases-loop-end
+decreases-loop-end l = length l.flags - l.end

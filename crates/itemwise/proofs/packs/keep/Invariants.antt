@@ -1,11 +1,10 @@
--- `packs::keep`: the walk of Turn.antt.
-pub mod Turn
-use Prim.Native.Nat.{◌-◌}
-use Turn.{Head}
+-- `packs::keep`: the stores that are still to come, done on the output as it is, give the whole run of stores.
+use Rattle.std.proofs.Common.{◌≡◌, ◌+◌, ◌≤◌, map, length, drop}
+use Rattle.std.proofs.lemmas.List.Edits.{sets}
+use Rattle.snesl.specs.Transducers.{bool_of, kept}
 use Rattle.itemwise.proofs.packs.keep.Given as goal
 
 abbrev pub invariant-loop-i : goal.invariant-loop-i
-invariant-loop-i l = Head l.initial.buf l.out l.n l.bools_at l.at l.buf l.i l.to
-
-abbrev pub decreases-loop-i : goal.decreases-loop-i
-decreases-loop-i l = l.n - l.i
+invariant-loop-i l =
+    (sets l.out l.to (kept (map bool_of (drop l.i l.bools)) (drop l.i l.items)) ≡ sets l.initial.out 0 (kept (map bool_of l.bools) l.items))
+    × (l.to + length (kept (map bool_of (drop l.i l.bools)) (drop l.i l.items)) ≤ length l.out)

@@ -1,11 +1,8 @@
--- `pluses::add`: the walk of Turn.antt.
-pub mod Turn
-use Prim.Native.Nat.{◌-◌}
-use Turn.{Head}
+-- `pluses::add`: the sums that are stored, and those that are still to come.
+use Rattle.std.proofs.Common.{drop}
+use Rattle.snesl.specs.Transducers.{pluses}
+use Rattle.streams.proofs.Filling.{Filling}
 use Rattle.itemwise.proofs.pluses.add.Given as goal
 
 abbrev pub invariant-loop-i : goal.invariant-loop-i
-invariant-loop-i l = Head l.initial.buf l.out l.n l.at1 l.at2 l.buf l.i l.inside
-
-abbrev pub decreases-loop-i : goal.decreases-loop-i
-decreases-loop-i l = l.n - l.i
+invariant-loop-i l = Filling (pluses 0 l.xs l.ys) l.initial.out l.out (pluses l.i (drop l.i l.xs) (drop l.i l.ys)) l.inside l.i

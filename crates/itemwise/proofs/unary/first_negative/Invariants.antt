@@ -1,11 +1,7 @@
--- `unary::first_negative`: the walk of Turn.antt.
-pub mod Turn
-use Prim.Native.Nat.{◌-◌}
-use Turn.{Head}
+-- `unary::first_negative`: no negative was met so far.
+use Rattle.std.proofs.Common.{◌≡◌, drop}
+use Rattle.snesl.specs.Transducers.{first_negative}
 use Rattle.itemwise.proofs.unary.first_negative.Given as goal
 
 abbrev pub invariant-loop-i : goal.invariant-loop-i
-invariant-loop-i l = Head l.buf l.at l.len l.start l.i
-
-abbrev pub decreases-loop-i : goal.decreases-loop-i
-decreases-loop-i l = l.len - l.i
+invariant-loop-i l = first_negative l.start (drop l.start l.items) ≡ first_negative l.i (drop l.i l.items)

@@ -1,133 +1,73 @@
--- `unary::write_flags`: the flags of the items that are left.
-use Prim.Native.Nat.{ℕ, ◌+◌, ◌-◌, ◌≤◌, ◌<◌, ◌^◌}
-use mathlib.Core.Bool.{true, false}
-use mathlib.Core.List.{List, [], ◌∷◌, ◌++◌, map}
-use mathlib.Core.Option.{none}
-use mathlib.Core.Path.{◌≡◌, refl, sym, ◌∙◌, ap}
-use native.Mathlib.Omega.{arith}
+-- `unary::write_flags`: a turn writes the first item's flags of those that are still to come.
+use Rattle.std.proofs.Common.{◌≡◌, ℕ, ◌+◌, ◌<◌, ◌≤◌, true, false, List, [], ◌∷◌, ◌++◌, map, length, get_or, drop, replicate, ℤ, pos, nat_abs, sym, ◌∙◌, ap, subst, arith, rules}
+use Rattle.std.proofs.Math.Option.{none}
+use Rattle.std.proofs.lemmas.List.Edits.{sets}
+use Rattle.std.specs.Int.{w32, w64}
 use lib.Dec.{T}
-use lib.IntN.{ℤ, pos, nat_abs}
-use lib.ListN.{length, drop, get_or, replicate, length-append, length-map, length-replicate}
-use lib.Seq.{sets, length-sets}
-use lib.Signed.{mag, lt_z, non_neg}
-use mir.Facts.{Fits-nat_abs}
-use mir.Syntax.{w32, w64}
+use lib.ListN.{length-append, length-map, length-replicate}
+use lib.Seq.{length-sets}
+use lib.Signed.{non_neg}
+use mir.Facts.{Fits-nat_abs, to_z-of_z}
 use mir.Val.{Fits, SFits, to_z, of_z}
-use Rattle.laws.specs.Parts.{part}
-use Rattle.laws.proofs.Emits as E
-use Rattle.laws.proofs.Parts.{part-over}
-use Rattle.laws.proofs.Whole.{read}
+use Rattle.laws.proofs.Parts.{sets-append}
 use Rattle.snesl.specs.Streams.{bit}
 use Rattle.snesl.specs.Transducers.{first_negative, unary}
-use Rattle.itemwise.proofs.Lengths.{first-not, negative-not, unary-next, unary-long, unary-end, nonnegative}
-use Rattle.itemwise.proofs.unary.write_flags.Invariants.{Head}
+use Rattle.itemwise.proofs.Lengths.{natural, natural-here, negative-not, unary-at, unary-over}
 use Rattle.itemwise.proofs.unary.write_flags.Goals as goal
 
-begin : {old : List ℤ} {out at len : ℕ} →
-    (at + len ≤ out) × (out + length (unary (part at len old)) ≤ length old) × (first_negative 0 (part at len old) ≡ none) → Head old out at len old 0 out
-begin {old} {out} p =
-    let e : 0 ≡ out - out = omega arith in
-    record {
-      inside = p.0;
-      fits = p.1;
-      same = refl;
-      items = omega arith;
-      from = omega arith;
-      natural = p.2;
-      emits = E.recount E.start e;
-    }
+-- what holds before a turn at i
+abbrev Holds : (zs out whole : List ℤ) (i to : ℕ) → Type 0
+Holds zs out whole i to =
+    (sets out to (map bit (unary (drop i zs))) ≡ whole) × (to + length (unary (drop i zs)) ≤ length out) × (first_negative i (drop i zs) ≡ none)
 
-module _ {old : List ℤ} {out at len : ℕ} {buf : List ℤ} {i to : ℕ} (a : Head old out at len buf i to) where
-  module _ (lt : i < len) (h : mag (get_or buf (at + i) (pos 0)) < 2 ^ 31) where
-    next : drop i (part at len old) ≡ get_or buf (at + i) (pos 0) ∷ drop (i + 1) (part at len old)
-    next = E.fed a.emits at len i (pos 0) a.inside (omega (arith, a.fits)) lt
+abbrev segment : ℕ → List ℤ
+segment m = map bit (replicate m false ++ true ∷ [])
 
-    first : first_negative i (get_or buf (at + i) (pos 0) ∷ drop (i + 1) (part at len old)) ≡ none
-    first = ap (first_negative i) (sym next) ∙ a.natural
+segment-long : (m : ℕ) → length (segment m) ≡ m + 1
+segment-long m =
+    length-map (replicate m false ++ true ∷ []) bit ∙ length-append (replicate m false) (true ∷ []) ∙ ap (λ k. k + 1) (length-replicate m false)
 
-    sign : lt_z (to_z w32 (of_z w32 (get_or buf (at + i) (pos 0)))) (pos 0) ≡ false
-    sign = ap (λ z. lt_z z (pos 0)) (read (get_or buf (at + i) (pos 0)) h) ∙ first-not i (get_or buf (at + i) (pos 0)) (drop (i + 1) (part at len old)) first
+module _ (zs out whole : List ℤ) (i to : ℕ) (a : Holds zs out whole i to) (lt : i < length zs) (f : SFits w32 (get_or zs i (pos 0))) where
+  is : pos (nat_abs (to_z w32 (of_z w32 (get_or zs i (pos 0))))) ≡ get_or zs i (pos 0)
+  is = natural (get_or zs i (pos 0)) f (natural-here zs i lt a.2)
 
-    cast : T (non_neg (to_z w32 (of_z w32 (get_or buf (at + i) (pos 0))))) × Fits w64 (nat_abs (to_z w32 (of_z w32 (get_or buf (at + i) (pos 0)))))
-    cast =
-        let s : SFits w32 (to_z w32 (of_z w32 (get_or buf (at + i) (pos 0)))) = rw (read (get_or buf (at + i) (pos 0)) h) (record { sfits = h }) in
-        ((nonnegative (to_z w32 (of_z w32 (get_or buf (at + i) (pos 0)))) sign).1, Fits-nat_abs tt s)
+  cast : T (non_neg (to_z w32 (of_z w32 (get_or zs i (pos 0))))) × Fits w64 (nat_abs (to_z w32 (of_z w32 (get_or zs i (pos 0)))))
+  cast =
+      let z : SFits w32 (to_z w32 (of_z w32 (get_or zs i (pos 0)))) = rw (to_z-of_z f) f in
+      (subst (λ z. T (non_neg z)) (is ∙ sym (to_z-of_z f)) tt, Fits-nat_abs tt z)
 
-    abbrev m : ℕ
-    m = nat_abs (to_z w32 (of_z w32 (get_or buf (at + i) (pos 0))))
+  module _ (m : ℕ) (n : pos m ≡ get_or zs i (pos 0)) where
+    room : to + m < length out
+    room = omega (arith, a.1, (unary-at zs i m lt n).1)
 
-    here : drop i (part at len old) ≡ pos (nat_abs (to_z w32 (of_z w32 (get_or buf (at + i) (pos 0))))) ∷ drop (i + 1) (part at len old)
-    here =
-        next
-        ∙ ap (λ z. z ∷ drop (i + 1) (part at len old))
-        (sym (read (get_or buf (at + i) (pos 0)) h) ∙ sym (nonnegative (to_z w32 (of_z w32 (get_or buf (at + i) (pos 0)))) sign).0)
-
-    to-come : map bit (unary (drop i (part at len old))) ≡ map bit (replicate m false ++ true ∷ []) ++ map bit (unary (drop (i + 1) (part at len old)))
-    to-come = ap (λ zs. map bit (unary zs)) here ∙ unary-next m (drop (i + 1) (part at len old))
-
-    room : to + nat_abs (to_z w32 (of_z w32 (get_or buf (at + i) (pos 0)))) < length buf
-    room =
-        let all : length (map bit (unary (part at len old))) ≡ to - out + length (map bit (unary (drop i (part at len old)))) = E.long a.emits in
-        let l1 : length (map bit (unary (part at len old))) ≡ length (unary (part at len old)) = length-map (unary (part at len old)) bit in
-        let l2 : length (map bit (unary (drop i (part at len old)))) ≡ length (unary (drop i (part at len old))) = length-map (unary (drop i (part at len old))) bit in
-        let l3 : length (unary (drop i (part at len old))) ≡ m + 1 + length (unary (drop (i + 1) (part at len old))) =
-        ap (λ zs. length (unary zs)) here ∙ unary-long m (drop (i + 1) (part at len old)) in
-        omega (arith, a.fits, a.from, a.same)
-
-    turn : {new : List ℤ} → new ≡ sets buf to (map bit (replicate m false ++ true ∷ [])) → Head old out at len new (i + 1) (to + (m + 1))
+    turn : {new : List ℤ} → new ≡ sets out to (map bit (replicate m false ++ true ∷ [])) → Holds zs new whole (i + 1) (to + (m + 1))
     turn {new} w =
-        let from : out ≤ to = a.from in
-        let there : to ≡ out + (to - out) = omega arith in
-        let l1 : length (map bit (replicate m false ++ true ∷ [])) ≡ length (replicate m false ++ true ∷ []) = length-map (replicate m false ++ true ∷ []) bit in
-        let l2 : length (replicate m false ++ true ∷ []) ≡ length (replicate m false) + 1 = length-append (replicate m false) (true ∷ []) in
-        let l3 : length (replicate m false) ≡ m = length-replicate m false in
-        let made : to - out + length (map bit (replicate m false ++ true ∷ [])) ≡ to + (m + 1) - out = omega arith in
-        record {
-          inside = a.inside;
-          fits = a.fits;
-          same = ap length w ∙ length-sets buf to (map bit (replicate m false ++ true ∷ [])) ∙ a.same;
-          items = omega arith;
-          from = omega arith;
-          natural =
-              sym (negative-not i (get_or buf (at + i) (pos 0)) (drop (i + 1) (part at len old)) (first-not i (get_or buf (at + i) (pos 0)) (drop (i + 1) (part at len old)) first)) ∙ first;
-          emits =
-              E.recount (E.puts a.emits (map bit (replicate m false ++ true ∷ [])) (w ∙ ap (λ p. sets buf p (map bit (replicate m false ++ true ∷ []))) there) to-come) made;
-        }
-
-  over : len ≤ i → buf ≡ sets old out (map bit (unary (part at len old)))
-  over end =
-      (E.all a.emits
-      (ap (λ zs. map bit (unary zs)) (part-over at len i old (omega (arith, a.inside, a.fits)) a.items end) ∙ ap (map bit) unary-end)).1
-
-pub loop-i-init : goal.loop-i-init
-loop-i-init c = begin c.requires
-
-pub overflow_add-m : goal.overflow_add-m
-overflow_add-m c = omega (arith, c.loop-i.invariant.inside)
-
-pub offset_bounds-buf-at : goal.offset_bounds-buf-at
-offset_bounds-buf-at c = omega (arith, c.loop-i.invariant.inside, c.loop-i.invariant.same, c.loop-i.invariant.fits)
-
-pub slice_copy_out-m : goal.slice_copy_out-m
-slice_copy_out-m c = omega (arith, c.loop-i.invariant.inside, c.loop-i.invariant.same, c.loop-i.invariant.fits)
+        let at = unary-at zs i m lt n in
+        let l : length new ≡ length out = ap length w ∙ length-sets out to (segment m) in (
+          (λ k. sets (w k) (to + sym (segment-long m) k) (map bit (unary (drop (i + 1) zs))))
+              ∙ sym (sets-append (segment m) (map bit (unary (drop (i + 1) zs))) out to)
+              ∙ sym (ap (sets out to) at.0)
+              ∙ a.0,
+          omega (arith, a.1, at.1, l),
+          sym (negative-not zs i lt (natural-here zs i lt a.2)) ∙ a.2,
+        )
 
 pub overflow_cast-m : goal.overflow_cast-m
-overflow_cast-m c = cast c.loop-i.invariant c.loop-i-test.true c.m-1.given
+overflow_cast-m c =
+    let f : SFits w32 (get_or c.args.items.now c.loop-z.z-index (pos 0)) = search rules in
+    cast c.args.items.now c.loop-z.out _ c.loop-z.z-index c.loop-z.to c.loop-z.invariant c.loop-z-test.true f
 
 pub put_segment-requires : goal.put_segment-requires
-put_segment-requires c = room c.loop-i.invariant c.loop-i-test.true c.m-1.given
+put_segment-requires c =
+    let f : SFits w32 (get_or c.args.items.now c.loop-z.z-index (pos 0)) = search rules in
+    room c.args.items.now c.loop-z.out _ c.loop-z.z-index c.loop-z.to c.loop-z.invariant c.loop-z-test.true f _
+    (is c.args.items.now c.loop-z.out _ c.loop-z.z-index c.loop-z.to c.loop-z.invariant c.loop-z-test.true f)
 
-pub overflow_add-to : goal.overflow_add-to
-overflow_add-to c = omega (arith, room c.loop-i.invariant c.loop-i-test.true c.m-1.given)
-
-pub overflow_add-to-in-loop-i : goal.overflow_add-to-in-loop-i
-overflow_add-to-in-loop-i c = omega (arith, room c.loop-i.invariant c.loop-i-test.true c.m-1.given)
-
-pub loop-i-preserved : goal.loop-i-preserved
-loop-i-preserved c = turn c.loop-i.invariant c.loop-i-test.true c.m-1.given c.put_segment.ensures
-
-pub shape_of-buf : goal.shape_of-buf
-shape_of-buf c = c.loop-i.invariant.same
+pub loop-z-preserved : goal.loop-z-preserved
+loop-z-preserved c =
+    let f : SFits w32 (get_or c.args.items.now c.loop-z.z-index (pos 0)) = search rules in
+    turn c.args.items.now c.loop-z.out _ c.loop-z.z-index c.loop-z.to c.loop-z.invariant c.loop-z-test.true f _
+    (is c.args.items.now c.loop-z.out _ c.loop-z.z-index c.loop-z.to c.loop-z.invariant c.loop-z-test.true f) c.put_segment.ensures
 
 pub returns : goal.returns
-returns c = over c.loop-i.invariant c.loop-i-test.false
+returns c = sym (ap (λ us. sets c.loop-z.out c.loop-z.to (map bit us)) (unary-over c.args.items.now c.loop-z.z-index c.loop-z-test.false)) ∙ c.loop-z.invariant.0

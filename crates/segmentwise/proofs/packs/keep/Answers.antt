@@ -1,55 +1,81 @@
--- `packs::keep`: the walk of Turn.antt.
+-- `packs::keep`: the flags so far, and those of what is left of the streams.
+use Prim.Native.Nat.{ℕ, ◌+◌, ◌≤◌, ◌<◌, ◌^◌}
+use mathlib.Core.List.{List, ◌++◌, map, map-append}
+use mathlib.Core.Path.{◌≡◌, sym, ◌∙◌, ap}
+use native.Mathlib.Nat.{zero-add}
 use native.Mathlib.Omega.{arith}
-use Rattle.segmentwise.proofs.packs.keep.Invariants.Turn.{begin, next-ends, item, bounds, fits_in, turn-F, turn-T, done}
+use lib.IntN.{ℤ, pos}
+use lib.ListN.{length, drop, get_or, length-append, length-map}
+use lib.Seq.{sets}
+use lib.Signed.{mag}
+use mir.Syntax.{w32}
+use mir.Val.{of_z}
+use Rattle.laws.proofs.Emits as E
+use Rattle.snesl.specs.Streams.{bit}
+use Rattle.snesl.specs.Transducers.{flag_of}
+use Rattle.flags.specs.Segments.{leading}
+use Rattle.streams.proofs.Reading.{zero-bool, other-bool}
+use Rattle.segmentwise.proofs.Segment.{next-within, next-fits}
+use Rattle.segmentwise.proofs.Keeping as K
+use Rattle.segmentwise.proofs.Keeping.{keeps, whole, whole_long}
+use Rattle.segmentwise.proofs.packs.keep.Invariants.{Head}
 use Rattle.segmentwise.proofs.packs.keep.Goals as goal
+use Rattle.segmentwise.proofs.packs.keep.Goals.{then-c-ne0, else-c-ne0}
 
-pub loop-k-init : goal.loop-k-init
-loop-k-init c = begin c.requires
+module _ {bools flags old buf bs : List ℤ} {i to : ℕ} (a : Head bools flags old buf bs i to) where
+  module _ (lt : i < length bools) {bs' : List ℤ} {count : ℕ} (e : count ≡ leading flag_of bs) (r : bs' ≡ drop (leading flag_of bs + 1) bs) where
+    turn-F : mag (get_or bools i (pos 0)) < 2 ^ 31 → of_z w32 (get_or bools i (pos 0)) ≡ 0 → Head bools flags old buf bs' (i + 1) to
+    turn-F h z =
+        record {
+          fits = next-fits bools bs i a.fits lt e r;
+          room = a.room;
+          emits = E.again a.emits (ap (map bit) (K.left_out bools bs i a.fits lt e r (zero-bool (get_or bools i (pos 0)) h z)));
+        }
 
-pub next_end-end-requires : goal.next_end-end-requires
-next_end-end-requires c = next-ends c.loop-k.invariant c.loop-k-test.true
+    module _ (f : of_z w32 (get_or bools i (pos 0)) ≡ 0 → ⊥) where
+      to-come : map bit (keeps (drop i bools) bs) ≡ map bit (whole count) ++ map bit (keeps (drop (i + 1) bools) bs')
+      to-come =
+          ap (map bit) (K.kept_whole bools bs i a.fits lt e r (other-bool (get_or bools i (pos 0)) f)) ∙ map-append bit (whole count) (keeps (drop (i + 1) bools) bs')
 
-pub overflow_add-c : goal.overflow_add-c
-overflow_add-c c = omega (arith, item c.loop-k.invariant c.loop-k-test.true)
+      bits-long : length (map bit (whole count)) ≡ count + 1
+      bits-long = length-map (whole count) bit ∙ whole_long count
 
-pub offset_bounds-buf-at : goal.offset_bounds-buf-at
-offset_bounds-buf-at c = omega (arith, item c.loop-k.invariant c.loop-k-test.true)
+      enough : to + count < length buf
+      enough =
+          let rest : List ℤ = map bit (keeps (drop (i + 1) bools) bs') in
+          let l : length (map bit (keeps bools flags)) ≡ length (keeps bools flags) = length-map (keeps bools flags) bit in
+          let more : length (map bit (keeps (drop i bools) bs)) ≡ length (map bit (whole count)) + length rest = ap length to-come ∙ length-append (map bit (whole count)) rest in
+          omega (arith, E.long a.emits, E.same_length a.emits, a.room, bits-long)
 
-pub slice_copy_out-c : goal.slice_copy_out-c
-slice_copy_out-c c = item c.loop-k.invariant c.loop-k-test.true
+      turn-T : {new : List ℤ} → new ≡ sets buf to (map bit (whole count)) → Head bools flags old new bs' (i + 1) (to + (count + 1))
+      turn-T w =
+          record {
+            fits = next-fits bools bs i a.fits lt e r;
+            room = a.room;
+            emits = E.recount (E.puts a.emits (map bit (whole count)) (w ∙ ap (λ m. sets buf m (map bit (whole count))) (sym (zero-add to))) to-come) (ap (λ m. to + m) bits-long);
+          }
 
-pub overflow_add-i : goal.overflow_add-i
-overflow_add-i c = omega (arith, bounds c.loop-k.invariant c.loop-k-test.true c.next_end-end.ensures)
+  done : length bools ≤ i → buf ≡ sets old 0 (map bit (keeps bools flags))
+  done end = (E.all a.emits (ap (map bit) (K.over bools bs i a.fits end))).1
 
-pub loop-k-preserved-then-c-eq0 : goal.loop-k-preserved-then-c-eq0
-loop-k-preserved-then-c-eq0 c = turn-F c.loop-k.invariant c.loop-k-test.true c.next_end-end.ensures c.c-1.given c.if-c-eq0.true
-
-pub overflow_sub-end : goal.overflow_sub-end
-overflow_sub-end c = omega (arith, bounds c.loop-k.invariant c.loop-k-test.true c.next_end-end.ensures)
+pub next_segment-count-requires : goal.next_segment-count-requires
+next_segment-count-requires c = next-within _ _ _ c.loop-c.invariant.fits c.loop-c-test.true
 
 pub put_segment-requires : goal.put_segment-requires
-put_segment-requires c = fits_in c.loop-k.invariant c.loop-k-test.true c.next_end-end.ensures c.if-c-eq0.false
+put_segment-requires c = enough c.loop-c.invariant c.loop-c-test.true c.next_segment-count.ensures.count c.next_segment-count.ensures.rest c.if-c-ne0.true
 
 pub overflow_add-to : goal.overflow_add-to
-overflow_add-to c = omega (arith, bounds c.loop-k.invariant c.loop-k-test.true c.next_end-end.ensures)
+overflow_add-to c = omega (arith, enough c.loop-c.invariant c.loop-c-test.true c.next_segment-count.ensures.count c.next_segment-count.ensures.rest c.if-c-ne0.true)
 
-pub overflow_sub-to : goal.overflow_sub-to
-overflow_sub-to c = omega (arith, bounds c.loop-k.invariant c.loop-k-test.true c.next_end-end.ensures)
+pub overflow_add-to-then-c-ne0 : goal.overflow_add-to-then-c-ne0
+overflow_add-to-then-c-ne0 c = omega (arith, enough c.loop-c.invariant c.loop-c-test.true c.next_segment-count.ensures.count c.next_segment-count.ensures.rest c.if-c-ne0.true)
 
-pub overflow_add-to-else-c-eq0 : goal.overflow_add-to-else-c-eq0
-overflow_add-to-else-c-eq0 c = let a = c.loop-k.invariant in
-    let lt = c.loop-k-test.true in
-    let e = c.next_end-end.ensures in
-    omega (arith, bounds a lt e, fits_in a lt e c.if-c-eq0.false)
-
-pub overflow_add-i-else-c-eq0 : goal.overflow_add-i-else-c-eq0
-overflow_add-i-else-c-eq0 c = omega (arith, bounds c.loop-k.invariant c.loop-k-test.true c.next_end-end.ensures)
-
-pub loop-k-preserved : goal.loop-k-preserved
-loop-k-preserved c = turn-T c.loop-k.invariant c.loop-k-test.true c.next_end-end.ensures c.if-c-eq0.false c.put_segment.auto.buf c.put_segment.ensures
-
-pub shape_of-buf : goal.shape_of-buf
-shape_of-buf c = c.loop-k.invariant.same
+pub loop-c-preserved : goal.loop-c-preserved
+loop-c-preserved c =
+    elim c.if-c-ne0.branch [
+      | then-c-ne0 w ↦ rw (w.out-is, w.to-is) (turn-T c.loop-c.invariant c.loop-c-test.true c.next_segment-count.ensures.count c.next_segment-count.ensures.rest w.if-c-ne0.true w.put_segment.ensures)
+      | else-c-ne0 w ↦ rw (w.out-is, w.to-is) (turn-F c.loop-c.invariant c.loop-c-test.true c.next_segment-count.ensures.count c.next_segment-count.ensures.rest (omega arith) w.if-c-ne0.false)
+    ]
 
 pub returns : goal.returns
-returns c = done c.loop-k.invariant c.loop-k-test.false
+returns c = done c.loop-c.invariant c.loop-c-test.false

@@ -1,100 +1,68 @@
 -- `packs::upack`: what the test of the streams told, how many flags are kept, and what `keep` left.
-use Prim.Native.Nat.{ℕ, ◌+◌, ◌-◌, ◌≤◌, ◌<◌}
+use Prim.Native.Nat.{ℕ, ◌≤◌, ◌<◌}
 use mathlib.Core.List.{List, map}
-use mathlib.Core.Option.{Option, none}
-use mathlib.Core.Path.{◌≡◌, refl, sym, ◌∙◌}
+use mathlib.Core.Option.{none}
+use mathlib.Core.Path.{◌≡◌, refl, sym, ◌∙◌, ap}
 use native.Mathlib.Omega.{arith}
 use lib.IntN.{ℤ}
 use lib.ListN.{length, length-map}
 use lib.Seq.{sets}
-use Rattle.laws.specs.Parts.{part}
-use Rattle.laws.proofs.Parts.{length_part}
-use Rattle.snesl.specs.Streams.{Stream, bit, flags}
+use Rattle.std.specs.Prelude.{Result, Ok, Err}
+use Rattle.std.proofs.Common.{rules}
+use Rattle.snesl.specs.Streams.{bit, flags}
 use Rattle.snesl.specs.Transducers as snesl
-use Rattle.snesl.specs.Transducers.{each_t, bool_of, flag_of, misfit, outside, kept_segments}
+use Rattle.snesl.specs.Transducers.{each_t, bool_of, flag_of, misfit, outside}
 use Rattle.snesl.proofs.Bools.{misfit-map}
 use Rattle.streams.specs.Answers.{Answers}
 use Rattle.streams.specs.Walks.{told}
-use Rattle.streams.specs.declared.fit.Misfit.{Misfit}
-use Rattle.streams.specs.declared.fit.Misfit.TheVariants.{Nowhere, At}
-use Rattle.streams.specs.declared.output.Output.TheVariants.{Made, Unfit, NoRoom}
-use Rattle.streams.proofs.Ending.{told-nowhere, told_at, unfits, lacks-room, makes}
-use Rattle.segmentwise.specs.Segmented.{Operands, Keeps}
+use Rattle.streams.specs.declared.output.Failure.{Failure}
+use Rattle.streams.specs.declared.output.Failure.TheVariants.{Unfit, NoRoom}
+use Rattle.streams.proofs.Ending.{fitted, unfits, lacks-room, makes}
+use Rattle.segmentwise.proofs.Keeping.{keeps}
+use Rattle.segmentwise.proofs.Segment.{items-long}
 use Rattle.segmentwise.proofs.packs.upack.Goals as goal
 
--- the call, and what the test of its streams told
-record Call (old : List ℤ) (out n at len fat flen : ℕ) (r : Misfit) : Type 0 where
-  items : at + len ≤ out
-  flags : fat + flen ≤ out
-  room : out ≤ length old
-  tells : r ≡ told (misfit flag_of each_t 0 n (part fat flen old) (part at len old))
-
-call : (old : List ℤ) (out n at len fat flen : ℕ) {r : Misfit} → (at + len ≤ out) × (fat + flen ≤ out) × (out ≤ length old) →
-    ((xs : List ℤ) → length xs ≡ len → r ≡ told (misfit flag_of each_t 0 n (part fat flen old) xs)) → Call old out n at len fat flen r
-call old out n at len fat flen p f =
-    record { items = p.0; flags = p.1; room = p.2; tells = f (part at len old) (length_part at len old (omega arith)) }
-
-module _ {old : List ℤ} {out n at len fat flen : ℕ} {r : Misfit} (c : Call old out n at len fat flen r) where
+module _ (n : ℕ) (bools bs : List ℤ) where
   -- whether streams fit does not depend on what the items are
-  abbrev mis : Option ℕ
-  mis = misfit flag_of each_t 0 n (part fat flen old) (map bool_of (part at len old))
+  same-mis : misfit flag_of each_t 0 n bs (map bool_of bools) ≡ misfit flag_of each_t 0 n bs bools
+  same-mis = misfit-map flag_of bool_of each_t 0 n bs bools
 
-  same-mis : misfit flag_of each_t 0 n (part fat flen old) (map bool_of (part at len old)) ≡ misfit flag_of each_t 0 n (part fat flen old) (part at len old)
-  same-mis = misfit-map flag_of bool_of each_t 0 n (part fat flen old) (part at len old)
+  unfit : (old : List ℤ) {r : Result (Unit {0}) Failure} {f : Failure} → r ≡ told (λ k. Unfit k) (misfit flag_of each_t 0 n bs bools) → r ≡ Err f →
+      Answers old (snesl.upack flag_of n (map bool_of bools) bs) (Err f) old
+  unfit old p e = unfits (misfit flag_of each_t 0 n bs (map bool_of bools)) none outside (flags (keeps bools bs)) old (p ∙ ap (told (λ k. Unfit k)) (sym same-mis)) e
 
-  abbrev output : Stream
-  output = flags (kept_segments flag_of (map bool_of (part at len old)) (part fat flen old))
+  module _ (fit : misfit flag_of each_t 0 n bs bools ≡ none) where
+    -- a bool for each segment
+    fits : misfit flag_of each_t 0 (length bools) bs bools ≡ none
+    fits = ap (λ m. misfit flag_of each_t 0 m bs bools) (items-long n 0 bs bools fit) ∙ fit
 
-  unfit : (k : ℕ) → r ≡ At k → Answers out old (snesl.upack flag_of n (map bool_of (part at len old)) (part fat flen old)) (Unfit k) old
-  unfit k e = unfits mis none outside output out old k (same-mis ∙ told_at (misfit flag_of each_t 0 n (part fat flen old) (part at len old)) k c.tells e)
+    module _ (old : List ℤ) {m : ℕ} (q : m ≡ length (keeps bools bs)) where
+      long : length (map bit (keeps bools bs)) ≡ m
+      long = length-map (keeps bools bs) bit ∙ sym q
 
-  module _ (e : r ≡ Nowhere) where
-    fit : misfit flag_of each_t 0 n (part fat flen old) (part at len old) ≡ none
-    fit = told-nowhere (misfit flag_of each_t 0 n (part fat flen old) (part at len old)) c.tells e
+      full : length old < m → Answers old (snesl.upack flag_of n (map bool_of bools) bs) (Err NoRoom) old
+      full h = lacks-room (misfit flag_of each_t 0 n bs (map bool_of bools)) none outside (flags (keeps bools bs)) old (same-mis ∙ fit) refl (omega (arith, long))
 
-    operands : Operands each_t old out n fat flen at len
-    operands = record { flags = c.flags; items = c.items; room = c.room; fits = fit }
+      wrote : m ≤ length old → {new : List ℤ} → new ≡ sets old 0 (map bit (keeps bools bs)) → Answers old (snesl.upack flag_of n (map bool_of bools) bs) (Ok m) new
+      wrote h w = makes (misfit flag_of each_t 0 n bs (map bool_of bools)) none outside (flags (keeps bools bs)) old m (same-mis ∙ fit) refl (sym q) long h w
 
-    module _ {m : ℕ} (q : m ≡ length (kept_segments flag_of (map bool_of (part at len old)) (part fat flen old))) where
-      long : length (map bit (kept_segments flag_of (map bool_of (part at len old)) (part fat flen old))) ≡ m
-      long = length-map (kept_segments flag_of (map bool_of (part at len old)) (part fat flen old)) bit ∙ sym q
-
-      full : length old - out < m → Answers out old (snesl.upack flag_of n (map bool_of (part at len old)) (part fat flen old)) NoRoom old
-      full h = lacks-room mis none outside output out old (same-mis ∙ fit) refl (omega (arith, long))
-
-      module _ (h : m ≤ length old - out) where
-        keeps : Keeps old out n fat flen at len
-        keeps = record { operands = operands; free = omega (arith, q, c.room) }
-
-        wrote : {new : List ℤ} → new ≡ sets old out (map bit (kept_segments flag_of (map bool_of (part at len old)) (part fat flen old))) →
-            Answers out old (snesl.upack flag_of n (map bool_of (part at len old)) (part fat flen old)) (Made m) new
-        wrote w = makes mis none outside output out old m (same-mis ∙ fit) refl (sym q) long (omega (arith, c.room)) w
-
-pub returns-in-At : goal.returns-in-At
-returns-in-At c = let s = c.args in
-    let k = call s.buf.now s.out s.n s.at s.len s.flags_at s.flags_len c.requires (c.fits-misfit.ensures each_t refl refl) in
-    unfit k _ c.in-At.is
+pub returns-in_err-fits : goal.returns-in_err-fits
+returns-in_err-fits c =
+    let e : c.from_residual.result ≡ Err c.in_err-fits.field-0.0 = search rules in
+    rw e (unfit _ _ _ _ (c.fits.ensures each_t refl refl c.args.bools.now refl) c.in_err-fits.was)
 
 pub measure-made-requires : goal.measure-made-requires
-measure-made-requires c = let s = c.args in
-    let k = call s.buf.now s.out s.n s.at s.len s.flags_at s.flags_len c.requires (c.fits-misfit.ensures each_t refl refl) in
-    (s.flags_len, s.len, s.out, operands k c.in_default.is)
+measure-made-requires c =
+    fits _ _ _ (fitted each_t _ _ c.args.bools.now c.fits.ensures c.in_ok-fits.was)
 
-pub returns-then-buf-out : goal.returns-then-buf-out
-returns-then-buf-out c = let s = c.args in
-    let k = call s.buf.now s.out s.n s.at s.len s.flags_at s.flags_len c.requires (c.fits-misfit.ensures each_t refl refl) in
-    let e = c.in_default.is in
-    full k e (c.measure-made.ensures _ _ _ (operands k e)) c.if-buf-out.true
+pub returns-then-out-made : goal.returns-then-out-made
+returns-then-out-made c =
+    full _ _ _ (fitted each_t _ _ c.args.bools.now c.fits.ensures c.in_ok-fits.was) _ c.measure-made.ensures c.if-out-made.true
 
-pub keep-requires : goal.keep-requires
-keep-requires c = let s = c.args in
-    let k = call s.buf.now s.out s.n s.at s.len s.flags_at s.flags_len c.requires (c.fits-misfit.ensures each_t refl refl) in
-    let e = c.in_default.is in
-    (s.flags_len, s.len, keeps k e (c.measure-made.ensures _ _ _ (operands k e)) c.if-buf-out.false)
+pub keep-requires-clause-fit : goal.keep-requires-clause-fit
+keep-requires-clause-fit c =
+    fits _ _ _ (fitted each_t _ _ c.args.bools.now c.fits.ensures c.in_ok-fits.was)
 
 pub returns : goal.returns
-returns c = let s = c.args in
-    let k = call s.buf.now s.out s.n s.at s.len s.flags_at s.flags_len c.requires (c.fits-misfit.ensures each_t refl refl) in
-    let e = c.in_default.is in
-    let m = c.measure-made.ensures _ _ _ (operands k e) in
-    wrote k e m c.if-buf-out.false (c.keep.ensures _ _ (keeps k e m c.if-buf-out.false))
+returns c =
+    wrote _ _ _ (fitted each_t _ _ c.args.bools.now c.fits.ensures c.in_ok-fits.was) _ c.measure-made.ensures c.if-out-made.false c.keep.ensures
