@@ -1,34 +1,12 @@
 -- Laws of snesl's digits: reading one digit on, and the digits of a number from the last one on.
-use Rattle.std.proofs.Common.{◌≡◌, ℕ, zero, suc, ◌+◌, ◌-◌, ◌*◌, ◌%◌, ◌^◌, ◌<◌, ◌≤◌, Bool, true, false, ◌&&◌, ltb, leb, List, [], ◌∷◌, length, get_or, drop, sym, refl, ap, ◌∙◌, ap₂, le_refl, add-one, arith, ltb-true, le-ltb, lt-ltb, eq-eqb, ne_eqb, le-leb, leb-true}
+use Rattle.std.proofs.Common.{◌≡◌, ℕ, zero, suc, ◌+◌, ◌-◌, ◌*◌, ◌<◌, ◌≤◌, Bool, true, false, ◌&&◌, ltb, leb, List, [], ◌∷◌, length, get_or, drop, sym, refl, ap, ◌∙◌, le_refl, add-one, arith, ltb-true, le-ltb, lt-ltb, eq-eqb, ne_eqb, le-leb}
+use Rattle.std.specs.Prelude.{Option, Some, None}
+use Rattle.std.proofs.lemmas.Grind.{common_steps}
 use borrow.Author.Tests.{lt-leb}
 use Rattle.snesl.specs.Text.{is_digit, digits, number_from, well_digited}
 use Rattle.decimals.specs.Numbers.{pick, digit_at, digits_at}
-use Rattle.decimals.specs.declared.numbers.Digit.TheVariants.{Of, End}
-use Rattle.decimals.specs.declared.numbers.Digits.TheVariants.{Number, No}
 
 -- ---- one byte
-
-pub digit-within : (b : ℕ) → 48 ≤ b → b ≤ 57 → is_digit b ≡ true
-digit-within b h k = let p : b < 58 = omega arith in rw (le-leb 48 b h, lt-ltb b 58 p)
-
--- code takes '0' off a byte, whatever it is: where that wraps, no digit stood there
-pub digit-of : (t : List ℕ) (i d : ℕ) → (d + 48) % 2 ^ 64 ≡ get_or t i 0 → d ≤ 9 → Of d ≡ digit_at t i
-digit-of t i d e h =
-    let v : get_or t i 0 ≡ d + 48 = omega arith in
-    let w : d ≡ get_or t i 0 - 48 = omega arith in
-    let x : is_digit (get_or t i 0) ≡ true = digit-within (get_or t i 0) (omega arith) (omega arith) in
-    rw x (ap Of w)
-
-pub no-digit-of : (t : List ℕ) (i d : ℕ) → (d + 48) % 2 ^ 64 ≡ get_or t i 0 → d < 2 ^ 64 → 9 < d → End ≡ digit_at t i
-no-digit-of t i d e s h = go (leb 48 (get_or t i 0)) refl (ltb (get_or t i 0) 58) refl
-  where
-    go : (p : Bool) → leb 48 (get_or t i 0) ≡ p → (q : Bool) → ltb (get_or t i 0) 58 ≡ q → End ≡ pick (p && q) (Of (get_or t i 0 - 48)) End
-    go true u true v =
-        let l : 48 ≤ get_or t i 0 = leb-true 48 (get_or t i 0) u in
-        let m : get_or t i 0 < 58 = ltb-true (get_or t i 0) 58 v in
-        absurd (omega arith)
-    go true u false v = refl
-    go false u q v = refl
 
 -- a digit lies within the text, and below '9' + 1
 pub record IsDigit (t : List ℕ) (i d : ℕ) : Type 0 where
@@ -38,8 +16,8 @@ pub record IsDigit (t : List ℕ) (i d : ℕ) : Type 0 where
   pub small : d ≤ 9
 
 inside_of : (t : List ℕ) (i : ℕ) → is_digit (get_or t i 0) ≡ true → i < length t
-inside_of [] zero h = let z : ◌≡◌ {A = ℕ} 0 1 = cc in absurd (omega arith)
-inside_of [] (suc i) h = let z : ◌≡◌ {A = ℕ} 0 1 = cc in absurd (omega arith)
+inside_of [] zero h = cc
+inside_of [] (suc i) h = cc
 inside_of (b ∷ t) zero h = omega arith
 inside_of (b ∷ t) (suc i) h = let p : i < length t = inside_of t i h in omega arith
 
@@ -48,38 +26,38 @@ small_of b h = go (leb 48 b) (ltb b 58) refl h
   where
     go : (p q : Bool) → ltb b 58 ≡ q → (p && q) ≡ true → b - 48 ≤ 9
     go true true e h' = let l : b < 58 = ltb-true b 58 e in omega arith
-    go true false e h' = let z : ◌≡◌ {A = ℕ} 0 1 = cc in absurd (omega arith)
-    go false q e h' = let z : ◌≡◌ {A = ℕ} 0 1 = cc in absurd (omega arith)
+    go true false e h' = cc
+    go false q e h' = cc
 
-pub is_digit_lem : (t : List ℕ) (i d : ℕ) → Of d ≡ digit_at t i → IsDigit t i d
+pub is_digit_lem : (t : List ℕ) (i d : ℕ) → Some d ≡ digit_at t i → IsDigit t i d
 is_digit_lem t i d e = go (is_digit (get_or t i 0)) refl e
   where
-    go : (c : Bool) → is_digit (get_or t i 0) ≡ c → Of d ≡ pick c (Of (get_or t i 0 - 48)) End → IsDigit t i d
+    go : (c : Bool) → is_digit (get_or t i 0) ≡ c → Some d ≡ pick c (Some (get_or t i 0 - 48)) None → IsDigit t i d
     go true h e' =
         let v : d ≡ get_or t i 0 - 48 = cc in
         record { test = h; value = v; inside = inside_of t i h; small = omega (arith, small_of (get_or t i 0) h) }
-    go false h e' = let z : ◌≡◌ {A = ℕ} 0 1 = cc in absurd (omega arith)
+    go false h e' = cc
 
-pub is-end : (t : List ℕ) (i : ℕ) → End ≡ digit_at t i → is_digit (get_or t i 0) ≡ false
+pub is-end : (t : List ℕ) (i : ℕ) → None ≡ digit_at t i → is_digit (get_or t i 0) ≡ false
 is-end t i e = go (is_digit (get_or t i 0)) refl e
   where
-    go : (c : Bool) → is_digit (get_or t i 0) ≡ c → End ≡ pick c (Of (get_or t i 0 - 48)) End → is_digit (get_or t i 0) ≡ false
-    go true h e' = let z : ◌≡◌ {A = ℕ} 0 1 = cc in absurd (omega arith)
+    go : (c : Bool) → is_digit (get_or t i 0) ≡ c → None ≡ pick c (Some (get_or t i 0 - 48)) None → is_digit (get_or t i 0) ≡ false
+    go true h e' = cc
     go false h e' = h
 
 -- ---- reading
 
 pub digits-on : (k i : ℕ) (t : List ℕ) → is_digit (get_or t i 0) ≡ true → digits k (drop i t) ≡ digits (k + 1) (drop (i + 1) t)
 unfolding digits
-digits-on k zero [] h = let z : ◌≡◌ {A = ℕ} 0 1 = cc in absurd (omega arith)
-digits-on k (suc i) [] h = let z : ◌≡◌ {A = ℕ} 0 1 = cc in absurd (omega arith)
+digits-on k zero [] h = cc
+digits-on k (suc i) [] h = cc
 digits-on k zero (b ∷ t) h = rw (h, digits) (rw add-one)
 digits-on k (suc i) (b ∷ t) h = rw (add-one (suc i)) (digits-on k i t h ∙ rw (add-one i))
 
 pub number-on : (n i : ℕ) (t : List ℕ) → is_digit (get_or t i 0) ≡ true → number_from n (drop i t) ≡ number_from (n * 10 + (get_or t i 0 - 48)) (drop (i + 1) t)
 unfolding number_from
-number-on n zero [] h = let z : ◌≡◌ {A = ℕ} 0 1 = cc in absurd (omega arith)
-number-on n (suc i) [] h = let z : ◌≡◌ {A = ℕ} 0 1 = cc in absurd (omega arith)
+number-on n zero [] h = cc
+number-on n (suc i) [] h = cc
 number-on n zero (b ∷ t) h = rw (h, number_from)
 number-on n (suc i) (b ∷ t) h = rw (add-one (suc i)) (number-on n i t h ∙ rw (add-one i))
 
@@ -125,14 +103,14 @@ module _ {t : List ℕ} {n i : ℕ} (a : Reading t n i) where
         inside = omega (arith, h.inside);
       }
 
-  pub reading-over : {d : ℕ} → IsDigit t i d → 2147483648 < n * 10 + d → No ≡ digits_at t
+  pub reading-over : {d : ℕ} → IsDigit t i d → 2147483648 < n * 10 + d → digits_at t ≡ None
   reading-over {d} h o =
       let e : number_from 0 t ≡ number_from (n * 10 + d) (drop (i + 1) t) =
       a.number ∙ number-on n i t h.test ∙ ap (λ (e : ℕ). number_from (n * 10 + e) (drop (i + 1) t)) (sym h.value) in
       let l : 2147483648 < number_from 0 t = omega (arith, e, number-least (n * 10 + d) (drop (i + 1) t)) in
       go (well_digited t) (lt-leb (number_from 0 t) 2147483648 l)
     where
-      go : (c : Bool) {q : Bool} → q ≡ false → No ≡ pick c (pick q (Number (number_from 0 t) (digits 0 t)) No) No
+      go : (c : Bool) {q : Bool} → q ≡ false → pick {A = Option (ℕ × ℕ)} c (pick q (Some (number_from 0 t, digits 0 t)) None) None ≡ None
       go true e = rw e
       go false e = refl
 
@@ -146,29 +124,17 @@ module _ {t : List ℕ} {n i : ℕ} (a : Reading t n i) where
     in-range : n ≤ 2147483648 → leb (number_from 0 t) 2147483648 ≡ true
     in-range small = le-leb (number_from 0 t) 2147483648 (omega (arith, numbered))
 
-    pub reading-none : i ≡ 0 → No ≡ digits_at t
+    pub reading-none : i ≡ 0 → digits_at t ≡ None
     reading-none e = rw (le-ltb 0 (digits 0 t) (omega (arith, counted)))
 
-    pub reading-one : n ≤ 2147483648 → i ≡ 1 → Number n i ≡ digits_at t
-    reading-one small e =
-        rw (lt-ltb 0 (digits 0 t) (omega (arith, counted)), eq-eqb (digits 0 t) 1 (omega (arith, counted)), in-range small)
-        (ap₂ Number (sym numbered) (sym counted))
-
-    module _ (some : (i ≡ 0) → ⊥) (more : (i ≡ 1) → ⊥) where
-      pub reading-leading : get_or t 0 0 ≡ 48 → No ≡ digits_at t
-      reading-leading z =
+    module _ (some : (i ≡ 0) → ⊥) where
+      pub reading-leading : 1 < i → get_or t 0 0 ≡ 48 → digits_at t ≡ None
+      reading-leading more z =
           rw (
             lt-ltb 0 (digits 0 t) (omega (arith, counted)),
             ne_eqb (digits 0 t) 1 (omega (arith, counted)),
             eq-eqb (get_or t 0 0) 48 z,
           )
 
-      pub reading-several : n ≤ 2147483648 → (get_or t 0 0 ≡ 48 → ⊥) → Number n i ≡ digits_at t
-      reading-several small z =
-          rw (
-            lt-ltb 0 (digits 0 t) (omega (arith, counted)),
-            ne_eqb (digits 0 t) 1 (omega (arith, counted)),
-            ne_eqb (get_or t 0 0) 48 z,
-            in-range small,
-          )
-          (ap₂ Number (sym numbered) (sym counted))
+      pub reading-end : n ≤ 2147483648 → (1 < i → get_or t 0 0 ≡ 48 → ⊥) → digits_at t ≡ Some (n, i)
+      reading-end small z = grind (arith, common_steps, counted, numbered)

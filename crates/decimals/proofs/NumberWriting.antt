@@ -1,6 +1,6 @@
 -- A number's digits from the last one on: how `write_number` goes through them, and that 20 are enough.
 use Rattle.std.proofs.Common.{◌≡◌, ℕ, zero, suc, ◌+◌, ◌-◌, ◌*◌, ◌/◌, ◌%◌, ◌^◌, ◌<◌, ◌≤◌, Bool, true, false, ltb, List, [], ◌∷◌, ◌++◌, length, set, sym, refl, ap, ◌∙◌, append_assoc, append-nil, arith, length-append, ltb-false, ltb-true, le-ltb, lt-ltb}
-use lib.Seq.{sets, length-sets}
+use lib.Seq.{sets}
 use Rattle.snesl.specs.Text.{digits_then, show_number}
 use Rattle.snesl.proofs.Texts.Decimals.{enough}
 use Rattle.decimals.proofs.Stores.{set_front}
@@ -149,6 +149,3 @@ module _ {old buf : List ℕ} {at n p m : ℕ} (a : Digiting old buf at n p m) w
       let q : p ≡ at = omega (arith, a.above) in
       let r : show_number n ≡ a.rest = a.whole ∙ ap (λ (k : ℕ). last_digits k m ++ a.rest) d in
       record { content = a.content ∙ ap (λ (k : ℕ). sets old k a.rest) q ∙ ap (sets old at) (sym r); count = e }
-
-  pub digiting-length : length buf ≡ length old
-  digiting-length = ap length a.content ∙ length-sets old p a.rest

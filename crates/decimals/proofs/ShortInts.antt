@@ -1,14 +1,12 @@
 -- The loop that reads up to ten digits, no zero in front: the first i make n, and nine make less than 10 ^ 9, which is in range.
-use Rattle.std.proofs.Common.{◌≡◌, ℕ, ◌+◌, ◌-◌, ◌*◌, ◌^◌, ◌<◌, ◌≤◌, Bool, true, false, eqb, List, get_or, ℤ, refl, ap, ◌∙◌, subst, pow-suc, add-one, arith, to_z-of_z, w32, to_z, of_z, eqb-true}
+use Rattle.std.proofs.Common.{◌≡◌, ℕ, false, ◌+◌, ◌*◌, ◌^◌, ◌<◌, ◌≤◌, List, get_or, subst, pow-suc, add-one, arith, w32, to_z}
+use Rattle.std.specs.Prelude.{Some}
+use Rattle.std.proofs.lemmas.Grind.{common_steps}
 use native.Mathlib.Nat.{pow-le-pow_right}
-use borrow.Author.Tests.{eqb-false}
-use Rattle.snesl.specs.Text.{is_digit, read_int}
-use Rattle.decimals.specs.Numbers.{digits_at, int_at, Sure}
-use Rattle.decimals.specs.declared.numbers.Digits.TheVariants.{Number}
-use Rattle.decimals.specs.declared.numbers.ReadInt.{ReadInt}
-use Rattle.decimals.specs.declared.numbers.ReadInt.TheVariants.{Int}
-use Rattle.decimals.proofs.NumberText.{digit-within, IsDigit, is_digit_lem, Reading, reading-start, reading-on, reading-one, reading-several}
-use Rattle.decimals.proofs.IntText.{numbered, plain_int, int_of, int-read}
+use Rattle.snesl.specs.Text.{is_digit}
+use Rattle.decimals.specs.Numbers.{digit_at, int_at}
+use Rattle.decimals.proofs.NumberText.{IsDigit, is_digit_lem, Reading, reading-start, reading-on, reading-end}
+use Rattle.decimals.proofs.IntText.{plain_int}
 
 pub record Short (t : List ℕ) (n i : ℕ) : Type 0 where
   pub reading : Reading t n i
@@ -24,24 +22,15 @@ module _ {t : List ℕ} {n i : ℕ} (a : Short t n i) where
       let p : 10 ^ (i + 1) ≡ 10 ^ i * 10 = rw add-one (pow-suc 10 i) in
       record { reading = reading-on a.reading h; first = a.first; below = omega (arith, a.below, h.small) }
 
-  pub short-end : 1 ≤ i → i ≤ 9 → is_digit (get_or t i 0) ≡ false → Int (to_z w32 n) i ≡ int_at t
+  pub short-end : 1 ≤ i → i ≤ 9 → is_digit (get_or t i 0) ≡ false → int_at t ≡ Some (to_z w32 n, i)
   short-end some few h =
-      plain_int t (λ e. omega (arith, a.first)) (numbered t n i (go (eqb i 1) refl)) (omega (arith, short-small few))
-    where
-      go : (c : Bool) → eqb i 1 ≡ c → Number n i ≡ digits_at t
-      go true e = reading-one a.reading h (omega (arith, short-small few)) (eqb-true i 1 e)
-      go false e =
-          reading-several a.reading h (λ z. omega arith) (eqb-false i 1 e) (omega (arith, short-small few)) (λ z. omega (arith, a.first))
+      let s : n < 1000000000 = short-small few in
+      plain_int t (λ e. omega (arith, a.first)) (reading-end a.reading h (λ z. omega arith) (omega arith) (λ m z. omega (arith, a.first))) (omega arith)
 
-pub short-first : (t : List ℕ) → 49 ≤ get_or t 0 0 → get_or t 0 0 ≤ 57 → Short t (get_or t 0 0 - 48) 1
-short-first t h l =
-    let e : 0 * 10 + (get_or t 0 0 - 48) ≡ get_or t 0 0 - 48 = omega arith in
-    subst (λ (n : ℕ). Short t n 1) e
-    (short_on
-    (record { reading = reading-start t; first = h; below = omega arith })
-    (is_digit_lem t 0 (get_or t 0 0 - 48) (rw (digit-within (get_or t 0 0) (omega arith) l))))
-
-pub sure-int : (t : List ℕ) {r : ReadInt} {z : ℤ} {k : ℕ} → Sure t r → r ≡ Int z k → Int (to_z w32 (of_z w32 z)) k ≡ int_at t
-sure-int t {r} {z} {k} s e =
-    let q : Int z k ≡ int_at t = subst (Sure t) e s in
-    ap (λ (x : ℤ). Int x k) (to_z-of_z (int-read t z k (int_of z k (read_int t) q)).fits) ∙ q
+-- the first digit is the byte less '0'
+pub short-first : (t : List ℕ) {n : ℕ} → n + 48 ≡ get_or t 0 0 → 1 ≤ n → n ≤ 9 → Short t n 1
+short-first t {n} e some few =
+    let z : 0 * 10 + n ≡ n = omega arith in
+    let first : 49 ≤ get_or t 0 0 = omega arith in
+    let d : Some n ≡ digit_at t 0 = grind (arith, common_steps) in
+    subst (λ (m : ℕ). Short t m 1) z (short_on (record { reading = reading-start t; first = first; below = omega arith }) (is_digit_lem t 0 n d))

@@ -1,8 +1,9 @@
 // The line of an instruction, from its value.
 #![tactic(auto)]
 
-ghost use Rattle.std.specs.Prelude.{[], ◌∷◌};
+ghost use Rattle.std.specs.Prelude.{[], ◌∷◌, ◌++◌};
 ghost use Rattle.snesl.specs.Transducers.{operands, operation_name, bool_name};
+ghost use Rattle.snesl.specs.Text.{show_int};
 ghost use Rattle.snesl.specs.Ascii.{ascii};
 ghost use Rattle.snesl.specs.Listing.{id_text, ids_text, name_text, define_line};
 ghost use Rattle.decimals.specs.Writing.{Writes};
@@ -20,25 +21,28 @@ fn put_name(text: &mut [u8], at: usize, t: Transducer) -> usize
     ensures { Writes text.old text.new at (name_text t) result }
 {
     match t {
-        Transducer::Const(z) => {
-            let p = put_bytes(text, at, b"Const_");
-            numbers::write_int(text, p, z)
-        }
+        Transducer::Const(z) => put_constant(text, at, b"Const_", z),
         Transducer::ConstBool(c) => put_bool_name(text, at, c),
         Transducer::ToFlags(_) => put_bytes(text, at, b"ToFlags"),
         Transducer::B2u(_) => put_bytes(text, at, b"B2u"),
         Transducer::Usum(_) => put_bytes(text, at, b"Usum"),
         Transducer::MapTwo(o, _, _) => put_operation_name(text, at, o),
         Transducer::MapOneNot(_) => put_bytes(text, at, b"MapOneNot"),
-        Transducer::ScanPlus(z, _, _) => {
-            let p = put_bytes(text, at, b"ScanPlus_");
-            numbers::write_int(text, p, z)
-        }
+        Transducer::ScanPlus(z, _, _) => put_constant(text, at, b"ScanPlus_", z),
         Transducer::Distr(_, _) => put_bytes(text, at, b"Distr"),
         Transducer::SumPlus(_, _) => put_bytes(text, at, b"SumPlus"),
         Transducer::Pack(_, _) => put_bytes(text, at, b"Pack"),
         Transducer::UPack(_, _) => put_bytes(text, at, b"UPack"),
     }
+}
+
+// A name and the constant behind it.
+fn put_constant(text: &mut [u8], at: usize, name: &[u8], z: i32) -> usize
+    requires { Countable at (name.now ++ show_int z) }
+    ensures { Writes text.old text.new at (name.now ++ show_int z) result }
+{
+    let p = put_bytes(text, at, name);
+    numbers::write_int(text, p, z)
 }
 
 // The name of a constant bool's transducer.
@@ -66,27 +70,28 @@ fn put_operation_name(text: &mut [u8], at: usize, o: Operation) -> usize
 }
 
 // The ids of a transducer's operands, joined by a comma.
+#[tactic(auto, using(decimals::proofs::Stores::writes_nothing), unfolding(snesl::specs::Text::joined))]
 fn put_operands(text: &mut [u8], at: usize, t: Transducer) -> usize
     requires { Countable at (ids_text (operands t)) }
     ensures { Writes text.old text.new at (ids_text (operands t)) result }
 {
     match t {
-        Transducer::Const(_) => at,
-        Transducer::ConstBool(_) => at,
-        Transducer::ToFlags(a) => put_id(text, at, a),
-        Transducer::B2u(a) => put_id(text, at, a),
-        Transducer::Usum(a) => put_id(text, at, a),
-        Transducer::MapTwo(_, a, b) => put_pair(text, at, a, b),
-        Transducer::MapOneNot(a) => put_id(text, at, a),
-        Transducer::ScanPlus(_, a, b) => put_pair(text, at, a, b),
-        Transducer::Distr(a, b) => put_pair(text, at, a, b),
-        Transducer::SumPlus(a, b) => put_pair(text, at, a, b),
-        Transducer::Pack(a, b) => put_pair(text, at, a, b),
-        Transducer::UPack(a, b) => put_pair(text, at, a, b),
+        Transducer::Const(_) | Transducer::ConstBool(_) => at,
+        Transducer::ToFlags(a)
+        | Transducer::B2u(a)
+        | Transducer::Usum(a)
+        | Transducer::MapOneNot(a) => put_id(text, at, a),
+        Transducer::MapTwo(_, a, b)
+        | Transducer::ScanPlus(_, a, b)
+        | Transducer::Distr(a, b)
+        | Transducer::SumPlus(a, b)
+        | Transducer::Pack(a, b)
+        | Transducer::UPack(a, b) => put_pair(text, at, a, b),
     }
 }
 
 // Two ids, joined by a comma.
+#[tactic(auto, unfolding(snesl::specs::Text::joined))]
 fn put_pair(text: &mut [u8], at: usize, a: StreamId, b: StreamId) -> usize
     requires { Countable at (ids_text (a.0 ∷ b.0 ∷ [])) }
     ensures { Writes text.old text.new at (ids_text (a.0 ∷ b.0 ∷ [])) result }

@@ -1,18 +1,19 @@
--- Adding counts up, copying them, and where streams of such lengths start: the loops of counts.rt.
+-- Adding counts up, and where streams of such lengths start: the loops of counts.rt.
 use Prim.Native.Nat.{ℕ, zero, suc, ◌+◌, ◌-◌, ◌≤◌, ◌<◌, ◌^◌}
 use mathlib.Core.Bool.{Bool, true, false}
-use mathlib.Core.List.{List, [], ◌∷◌, ◌++◌}
+use Rattle.std.specs.Prelude.{Some, None}
+use mathlib.Core.List.{List, [], ◌∷◌}
 use mathlib.Core.Path.{◌≡◌, refl, sym, ap, ◌∙◌, subst}
 use native.Mathlib.Numerals.{add-one}
+use Rattle.std.proofs.Common.{take_all}
 use native.Mathlib.Omega.{arith}
 use borrow.Author.Tests.{le-leb, lt-leb, eqb-true, eqb-false}
 use lib.Dec.{eqb}
 use lib.ListN.{length, get_or, set, take, drop, drop_of_length-le}
-use lib.Seq.{drop-cons, take-suc, set_at, append_snoc, length-take-le, get_or-set_same, get_or-set_other}
+use lib.Seq.{drop-cons, take-suc, get_or-set_same, get_or-set_other}
 use Rattle.snesl.specs.Machine.{sum_of}
 use Rattle.snesl.proofs.Correctness.Charged.{sum_of-append}
 use Rattle.levels.specs.Counts.{total_of}
-use Rattle.levels.specs.declared.counts.Total.TheVariants.{Of, Over}
 
 -- ---- sums
 
@@ -41,35 +42,21 @@ pub record Adding (ns : List ℕ) (most sum i : ℕ) : Type 0 where
   pub whole : sum_of ns ≡ sum + sum_of (drop i ns)
   pub within : sum ≤ most
 
-pub adding-start : (ns : List ℕ) (most : ℕ) → Adding ns most 0 0
-adding-start ns most = record { whole = omega arith; within = omega arith }
-
 module _ {ns : List ℕ} {most sum i : ℕ} (a : Adding ns most sum i) where
   pub adding-on : i < length ns → get_or ns i 0 ≤ most - sum → Adding ns most (sum + get_or ns i 0) (i + 1)
   adding-on h l = record { whole = omega (arith, a.whole, sum-on i ns h); within = omega (arith, a.within) }
 
-  pub adding-over : i < length ns → most - sum < get_or ns i 0 → Over ≡ total_of ns most
+  pub adding-over : i < length ns → most - sum < get_or ns i 0 → total_of ns most ≡ None
   adding-over h l =
       let o : most < sum_of ns = omega (arith, a.whole, a.within, sum-on i ns h) in
       rw (lt-leb (sum_of ns) most o)
 
-  pub adding-end : length ns ≤ i → Of sum ≡ total_of ns most
+  pub adding-end : length ns ≤ i → total_of ns most ≡ Some sum
   unfolding sum_of
   adding-end h =
       let s : sum_of ns ≡ sum = a.whole ∙ ap (λ (l : List ℕ). sum + sum_of l) (drop_of_length-le ns h) ∙ omega arith in
       let w : sum_of ns ≤ most = omega (arith, a.within) in
-      rw (le-leb (sum_of ns) most w) (ap Of (sym s))
-
--- ---- the copy: the first i are there
-
-pub copy-on : (from to : List ℕ) (i : ℕ) → i < length from → i < length to
-    → set (take i from ++ drop i to) i (get_or from i 0) ≡ take (i + 1) from ++ drop (i + 1) to
-copy-on from to i h k =
-    ap (λ (l : List ℕ). set (take i from ++ l) i (get_or from i 0)) (drop-cons to i 0 k)
-    ∙ set_at (take i from) (get_or to i 0) (drop (suc i) to) (get_or from i 0) i (length-take-le i from (omega arith))
-    ∙ sym (append_snoc (take i from) (get_or from i 0) (drop (suc i) to))
-    ∙ ap (λ (l : List ℕ). l ++ drop (suc i) to) (sym (take-suc from i 0 h))
-    ∙ ap (λ (j : ℕ). take j from ++ drop j to) (sym (add-one i))
+      rw (le-leb (sum_of ns) most w) (ap Some s)
 
 -- ---- the places: those of the first i streams, and at is where the next one starts
 
@@ -85,8 +72,11 @@ module _ {ns places : List ℕ} {start i at : ℕ} (a : Placing ns places start 
   pub placing-next : i < length ns → at + get_or ns i 0 ≡ start + sum_of (take (i + 1) ns)
   placing-next h = omega (arith, a.next, sum-front i ns h)
 
-  pub placing-fits : (n : ℕ) → i < n → n ≤ length ns → start + sum_of (take n ns) < 2 ^ 64 → at + get_or ns i 0 < 2 ^ 64
-  placing-fits n h l f = omega (arith, placing-next (omega arith), sum_less (i + 1) n ns (omega arith))
+  pub placing-fits : i < length ns → start + sum_of ns < 2 ^ 64 → at + get_or ns i 0 < 2 ^ 64
+  placing-fits h f =
+      let e : take (length ns) ns ≡ ns = take_all (length ns) ns (omega arith) in
+      let l : sum_of (take (i + 1) ns) ≤ sum_of ns = subst (λ (l : List ℕ). sum_of (take (i + 1) ns) ≤ sum_of l) e (sum_less (i + 1) (length ns) ns (omega arith)) in
+      omega (arith, placing-next h)
 
   pub placing-on : i < length ns → i < length places → Placing ns (set places i at) start (i + 1) (at + get_or ns i 0)
   placing-on h l = record { done = λ j k. go j k (eqb j i) refl; next = placing-next h }

@@ -9,54 +9,37 @@ use snesl::limits::Formula;
 pub const LEVELS: usize = Formula::DEPTH as usize + 1;
 
 // A total, unless it passes a limit.
-#[derive(Clone, Copy)]
-pub enum Total {
-    Of(usize),
-    Over,
-}
-
-pub fn add_up(counts: &[usize], most: usize) -> Total
+pub fn add_up(counts: &[usize], most: usize) -> Option<usize>
     ensures { result ≡ total_of counts.now most }
 {
     let mut sum: usize = 0;
-    let mut i: usize = 0;
-    while i < counts.len() {
-        let n = counts[i];
-        if n > most - sum {
-            return Total::Over;
+    for n in counts {
+        if *n > most - sum {
+            return None;
         }
-        sum += n;
-        i += 1;
+        sum += *n;
     }
-    Total::Of(sum)
+    Some(sum)
 }
 
-// The first n of some counts, put in front of others.
-pub fn copy(from: &[usize], n: usize, to: &mut [usize])
-    requires { (n ≤ length from.now) × (n ≤ length to.old) }
-    ensures { to.new ≡ take n from.now ++ drop n to.old }
+// Counts put in front of others.
+pub fn copy(from: &[usize], to: &mut [usize])
+    requires { length from.now ≤ length to.old }
+    ensures { to.new ≡ from.now ++ drop (length from.now) to.old }
 {
-    let mut i: usize = 0;
-    while i < n {
-        let c = from[i];
-        to[i] = c;
-        i += 1;
-    }
+    to[..from.len()].copy_from_slice(from);
 }
 
-// Where each of the first n streams starts, if they stand one after another from `start` on.
-pub fn starts(counts: &[usize], n: usize, start: usize, places: &mut [usize])
-    requires n_in_bounds { (n ≤ length counts.now) × (n ≤ length places.old) }
-    requires counts_bound { start + sum_of (take n counts.now) < 2 ^ 64 }
-    ensures by_index { (i : ℕ) → i < n → get_or places.new i 0 ≡ start + sum_of (take i counts.now) }
-    ensures places_unchanged { drop n places.new ≡ drop n places.old }
+// Where each stream starts, if they stand one after another from `start` on.
+pub fn starts(counts: &[usize], start: usize, places: &mut [usize])
+    requires places_bound { length counts.now ≤ length places.old }
+    requires counts_bound { start + sum_of counts.now < 2 ^ 64 }
+    ensures by_index { (i : ℕ) → i < length counts.now → get_or places.new i 0 ≡ start + sum_of (take i counts.now) }
+    ensures places_unchanged { drop (length counts.now) places.new ≡ drop (length counts.now) places.old }
 {
     let mut at = start;
-    let mut i: usize = 0;
-    while i < n {
+    for (i, n) in counts.iter().enumerate() {
         places[i] = at;
-        let c = counts[i];
-        at += c;
-        i += 1;
+        at += *n;
     }
 }

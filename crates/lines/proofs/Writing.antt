@@ -4,16 +4,8 @@ use native.Mathlib.Omega.{arith}
 use native.Mathlib.Numerals.{add-one}
 use mathlib.Core.List.{List, [], ◌∷◌, ◌++◌}
 use mathlib.Core.Path.{◌≡◌, sym, ap, ◌∙◌, subst}
-use lib.IntN.{ℤ}
-use mir.Syntax.{w32}
-use mir.Val.{SFits, to_z, of_z}
-use mir.Facts.{to_z-of_z}
 use lib.ListN.{length, take, get_or, length-append}
 use lib.Seq.{take-suc, take_all, length-take-le, length-sets}
-use Rattle.snesl.specs.declared.code.Transducer.{Transducer}
-use Rattle.snesl.specs.Text.{show_int}
-use Rattle.snesl.specs.Transducers.{operands}
-use Rattle.snesl.specs.Listing.{ids_text}
 use Rattle.decimals.specs.Writing.{Writes}
 use Rattle.decimals.proofs.Stores.{writes_then}
 use Rattle.lines.specs.Counting.{Countable}
@@ -48,29 +40,9 @@ pub writes-all : (bytes : List ℕ) (i : ℕ) {old new : List ℕ} {at p : ℕ}
     → Writes old new at bytes p
 writes-all bytes i {old} {new} {at} {p} h l = subst (λ w. Writes old new at w p) (take_all i bytes l) h
 
--- what is asked or known of the text of a value, where the value is known
-pub countable-of : {A : Type 0} (f : A → List ℕ) {x y : A} {at : ℕ} → x ≡ y → Countable at (f x) → Countable at (f y)
-countable-of f {at = at} e c = subst (λ v. Countable at (f v)) e c
-
-pub writes-of : {A : Type 0} (f : A → List ℕ) {x y : A} {old new : List ℕ} {at next : ℕ}
-    → x ≡ y
-    → Writes old new at (f y) next
-    → Writes old new at (f x) next
-writes-of f {old = old} {new = new} {at} {next} e w = subst (λ v. Writes old new at (f v) next) (sym e) w
-
-abbrev pub operands_text : Transducer → List ℕ
-operands_text t = ids_text (operands t)
-
--- some bytes and a constant, which code reads off its bits
-pub writes-constant : (u : List ℕ) (z : ℤ) {old mid new : List ℕ} {at p q : ℕ}
-    → SFits w32 z
-    → Writes old mid at u p
-    → Writes mid new p (show_int (to_z w32 (of_z w32 z))) q
-    → Writes old new at (u ++ show_int z) q
-writes-constant u z {mid = mid} {new = new} {p = p} {q = q} f h g = writes_then h (subst (λ x. Writes mid new p (show_int x) q) (to_z-of_z f) g)
-
+-- what is asked or known of a text that equals another
 pub countable-is : {u v : List ℕ} {at : ℕ} → u ≡ v → Countable at u → Countable at v
-countable-is e = countable-of (λ l. l) e
+countable-is {at = at} e c = subst (Countable at) e c
 
 pub writes-is : {u v : List ℕ} {old new : List ℕ} {at next : ℕ} → u ≡ v → Writes old new at v next → Writes old new at u next
-writes-is e = writes-of (λ l. l) e
+writes-is {old = old} {new = new} {at} {next} e w = subst (λ l. Writes old new at l next) (sym e) w

@@ -14,10 +14,8 @@ pub fn put_bytes(text: &mut [u8], at: usize, bytes: &[u8]) -> usize
     ensures { Writes text.old text.new at bytes.now result }
 {
     let mut p = at;
-    let mut i = 0;
-    while i < bytes.len() {
-        p = numbers::put(text, p, bytes[i]);
-        i += 1;
+    for b in bytes {
+        p = numbers::put(text, p, *b);
     }
     p
 }

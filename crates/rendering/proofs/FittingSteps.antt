@@ -1,68 +1,53 @@
 -- Flags tried by how many segments they are, and a row of streams tried level by level from the outermost on.
-use Prim.Native.Nat.{ℕ, suc, ◌+◌, ◌-◌, ◌≤◌, ◌<◌, ◌^◌}
+use Prim.Native.Nat.{ℕ, suc, ◌+◌, ◌-◌, ◌≤◌, ◌<◌}
 use mathlib.Core.Bool.{Bool, true, false, ◌&&◌}
 use mathlib.Core.List.{List, [], ◌∷◌, ◌++◌, reverse, reverse-append}
 use mathlib.Core.Option.{Option, some, none}
 use mathlib.Core.Path.{◌≡◌, refl, sym, ap, ap₂, ◌∙◌}
-use native.Mathlib.Numerals.{add-one}
 use native.Mathlib.Omega.{arith}
-use borrow.Author.Tests.{eq-eqb, ne_eqb}
-use lib.IntN.{ℤ, pos}
-use lib.ListN.{length, get_or, take, drop, drop_of_length-le}
-use lib.Seq.{drop-cons, drop-drop, take-suc, take_all, take-take, length-take-le, get_or-take}
-use lib.Signed.{mag}
-use mir.Syntax.{w32}
-use mir.Val.{of_z}
-use Rattle.laws.specs.Parts.{part}
+use borrow.Author.Tests.{eq-eqb}
+use lib.IntN.{ℤ}
+use lib.ListN.{length, get_or, take, drop}
+use lib.Seq.{drop-drop, take-suc, take_all, take-take, length-take-le, get_or-take}
 use Rattle.laws.proofs.Never.{never}
 use Rattle.snesl.specs.declared.code.Base.{Base}
 use Rattle.snesl.specs.declared.code.Base.TheVariants as base
 use Rattle.snesl.specs.Machine.{sum_of}
 use Rattle.snesl.specs.Trees.{Tree, leaf, node, grow}
 use Rattle.snesl.specs.Transducers.{flag_of, misfit, count_f, alone}
-use Rattle.snesl.specs.Representation.{is_flag, are_elements, misfit_tree, parts, tree_of}
-use Rattle.flags.specs.Flags.{shape_for}
+use Rattle.snesl.specs.Representation.{are_elements, misfit_tree, parts, tree_of}
+use Rattle.flags.specs.Flags.{found}
 use Rattle.flags.specs.Segments.{wholes}
-use Rattle.flags.specs.declared.reading.Shape.{Shape}
-use Rattle.flags.specs.declared.reading.Shape.TheVariants.{Whole, Ragged}
-use Rattle.flags.proofs.Stored.{zero_flag, one-flag, no_flag}
 use Rattle.flags.proofs.Fronts.{fits_count, whole-fits, fits_whole}
-use Rattle.rendering.specs.Fitting.{fit_for, fit_of, data_fits, bools_fit, fitting_for, fitting_of, InRow}
-use Rattle.rendering.specs.declared.fitting.Fit.TheVariants.{Items, No}
-use Rattle.rendering.specs.declared.fitting.Fitting.TheVariants.{Fits, Misfit}
+use Rattle.rendering.specs.Fitting.{fit_for, fit_of, data_fits, fitting_for, fitting_of, InRow}
+use Rattle.std.specs.Prelude as rust
+use Rattle.std.specs.Prelude.{Some, None, Ok, Err}
 use Rattle.levels.proofs.Counting.{sum-front, sum_less}
 
 -- ---- flags told by how many segments they are
 
-all-flags : (fs : List ℤ) → part 0 (length fs) fs ≡ fs
-unfolding part
-all-flags fs = take_all (length fs) fs (omega arith)
-
-module _ (fs : List ℤ) {shape : Shape} (read : shape ≡ shape_for (wholes flag_of 0 false (part 0 (length fs) fs))) where
-  told : shape ≡ shape_for (wholes flag_of 0 false fs)
-  told = read ∙ ap (λ (l : List ℤ). shape_for (wholes flag_of 0 false l)) (all-flags fs)
-
+module _ (fs : List ℤ) {ends : rust.Option ℕ} (read : ends ≡ found (wholes flag_of 0 false fs)) where
   -- flags that fit are as many segments as they are to be
-  misfits : (n : ℕ) → (shape ≡ Whole n → ⊥) → No ≡ fit_of n fs
+  misfits : (n : ℕ) → (ends ≡ Some n → ⊥) → None ≡ fit_of n fs
   misfits n other = go (misfit flag_of {B = ℤ} alone 0 n fs []) refl
     where
-      go : (o : Option ℕ) → misfit flag_of {B = ℤ} alone 0 n fs [] ≡ o → No ≡ fit_for o (count_f flag_of fs)
+      go : (o : Option ℕ) → misfit flag_of {B = ℤ} alone 0 n fs [] ≡ o → None ≡ fit_for o (count_f flag_of fs)
       go none h =
           let z : 0 + n ≡ n = omega arith in
-          absurd (other (told ∙ ap shape_for (fits_whole flag_of n 0 fs h) ∙ ap Whole z))
+          absurd (other (read ∙ ap found (fits_whole flag_of n 0 fs h) ∙ ap Some z))
       go (some k) h = refl
 
-  pub fit-ragged : shape ≡ Ragged → (n : ℕ) → No ≡ fit_of n fs
+  pub fit-ragged : ends ≡ None → (n : ℕ) → None ≡ fit_of n fs
   fit-ragged ragged n = misfits n (λ e. never (cc))
 
-  module _ {m : ℕ} (whole : shape ≡ Whole m) where
-    pub fit-other : (n : ℕ) → (m ≡ n → ⊥) → No ≡ fit_of n fs
+  module _ {m : ℕ} (whole : ends ≡ Some m) where
+    pub fit-other : (n : ℕ) → (m ≡ n → ⊥) → None ≡ fit_of n fs
     fit-other n other = misfits n (λ e. other (cc))
 
     is_whole : wholes flag_of 0 false fs ≡ some m
-    is_whole = go (wholes flag_of 0 false fs) told
+    is_whole = go (wholes flag_of 0 false fs) read
       where
-        go : (o : Option ℕ) → shape ≡ shape_for o → o ≡ some m
+        go : (o : Option ℕ) → ends ≡ found o → o ≡ some m
         go none e = never (cc)
         go (some k) e = cc
 
@@ -77,50 +62,14 @@ module _ (fs : List ℤ) {shape : Shape} (read : shape ≡ shape_for (wholes fla
     pub fit-fewer : m ≤ length fs
     fit-fewer = omega (arith, counts)
 
-    pub fit-items : (n : ℕ) → m ≡ n → Items (length fs - m) ≡ fit_of n fs
+    pub fit-items : (n : ℕ) → m ≡ n → Some (length fs - m) ≡ fit_of n fs
     fit-items n right =
         let e : length fs - m ≡ count_f flag_of fs = omega (arith, counts) in
-        ap Items e ∙ sym (ap (λ (o : Option ℕ). fit_for o (count_f flag_of fs)) fits) ∙ ap (λ (k : ℕ). fit_of k fs) right
+        ap Some e ∙ sym (ap (λ (o : Option ℕ). fit_for o (count_f flag_of fs)) fits) ∙ ap (λ (k : ℕ). fit_of k fs) right
 
--- ---- data tried element by element
-
--- the elements before i are bools
-pub record Tried (zs : List ℤ) (i : ℕ) : Type 0 where
-  pub whole : bools_fit zs ≡ bools_fit (drop i zs)
-
-pub tried-start : (zs : List ℤ) → Tried zs 0
-tried-start zs = record { whole = refl }
-
-module _ {zs : List ℤ} {i : ℕ} (a : Tried zs i) where
-  module _ (h : i < length zs) where
-    tried-next : bools_fit zs ≡ (is_flag (flag_of (get_or zs i (pos 0))) && bools_fit (drop (i + 1) zs))
-    unfolding are_elements
-    tried-next =
-        a.whole
-        ∙ ap bools_fit (drop-cons zs i (pos 0) h)
-        ∙ ap (λ (k : ℕ). is_flag (flag_of (get_or zs i (pos 0))) && bools_fit (drop k zs)) (sym (add-one i))
-
-    tried-bool : (c : Bool) → flag_of (get_or zs i (pos 0)) ≡ some c → Tried zs (i + 1)
-    tried-bool c e = record { whole = tried-next ∙ ap (λ (o : Option Bool). is_flag o && bools_fit (drop (i + 1) zs)) e }
-
-    pub tried-zero : mag (get_or zs i (pos 0)) < 2 ^ 31 → of_z w32 (get_or zs i (pos 0)) ≡ 0 → Tried zs (i + 1)
-    tried-zero k e = tried-bool false (zero_flag (get_or zs i (pos 0)) k e)
-
-    pub tried-one : mag (get_or zs i (pos 0)) < 2 ^ 31 → of_z w32 (get_or zs i (pos 0)) ≡ 1 → Tried zs (i + 1)
-    tried-one k e = tried-bool true (one-flag (get_or zs i (pos 0)) k e)
-
-    pub tried-neither : (of_z w32 (get_or zs i (pos 0)) ≡ 0 → ⊥) → (of_z w32 (get_or zs i (pos 0)) ≡ 1 → ⊥) → false ≡ bools_fit zs
-    tried-neither f g =
-        sym (tried-next ∙ ap (λ (o : Option Bool). is_flag o && bools_fit (drop (i + 1) zs)) (no_flag (get_or zs i (pos 0)) f g))
-
-  pub tried-end : length zs ≤ i → true ≡ bools_fit zs
-  unfolding are_elements
-  tried-end h = sym (a.whole ∙ ap bools_fit (drop_of_length-le zs h))
+-- ---- data
 
 module _ (zs : List ℤ) (n : ℕ) where
-  pub fit-lacks : (β : Base) → (length zs ≡ n → ⊥) → false ≡ data_fits β n zs
-  fit-lacks β e = sym (ap (λ (b : Bool). b && are_elements β zs) (ne_eqb (length zs) n e))
-
   fit-elements : (β : Base) → length zs ≡ n → data_fits β n zs ≡ are_elements β zs
   fit-elements β e = ap (λ (b : Bool). b && are_elements β zs) (eq-eqb (length zs) n e)
 
@@ -132,9 +81,6 @@ module _ (zs : List ℤ) (n : ℕ) where
 
   pub fit-ints : {β : Base} → length zs ≡ n → β ≡ base.Int → true ≡ data_fits β n zs
   fit-ints {β} e p = sym (fit-elements β e ∙ ap (λ (x : Base). are_elements x zs) p ∙ all-ints zs)
-
-  pub fit-bools : {β : Base} {b : Bool} → length zs ≡ n → β ≡ base.Bool → b ≡ bools_fit zs → b ≡ data_fits β n zs
-  fit-bools {β} e p q = q ∙ ap (λ (x : Base). are_elements x zs) (sym p) ∙ sym (fit-elements β e)
 
 -- ---- the levels of a row
 
@@ -175,19 +121,19 @@ tree-level l ls zs h =
     (level-front ls zs (suc l) (suc (suc l)) (omega arith))
 
 module _ (β : Base) {d : ℕ} (n : ℕ) (t : Tree (List ℤ) d) (fs : List ℤ) where
-  tree-fits : {items : ℕ} → Items items ≡ fit_of n fs → misfit_tree β n (node t fs) ≡ misfit_tree β items t
+  tree-fits : {items : ℕ} → Some items ≡ fit_of n fs → misfit_tree β n (node t fs) ≡ misfit_tree β items t
   unfolding misfit_tree
   tree-fits {items} e = go (misfit flag_of {B = ℤ} alone 0 n fs []) refl e
     where
-      go : (o : Option ℕ) → misfit flag_of {B = ℤ} alone 0 n fs [] ≡ o → Items items ≡ fit_for o (count_f flag_of fs) → misfit_tree β n (node t fs) ≡ misfit_tree β items t
+      go : (o : Option ℕ) → misfit flag_of {B = ℤ} alone 0 n fs [] ≡ o → Some items ≡ fit_for o (count_f flag_of fs) → misfit_tree β n (node t fs) ≡ misfit_tree β items t
       go none h e' = let p : count_f flag_of fs ≡ items = cc in rw (h, misfit_tree) (ap (λ (m : ℕ). misfit_tree β m t) p)
       go (some k) h e' = let x : ◌≡◌ {A = ℕ} 0 1 = cc in absurd (omega arith)
 
-  tree-misfits : No ≡ fit_of n fs → misfit_tree β n (node t fs) ≡ some (suc d)
+  tree-misfits : None ≡ fit_of n fs → misfit_tree β n (node t fs) ≡ some (suc d)
   unfolding misfit_tree
   tree-misfits e = go (misfit flag_of {B = ℤ} alone 0 n fs []) refl e
     where
-      go : (o : Option ℕ) → misfit flag_of {B = ℤ} alone 0 n fs [] ≡ o → No ≡ fit_for o (count_f flag_of fs) → misfit_tree β n (node t fs) ≡ some (suc d)
+      go : (o : Option ℕ) → misfit flag_of {B = ℤ} alone 0 n fs [] ≡ o → None ≡ fit_for o (count_f flag_of fs) → misfit_tree β n (node t fs) ≡ some (suc d)
       go none h e' = let x : ◌≡◌ {A = ℕ} 0 1 = cc in absurd (omega arith)
       go (some k) h e' = rw (h, misfit_tree)
 
@@ -251,7 +197,7 @@ module _ {d : ℕ} {ls ps : List ℕ} (zs : List ℤ) (r : InRow d (length zs) l
       part_of : take (get_or ps lv 0 + get_or ls lv 0 - get_or ps lv 0) (drop (get_or ps lv 0) zs) ≡ level ls zs (suc (lv - 1))
       part_of = part-level lv a.inside ∙ ap (level ls zs) deeper
 
-      pub trial_on : {items : ℕ} → Items items ≡ fit_of n (take (get_or ps lv 0 + get_or ls lv 0 - get_or ps lv 0) (drop (get_or ps lv 0) zs))
+      pub trial_on : {items : ℕ} → Some items ≡ fit_of n (take (get_or ps lv 0 + get_or ls lv 0 - get_or ps lv 0) (drop (get_or ps lv 0) zs))
           → Trial β d ls zs items (lv - 1)
       trial_on e =
           record {
@@ -261,8 +207,8 @@ module _ {d : ℕ} {ls ps : List ℕ} (zs : List ℤ) (r : InRow d (length zs) l
             inside = omega (arith, a.inside);
           }
 
-      pub trial-misfit : No ≡ fit_of n (take (get_or ps lv 0 + get_or ls lv 0 - get_or ps lv 0) (drop (get_or ps lv 0) zs))
-          → Misfit lv ≡ fitting_of β d ls zs
+      pub trial-misfit : None ≡ fit_of n (take (get_or ps lv 0 + get_or ls lv 0 - get_or ps lv 0) (drop (get_or ps lv 0) zs))
+          → Err lv ≡ fitting_of β d ls zs
       trial-misfit e =
           sym
           (ap fitting_for
@@ -282,8 +228,8 @@ module _ {d : ℕ} {ls ps : List ℕ} (zs : List ℤ) (r : InRow d (length zs) l
       unfolding level sum_of
       data-told fits e = ap fitting_for (at-data ∙ leaf-told β n (take (get_or ls 0 0) zs) fits e)
 
-      pub trial-fits : true ≡ data_fits β n (take (get_or ls 0 0) zs) → Fits ≡ fitting_of β d ls zs
+      pub trial-fits : true ≡ data_fits β n (take (get_or ls 0 0) zs) → Ok tt ≡ fitting_of β d ls zs
       trial-fits e = sym (data-told true e)
 
-      pub trial-data : false ≡ data_fits β n (take (get_or ls 0 0) zs) → Misfit 0 ≡ fitting_of β d ls zs
+      pub trial-data : false ≡ data_fits β n (take (get_or ls 0 0) zs) → Err 0 ≡ fitting_of β d ls zs
       trial-data e = sym (data-told false e)

@@ -1,16 +1,15 @@
 -- From what the writers leave to streams to text: a value's streams in a row stand at the row's places, and the answers in the order of the document.
-use Prim.Native.Nat.{ℕ, zero, suc, ◌+◌, ◌≤◌, ◌<◌, ◌^◌}
-use mathlib.Core.Bool.{Bool, true, false, ◌&&◌}
+use Prim.Native.Nat.{ℕ, zero, suc, ◌+◌, ◌≤◌, ◌<◌}
+use mathlib.Core.Bool.{Bool, true, false}
 use mathlib.Core.List.{List, [], ◌∷◌, ◌++◌, map, map-append, append-nil}
 use mathlib.Core.Option.{Option, some, none}
 use mathlib.Core.Path.{◌≡◌, refl, sym, ap, ap₂, ◌∙◌, subst}
-use native.Mathlib.Numerals.{add-one}
 use native.Mathlib.Omega.{arith}
-use borrow.Author.Tests.{le-leb, lt-leb, leb-true, lt-ltb, le-ltb, eq-eqb, ne_eqb}
-use lib.Dec.{eqb, leb}
+use borrow.Author.Tests.{le-leb, lt-leb, le-ltb}
+use lib.Dec.{leb}
 use lib.IntN.{ℤ}
 use lib.ListN.{length, get_or, take, drop, length-map, get_or-append}
-use lib.Seq.{sets, sets-eq, take_all, get_or-take, length-take-le}
+use lib.Seq.{sets-eq, take_all, get_or-take, length-take-le}
 use Rattle.snesl.specs.declared.code.Base.{Base}
 use Rattle.snesl.specs.Values.{depth_of, base_of, type_of, Val}
 use Rattle.snesl.specs.Streams.{Store, elements, len, bit, flags, contents}
@@ -18,24 +17,19 @@ use Rattle.snesl.specs.Trees.{order}
 use Rattle.snesl.specs.Machine.{sum_of}
 use Rattle.snesl.specs.Representation.{concat, segments, represent, streams_of, misfit_tree, values, tree_of}
 use Rattle.snesl.specs.Text.{show}
-use Rattle.snesl.specs.Limits.{most_depth, most_elements}
+use Rattle.snesl.specs.Limits.{most_depth}
 use Rattle.snesl.specs.declared.refusal.Refusal.TheVariants.{OverLimit, NoAnswerRoom, NoRepresentation}
 use Rattle.snesl.proofs.Representing.StreamRows.{streams-again, value-streams}
 use Rattle.snesl.proofs.Representing.Elements.{length-elements}
 use Rattle.snesl.proofs.Types.{depth-of-type, base-of-type}
 use Rattle.decimals.specs.Numbers.{pick}
-use Rattle.levels.specs.Counts.{total_of}
 use Rattle.valuetext.specs.Laying.{cells}
 use Rattle.rendering.specs.Standing.{StandsAt, Stands}
 use Rattle.rendering.specs.Showing.{Showable, Shown}
 use Rattle.rendering.specs.Fitting.{fitting_for, fitting_of, InRow}
-use Rattle.rendering.specs.Rendering.{ValueStands, ShowsValue, Rendering, refused_as, text_in, fitting_text, row_text, Row, right_lengths, to_text}
-use Rattle.levels.specs.declared.counts.Total.TheVariants.{Of, Over}
-use Rattle.rendering.specs.declared.fitting.Fitting.TheVariants.{Fits, Misfit}
-use Rattle.rendering.specs.declared.showing.Written.{Written}
-use Rattle.rendering.specs.declared.showing.Written.TheVariants.{Bytes, Refused}
+use Rattle.rendering.specs.Rendering.{ValueStands, ShowsValue, refused_as, text_in, fitting_text, row_text, Row, right_lengths, to_text}
+use Rattle.std.specs.Prelude.{Ok, Err}
 use Rattle.valuetext.proofs.Represented.{length-data, streams, streams-more, contents-more, Placed, placed}
-use Rattle.decimals.proofs.Stores.{sets-none}
 use Rattle.rendering.proofs.Standing.{stands-front, stands-behind}
 use Rattle.rendering.proofs.TextLength.{size_small}
 
@@ -50,17 +44,17 @@ stands_alike β (suc d) b cs es vs h s = (
   subst (λ (c : ℕ). StandsAt b c (map bit (segments vs))) (h (suc d) (omega arith)) s.1,
 )
 
-copied : (d : ℕ) (from to : List ℕ) → d < length from → (i : ℕ) → i ≤ d → get_or from i 0 ≡ get_or (take (d + 1) from ++ drop (d + 1) to) i 0
-copied d from to h i k =
+copied : (d : ℕ) (from rest : List ℕ) → d < length from → (i : ℕ) → i ≤ d → get_or from i 0 ≡ get_or (take (d + 1) from ++ rest) i 0
+copied d from rest h i k =
     sym
-    (get_or-append (take (d + 1) from) (drop (d + 1) to) 0 i (omega (arith, length-take-le (d + 1) from (omega arith)))
+    (get_or-append (take (d + 1) from) rest 0 i (omega (arith, length-take-le (d + 1) from (omega arith)))
     ∙ get_or-take (d + 1) from i 0 (omega arith))
 
-module _ {β : Base} {d : ℕ} {b : List ℤ} {places : List ℕ} (a : ValueStands β d b places) {cs : List ℕ} (to : List ℕ) (e : cs ≡ take (d + 1) places ++ drop (d + 1) to) where
+module _ {β : Base} {d : ℕ} {b : List ℤ} {places : List ℕ} (a : ValueStands β d b places) {cs : List ℕ} (rest : List ℕ) (e : cs ≡ take (d + 1) places ++ rest) where
   stands-copied : (v : Val (type_of β d)) → Stands β d b places (v ∷ []) → Stands β d b cs (v ∷ [])
   stands-copied v s =
       subst (λ (l : List ℕ). Stands β d b l (v ∷ [])) (sym e)
-      (stands_alike β d b places (take (d + 1) places ++ drop (d + 1) to) (v ∷ []) (copied d places to a.levels) s)
+      (stands_alike β d b places (take (d + 1) places ++ rest) (v ∷ []) (copied d places rest a.levels) s)
 
   pub value-showable : length cs ≡ 9 → Showable β d b cs 0
   value-showable l =
@@ -143,33 +137,27 @@ same-misfit β d ls zs =
     ap₂ (λ (x : Base) (n : ℕ). misfit_tree x 1 (tree_of n ls zs)) (sym (base-of-type β d)) (sym (depth-of-type β d))
 
 module _ {d : ℕ} {ls : List ℕ} {lent : ℕ} (r : Row d ls lent) where
-  pub row-starts : ((d + 1 ≤ length ls) × (d + 1 ≤ 9)) × (0 + sum_of (take (d + 1) ls) < 2 ^ 64)
-  row-starts = (
-    (omega (arith, r.levels), omega (arith, r.shallow)),
-    omega (arith, ap sum_of (take_all (d + 1) ls (omega (arith, r.levels))), r.all-lent, r.few),
-  )
-
-  pub row-places : (places : List ℕ) → length places ≡ 9 → ((i : ℕ) → i < d + 1 → get_or places i 0 ≡ 0 + sum_of (take i ls)) → InRow d lent ls places
+  pub row-places : (places : List ℕ) → length places ≡ 9 → ((i : ℕ) → i < length ls → get_or places i 0 ≡ 0 + sum_of (take i ls)) → InRow d lent ls places
   row-places places l p =
       record {
         levels = r.levels;
         all-lent = r.all-lent;
         placed = omega (arith, r.levels, r.shallow);
-        starts = λ i h. p i (omega arith) ∙ (omega arith);
+        starts = λ i h. p i (omega (arith, r.levels)) ∙ (omega arith);
       }
 
 module _ (zs : List ℤ) (β : Base) {d : ℕ} {ls : List ℕ} (old : List ℕ) (r : Row d ls (length zs)) where
-  module _ (f : Fits ≡ fitting_of β d ls zs) where
+  module _ (f : Ok tt ≡ fitting_of β d ls zs) where
     no-misfit : misfit_tree (base_of (type_of β d)) 1 (tree_of (depth_of (type_of β d)) ls zs) ≡ none
     no-misfit = go (misfit_tree (base_of (type_of β d)) 1 (tree_of (depth_of (type_of β d)) ls zs)) refl (f ∙ ap fitting_for (same-misfit β d ls zs))
       where
-        go : (o : Option ℕ) → misfit_tree (base_of (type_of β d)) 1 (tree_of (depth_of (type_of β d)) ls zs) ≡ o → Fits ≡ fitting_for o → misfit_tree (base_of (type_of β d)) 1 (tree_of (depth_of (type_of β d)) ls zs) ≡ none
+        go : (o : Option ℕ) → misfit_tree (base_of (type_of β d)) 1 (tree_of (depth_of (type_of β d)) ls zs) ≡ o → Ok tt ≡ fitting_for o → misfit_tree (base_of (type_of β d)) 1 (tree_of (depth_of (type_of β d)) ls zs) ≡ none
         go none h e = h
         go (some j) h e = let z : ◌≡◌ {A = ℕ} 0 1 = cc in absurd (omega arith)
 
-    module _ (places : List ℕ) (l : length places ≡ 9) (p : (i : ℕ) → i < d + 1 → get_or places i 0 ≡ 0 + sum_of (take i ls)) where
+    module _ (places : List ℕ) (l : length places ≡ 9) (p : (i : ℕ) → i < length ls → get_or places i 0 ≡ 0 + sum_of (take i ls)) where
       the : RowValue β d zs ls places
-      the = row-value β d zs ls places r.levels r.all-lent no-misfit p
+      the = row-value β d zs ls places r.levels r.all-lent no-misfit (λ i h. p i (omega (arith, r.levels)))
 
       pub row-stands : ValueStands β d zs places
       row-stands =
@@ -188,105 +176,40 @@ module _ (zs : List ℤ) (β : Base) {d : ℕ} {ls : List ℕ} (old : List ℕ) 
       measured : {b₁ : List ℕ} {n : ℕ} → ShowsValue β d zs places [] b₁ n → n ≡ length (show (type_of β d) the.value)
       measured s = (s.written the.value the.stands).count ∙ (omega arith)
 
-      -- lent no bytes, the writer leaves all as it was
-      unwritten : {b₁ : List ℕ} {n : ℕ} → ShowsValue β d zs places [] b₁ n → b₁ ++ old ≡ old
-      unwritten s =
-          ap (λ (l : List ℕ). l ++ old) ((s.written the.value the.stands).content ∙ sets-none 0 (show (type_of β d) the.value))
-
-      pub row-long : {b₁ : List ℕ} {n : ℕ} → ShowsValue β d zs places [] b₁ n → length (b₁ ++ old) < n
-          → (Refused (NoAnswerRoom n) ≡ (row_text zs ls (type_of β d) old).answer) × (b₁ ++ old ≡ (row_text zs ls (type_of β d) old).bytes)
-      row-long {b₁} {n} s k =
-          let h : length old < n = subst (λ (l : List ℕ). length l < n) (unwritten s) k in
+      pub row-long : {b₁ : List ℕ} {n : ℕ} → ShowsValue β d zs places [] b₁ n → length old < n
+          → (Err (NoAnswerRoom n) ≡ (row_text zs ls (type_of β d) old).answer) × (old ≡ (row_text zs ls (type_of β d) old).bytes)
+      row-long {b₁} {n} s h =
           let m : n ≡ length (show (type_of β d) the.value) = measured s in
           let t : leb (length (show (type_of β d) the.value)) (length old) ≡ false = lt-leb (length (show (type_of β d) the.value)) (length old) (omega arith) in
-          rw (text-is, t) (ap (λ (k : ℕ). Refused (NoAnswerRoom k)) m, unwritten s)
+          rw (text-is, t) (ap (λ (k : ℕ). Err (NoAnswerRoom k)) m, refl)
 
-      pub row_written : {b₁ new : List ℕ} {n k : ℕ} → ShowsValue β d zs places [] b₁ n → n ≤ length (b₁ ++ old) → ShowsValue β d zs places (b₁ ++ old) new k
-          → (Bytes n ≡ (row_text zs ls (type_of β d) old).answer) × (new ≡ (row_text zs ls (type_of β d) old).bytes)
-      row_written {b₁} {new} {n} {k} s f u =
-          let h : n ≤ length old = subst (λ (l : List ℕ). n ≤ length l) (unwritten s) f in
+      pub row_written : {b₁ new : List ℕ} {n k : ℕ} → ShowsValue β d zs places [] b₁ n → n ≤ length old → ShowsValue β d zs places old new k
+          → (Ok n ≡ (row_text zs ls (type_of β d) old).answer) × (new ≡ (row_text zs ls (type_of β d) old).bytes)
+      row_written {b₁} {new} {n} {k} s h u =
           let m : n ≡ length (show (type_of β d) the.value) = measured s in
           let t : leb (length (show (type_of β d) the.value)) (length old) ≡ true = le-leb (length (show (type_of β d) the.value)) (length old) (omega arith) in
           let z : 0 + length (show (type_of β d) the.value) ≡ length (show (type_of β d) the.value) = omega arith in
           rw (text-is, t) (
-            ap Bytes m,
+            ap Ok m,
             (u.written the.value the.stands).content
-                ∙ ap (λ (l : List ℕ). sets l 0 (show (type_of β d) the.value)) (unwritten s)
                 ∙ sets-eq (show (type_of β d) the.value) old 0 (omega arith)
                 ∙ ap (λ (j : ℕ). show (type_of β d) the.value ++ drop j old) z,
           )
 
-  pub row-misfit : {j : ℕ} → Misfit j ≡ fitting_of β d ls zs
-      → (Refused (NoRepresentation j) ≡ (row_text zs ls (type_of β d) old).answer) × (old ≡ (row_text zs ls (type_of β d) old).bytes)
+  pub row-misfit : {j : ℕ} → Err j ≡ fitting_of β d ls zs
+      → (Err (NoRepresentation j) ≡ (row_text zs ls (type_of β d) old).answer) × (old ≡ (row_text zs ls (type_of β d) old).bytes)
   row-misfit {j} f = go (misfit_tree (base_of (type_of β d)) 1 (tree_of (depth_of (type_of β d)) ls zs)) (f ∙ ap fitting_for (same-misfit β d ls zs))
     where
-      go : (o : Option ℕ) → Misfit j ≡ fitting_for o
-          → (Refused (NoRepresentation j) ≡ (fitting_text (type_of β d) o (values (type_of β d) (tree_of (depth_of (type_of β d)) ls zs)) old).answer) × (old ≡ (fitting_text (type_of β d) o (values (type_of β d) (tree_of (depth_of (type_of β d)) ls zs)) old).bytes)
+      go : (o : Option ℕ) → Err j ≡ fitting_for o
+          → (Err (NoRepresentation j) ≡ (fitting_text (type_of β d) o (values (type_of β d) (tree_of (depth_of (type_of β d)) ls zs)) old).answer) × (old ≡ (fitting_text (type_of β d) o (values (type_of β d) (tree_of (depth_of (type_of β d)) ls zs)) old).bytes)
       go none e = let z : ◌≡◌ {A = ℕ} 0 1 = cc in absurd (omega arith)
-      go (some i) e = let q : j ≡ i = cc in (ap (λ (k : ℕ). Refused (NoRepresentation k)) q, refl)
+      go (some i) e = let q : j ≡ i = cc in (ap (λ (k : ℕ). Err (NoRepresentation k)) q, refl)
 
 -- ---- the whole
 
-module _ (zs : List ℤ) (ls : List ℕ) (β : Base) (d : ℕ) (old : List ℕ) where
-  pub too-deep : most_depth < d → (Refused (OverLimit 0) ≡ (to_text zs ls β d old).answer) × (old ≡ (to_text zs ls β d old).bytes)
-  too-deep h = rw (lt-ltb most_depth d h) (refl, refl)
-
-  module _ (h : d ≤ most_depth) where
-    pub text-by : (b : Bool) → right_lengths ls d (length zs) ≡ b
-        → to_text zs ls β d old ≡ pick b (row_text zs ls (type_of β d) old) (refused_as (NoRepresentation (suc d)) old)
-    text-by b e =
-        ap₂ (λ (x y : Bool). pick x (refused_as (OverLimit 0) old) (pick y (row_text zs ls (type_of β d) old) (refused_as (NoRepresentation (suc d)) old)))
-        (le-ltb most_depth d h) e
-
-    wrong : right_lengths ls d (length zs) ≡ false
-        → (Refused (NoRepresentation (d + 1)) ≡ (to_text zs ls β d old).answer) × (old ≡ (to_text zs ls β d old).bytes)
-    wrong e = rw (text-by false e) (ap (λ (k : ℕ). Refused (NoRepresentation k)) (add-one d), refl)
-
-    pub wrong-levels : (length ls ≡ d + 1 → ⊥)
-        → (Refused (NoRepresentation (d + 1)) ≡ (to_text zs ls β d old).answer) × (old ≡ (to_text zs ls β d old).bytes)
-    wrong-levels k = wrong (rw (ne_eqb (length ls) (suc d) (λ e. k (e ∙ sym (add-one d)))))
-
-    module _ (k : length ls ≡ d + 1) where
-      levels : eqb (length ls) (suc d) ≡ true
-      levels = eq-eqb (length ls) (suc d) (k ∙ add-one d)
-
-      pub wrong-over : Over ≡ total_of ls most_elements
-          → (Refused (NoRepresentation (d + 1)) ≡ (to_text zs ls β d old).answer) × (old ≡ (to_text zs ls β d old).bytes)
-      wrong-over o = go (leb (sum_of ls) most_elements) refl o
-        where
-          both : (p : Bool) → (p && false) ≡ false
-          both true = refl
-          both false = refl
-
-          go : (b : Bool) → leb (sum_of ls) most_elements ≡ b → Over ≡ pick b (Of (sum_of ls)) Over
-              → (Refused (NoRepresentation (d + 1)) ≡ (to_text zs ls β d old).answer) × (old ≡ (to_text zs ls β d old).bytes)
-          go true e q = let z : ◌≡◌ {A = ℕ} 0 1 = cc in absurd (omega arith)
-          go false e q = wrong (rw (levels, e) (both (eqb (sum_of ls) (length zs))))
-
-      module _ {sum : ℕ} (o : Of sum ≡ total_of ls most_elements) where
-        known : (sum ≡ sum_of ls) × (leb (sum_of ls) most_elements ≡ true)
-        known = go (leb (sum_of ls) most_elements) refl o
-          where
-            go : (b : Bool) → leb (sum_of ls) most_elements ≡ b → Of sum ≡ pick b (Of (sum_of ls)) Over → (sum ≡ sum_of ls) × (leb (sum_of ls) most_elements ≡ true)
-            go true e q = let p : sum ≡ sum_of ls = cc in (p, e)
-            go false e q = let z : ◌≡◌ {A = ℕ} 0 1 = cc in absurd (omega arith)
-
-        pub wrong-sum : (sum ≡ length zs → ⊥)
-            → (Refused (NoRepresentation (d + 1)) ≡ (to_text zs ls β d old).answer) × (old ≡ (to_text zs ls β d old).bytes)
-        wrong-sum n = wrong (rw (levels, ne_eqb (sum_of ls) (length zs) (λ e. n (known.0 ∙ e))))
-
-        pub right-row : sum ≡ length zs → Row d ls (length zs)
-        right-row e =
-            record {
-              shallow = h;
-              levels = k ∙ add-one d;
-              all-lent = sym known.0 ∙ e;
-              few = omega (arith, leb-true (sum_of ls) most_elements known.1, known.0);
-            }
-
-        pub right-text : {w : Written} {new : List ℕ} → sum ≡ length zs
-            → (w ≡ (row_text zs ls (type_of β d) old).answer) × (new ≡ (row_text zs ls (type_of β d) old).bytes)
-            → (w ≡ (to_text zs ls β d old).answer) × (new ≡ (to_text zs ls β d old).bytes)
-        right-text {w} {new} e p =
-            let t : right_lengths ls d (length zs) ≡ true = rw (levels, eq-eqb (sum_of ls) (length zs) (sym known.0 ∙ e)) known.1 in
-            subst (λ (c : Rendering). (w ≡ c.answer) × (new ≡ c.bytes)) (sym (text-by true t)) p
+-- of no type that is too deep, and as the lengths are
+pub text-by : (zs : List ℤ) (ls : List ℕ) (β : Base) (d : ℕ) (old : List ℕ) → d ≤ most_depth → (b : Bool) → right_lengths ls d (length zs) ≡ b
+    → to_text zs ls β d old ≡ pick b (row_text zs ls (type_of β d) old) (refused_as (NoRepresentation (suc d)) old)
+text-by zs ls β d old h b e =
+    ap₂ (λ (x y : Bool). pick x (refused_as (OverLimit 0) old) (pick y (row_text zs ls (type_of β d) old) (refused_as (NoRepresentation (suc d)) old)))
+    (le-ltb most_depth d h) e

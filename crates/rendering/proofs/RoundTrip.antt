@@ -1,6 +1,7 @@
 -- The two conversions undo each other: a text that was turned into streams and back is the same bytes, and streams that were turned into text and back are the
 -- same streams with the same lengths. `to_streams` and `to_text` are all that the contracts of `text_to_streams` and `streams_to_text` say, so this holds of the
 -- two functions one after the other.
+use Rattle.std.specs.Prelude.{Ok, Err}
 use Prim.Native.Nat.{ℕ, zero, suc, ◌≤◌}
 use mathlib.Core.Bool.{Bool, true, false, ◌&&◌}
 use mathlib.Core.List.{List, [], ◌∷◌, ◌++◌, map}
@@ -30,10 +31,8 @@ use Rattle.snesl.proofs.Texts.TextRoundTrip.{shown-of-value, value-of-shown}
 use Rattle.decimals.specs.Numbers.{pick}
 use Rattle.valuetext.specs.Laying.{cells}
 use Rattle.valuetext.specs.Storing.{value_store, Conversion, refused, accepted, store_if, to_streams}
-use Rattle.valuetext.specs.declared.storing.Stored.TheVariants.{Elements, Refused}
 use Rattle.valuetext.proofs.Represented.{streams, contents-more, lens-length}
 use Rattle.rendering.specs.Rendering.{Rendering, refused_as, text_in, fitting_text, row_text, right_lengths, to_text}
-use Rattle.rendering.specs.declared.showing.Written.TheVariants.{Bytes, Refused as RefusedText}
 use Rattle.rendering.proofs.RenderingSteps.{row-contents, row-lengths, text-by}
 
 -- ---- what is known where text to streams accepts
@@ -46,7 +45,7 @@ record Accepted (t : List ℕ) (β : Base) (d : ℕ) (es : List ℤ) (ls : List 
   pub few : n ≤ most_elements
   pub whole : to_streams t β d es ls ≡ accepted (value_store (type_of β d) value) es ls
 
-no-refusal : {why : Refusal} {n : ℕ} {X : Type 0} → Refused why ≡ Elements n → X
+no-refusal : {why : Refusal} {n : ℕ} {X : Type 0} → Err why ≡ Ok n → X
 no-refusal e = let z : ◌≡◌ {A = ℕ} 0 1 = cc in absurd (omega arith)
 
 module _ (t : List ℕ) (β : Base) (d : ℕ) (es : List ℤ) (ls : List ℕ) where
@@ -63,13 +62,13 @@ module _ (t : List ℕ) (β : Base) (d : ℕ) (es : List ℤ) (ls : List ℕ) wh
       stored-by false (le-ltb most_depth d s) (some v) r
       ∙ ap (λ (x : Bool). pick x (accepted (value_store (type_of β d) v) es ls) (refused (NoRoom 0) es ls)) q
 
-  accepted-text : (n : ℕ) → (to_streams t β d es ls).answer ≡ Elements n → Accepted t β d es ls n
+  accepted-text : (n : ℕ) → (to_streams t β d es ls).answer ≡ Ok n → Accepted t β d es ls n
   accepted-text n h = go (ltb most_depth d) refl (value_of (type_of β d) t) refl
     where
       deep : d ≤ most_depth → (v : Val (type_of β d)) → value_of (type_of β d) t ≡ some v → (b : Bool) → roomy v ≡ b → Accepted t β d es ls n
       deep s v r true q =
           let w : to_streams t β d es ls ≡ accepted (value_store (type_of β d) v) es ls = stored-value v s r true q in
-          let e : Elements (room (value_store (type_of β d) v)) ≡ Elements n = ap (λ (c : Conversion). c.answer) (sym w) ∙ h in
+          let e : Ok (room (value_store (type_of β d) v)) ≡ Ok n = ap (λ (c : Conversion). c.answer) (sym w) ∙ h in
           let k : room (value_store (type_of β d) v) ≡ n = cc in
           let f : room (value_store (type_of β d) v) ≤ used_of (length es) =
           leb-true (room (value_store (type_of β d) v)) (used_of (length es)) (both_true (leb (room (value_store (type_of β d) v)) (used_of (length es))) (leb (suc d) (length ls)) q).0 in
@@ -98,16 +97,16 @@ row-shown β d v old s f =
     ∙ text-by zs ls β d old s true r
     ∙ ap₂ (λ (o : Option ℕ) (vs : List (Val (type_of β d))). fitting_text (type_of β d) o vs old) (value-accepted (type_of β d) v) (value-again (type_of β d) v)
 
-fitting-text : (t old : List ℕ) → length t ≤ length old → text_in t old ≡ record { answer = Bytes (length t); bytes = t ++ drop (length t) old }
+fitting-text : (t old : List ℕ) → length t ≤ length old → text_in t old ≡ record { answer = Ok (length t); bytes = t ++ drop (length t) old }
 fitting-text t old h = rw (le-leb (length t) (length old) h)
 
 -- Text that text to streams accepts, with n elements, comes back: streams to text, handed those n elements and the d + 1 lengths, and lent enough, answers
 -- that it wrote as many bytes as the text has, and these bytes are the text. What is lent behind them keeps its content.
 pub text-comes-back : (t : List ℕ) (β : Base) (d : ℕ) (es : List ℤ) (ls : List ℕ) (n : ℕ) (old : List ℕ)
-    → (to_streams t β d es ls).answer ≡ Elements n
+    → (to_streams t β d es ls).answer ≡ Ok n
     → length t ≤ length old
     → to_text (take n (to_streams t β d es ls).elements) (take (suc d) (to_streams t β d es ls).lengths) β d old
-    ≡ record { answer = Bytes (length t); bytes = t ++ drop (length t) old }
+    ≡ record { answer = Ok (length t); bytes = t ++ drop (length t) old }
 text-comes-back t β d es ls n old h fits =
     let a : Accepted t β d es ls n = accepted-text t β d es ls n h in
     let σ : Store = value_store (type_of β d) a.value in
@@ -131,13 +130,10 @@ record Legible (zs : List ℤ) (ls : List ℕ) (β : Base) (d : ℕ) (old : List
   pub size : length (show (type_of β d) value) ≡ n
   pub bytes : (to_text zs ls β d old).bytes ≡ show (type_of β d) value ++ drop (length (show (type_of β d) value)) old
 
-no-refused-text : {why : Refusal} {n : ℕ} {X : Type 0} → RefusedText why ≡ Bytes n → X
-no-refused-text e = let z : ◌≡◌ {A = ℕ} 0 1 = cc in absurd (omega arith)
-
 module _ (zs : List ℤ) (ls : List ℕ) (β : Base) (d : ℕ) (old : List ℕ) where
   -- the value of streams that fit, and its text
   row-legible : (n : ℕ) → d ≤ most_depth → length ls ≡ suc d → sum_of ls ≡ length zs → misfit_tree (base_of (type_of β d)) 1 (tree_of (depth_of (type_of β d)) ls zs) ≡ none
-      → to_text zs ls β d old ≡ row_text zs ls (type_of β d) old → (to_text zs ls β d old).answer ≡ Bytes n → Legible zs ls β d old n
+      → to_text zs ls β d old ≡ row_text zs ls (type_of β d) old → (to_text zs ls β d old).answer ≡ Ok n → Legible zs ls β d old n
   row-legible n s k t m w h = go (leb (length (show (type_of β d) v)) (length old)) refl
     where
       again : (v : Val (type_of β d)) × (values (type_of β d) (tree_of (depth_of (type_of β d)) ls zs) ≡ v ∷ []) × (concat (streams_of (type_of β d) v) ≡ zs) × (map length (streams_of (type_of β d) v) ≡ ls)
@@ -148,18 +144,18 @@ module _ (zs : List ℤ) (ls : List ℕ) (β : Base) (d : ℕ) (old : List ℕ) 
 
       by : (b : Bool) → leb (length (show (type_of β d) v)) (length old) ≡ b
           → to_text zs ls β d old
-          ≡ pick b (record { answer = Bytes (length (show (type_of β d) v)); bytes = show (type_of β d) v ++ drop (length (show (type_of β d) v)) old }) (refused_as (NoAnswerRoom (length (show (type_of β d) v))) old)
+          ≡ pick b (record { answer = Ok (length (show (type_of β d) v)); bytes = show (type_of β d) v ++ drop (length (show (type_of β d) v)) old }) (refused_as (NoAnswerRoom (length (show (type_of β d) v))) old)
       by b e =
           w
           ∙ ap₂ (λ (o : Option ℕ) (vs : List (Val (type_of β d))). fitting_text (type_of β d) o vs old) m again.1
           ∙ ap
           (λ (x : Bool).
-          pick x (record { answer = Bytes (length (show (type_of β d) v)); bytes = show (type_of β d) v ++ drop (length (show (type_of β d) v)) old }) (refused_as (NoAnswerRoom (length (show (type_of β d) v))) old))
+          pick x (record { answer = Ok (length (show (type_of β d) v)); bytes = show (type_of β d) v ++ drop (length (show (type_of β d) v)) old }) (refused_as (NoAnswerRoom (length (show (type_of β d) v))) old))
           e
 
       go : (b : Bool) → leb (length (show (type_of β d) v)) (length old) ≡ b → Legible zs ls β d old n
       go true e =
-          let q : Bytes (length (show (type_of β d) v)) ≡ Bytes n = ap (λ (c : Rendering). c.answer) (sym (by true e)) ∙ h in
+          let q : Ok (length (show (type_of β d) v)) ≡ Ok n = ap (λ (c : Rendering). c.answer) (sym (by true e)) ∙ h in
           let c : length (show (type_of β d) v) ≡ n = cc in
           record {
             value = v;
@@ -169,9 +165,9 @@ module _ (zs : List ℤ) (ls : List ℕ) (β : Base) (d : ℕ) (old : List ℕ) 
             size = c;
             bytes = ap (λ (c : Rendering). c.bytes) (by true e);
           }
-      go false e = no-refused-text (ap (λ (c : Rendering). c.answer) (sym (by false e)) ∙ h)
+      go false e = no-refusal (ap (λ (c : Rendering). c.answer) (sym (by false e)) ∙ h)
 
-  legible : (n : ℕ) → (to_text zs ls β d old).answer ≡ Bytes n → Legible zs ls β d old n
+  legible : (n : ℕ) → (to_text zs ls β d old).answer ≡ Ok n → Legible zs ls β d old n
   legible n h = depth (ltb most_depth d) refl
     where
       fit : d ≤ most_depth → right_lengths ls d (length zs) ≡ true → (o : Option ℕ) → misfit_tree (base_of (type_of β d)) 1 (tree_of (depth_of (type_of β d)) ls zs) ≡ o → Legible zs ls β d old n
@@ -180,18 +176,18 @@ module _ (zs : List ℤ) (ls : List ℕ) (β : Base) (d : ℕ) (old : List ℕ) 
           let q = both_true (eqb (sum_of ls) (length zs)) (leb (sum_of ls) most_elements) p.1 in
           row-legible n s (eqb-true (length ls) (suc d) p.0) (eqb-true (sum_of ls) (length zs) q.0) m (text-by zs ls β d old s true r) h
       fit s r (some j) m =
-          no-refused-text
+          no-refusal
           (ap (λ (o : Option ℕ). (fitting_text (type_of β d) o (values (type_of β d) (tree_of (depth_of (type_of β d)) ls zs)) old).answer) (sym m)
           ∙ ap (λ (c : Rendering). c.answer) (sym (text-by zs ls β d old s true r))
           ∙ h)
 
       lengths : d ≤ most_depth → (b : Bool) → right_lengths ls d (length zs) ≡ b → Legible zs ls β d old n
       lengths s true r = fit s r (misfit_tree (base_of (type_of β d)) 1 (tree_of (depth_of (type_of β d)) ls zs)) refl
-      lengths s false r = no-refused-text (ap (λ (c : Rendering). c.answer) (sym (text-by zs ls β d old s false r)) ∙ h)
+      lengths s false r = no-refusal (ap (λ (c : Rendering). c.answer) (sym (text-by zs ls β d old s false r)) ∙ h)
 
       depth : (b : Bool) → ltb most_depth d ≡ b → Legible zs ls β d old n
       depth true s =
-          no-refused-text
+          no-refusal
           (ap
           (λ (b : Bool). (pick b (refused_as (OverLimit 0) old) (pick (right_lengths ls d (length zs)) (row_text zs ls (type_of β d) old) (refused_as (NoRepresentation (suc d)) old))).answer)
           (sym s)
@@ -237,11 +233,11 @@ only (each_more p h) = p
 -- The elements are numbers of 32 bits, as those of an `&[i32]` are: text that stands for others is refused.
 pub streams-come-back : (zs : List ℤ) (ls : List ℕ) (β : Base) (d : ℕ) (old : List ℕ) (n : ℕ) (es : List ℤ) (ks : List ℕ)
     → Each (λ z. in_range z ≡ true) zs
-    → (to_text zs ls β d old).answer ≡ Bytes n
+    → (to_text zs ls β d old).answer ≡ Ok n
     → length zs ≤ used_of (length es)
     → suc d ≤ length ks
     → to_streams (take n (to_text zs ls β d old).bytes) β d es ks
-    ≡ record { answer = Elements (length zs); elements = zs ++ drop (length zs) es; lengths = ls ++ drop (length ls) ks }
+    ≡ record { answer = Ok (length zs); elements = zs ++ drop (length zs) es; lengths = ls ++ drop (length ls) ks }
 streams-come-back zs ls β d old n es ks inside h room_for levels-for =
     let a : Legible zs ls β d old n = legible zs ls β d old n h in
     let v : Val (type_of β d) = a.value in
@@ -256,7 +252,7 @@ streams-come-back zs ls β d old n es ks inside h room_for levels-for =
     ∙ stored-value (show (type_of β d) v) β d es ks v a.shallow (value-of-shown (type_of β d) v ranged) true (rw (r, l))
     ∙ (λ i.
     record {
-      answer = Elements (length (a.row i));
+      answer = Ok (length (a.row i));
       elements = a.row i ++ drop (length (a.row i)) es;
       lengths = a.levels i ++ drop (count i) ks;
     })

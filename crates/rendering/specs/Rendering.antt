@@ -1,6 +1,6 @@
 -- Streams to value text (01, "Representation by itself", and refusals 3, 11 and 10 in that order), as a function of the streams, their lengths, the type
 -- and what is lent. A type is a base β and a depth d, as code holds it.
-use Rattle.std.specs.Prelude.{ℕ, suc, ◌≤◌, ◌<◌, Bool, ◌&&◌, List, [], ◌∷◌, ◌++◌, ◌≡◌, eqb, leb, ltb, ℤ, length, drop}
+use Rattle.std.specs.Prelude.{Result, Ok, Err, ℕ, suc, ◌≤◌, ◌<◌, Bool, ◌&&◌, List, [], ◌∷◌, ◌++◌, ◌≡◌, eqb, leb, ltb, ℤ, length, drop}
 use Rattle.std.proofs.Math.Option.{Option, some, none}
 use Rattle.snesl.specs.declared.code.Base.{Base}
 use Rattle.snesl.specs.Values.{ValueType, depth_of, base_of, type_of, Val}
@@ -13,8 +13,6 @@ use Rattle.snesl.specs.declared.refusal.Refusal.TheVariants.{OverLimit, NoAnswer
 use Rattle.decimals.specs.Numbers.{pick}
 use Rattle.rendering.specs.Standing.{Stands}
 use Rattle.decimals.specs.Writing.{Writes}
-use Rattle.rendering.specs.declared.showing.Written.{Written}
-use Rattle.rendering.specs.declared.showing.Written.TheVariants.{Bytes, Refused}
 
 -- ---- a value anywhere in a buffer
 
@@ -37,18 +35,18 @@ pub record ShowsValue (β : Base) (d : ℕ) (b : List ℤ) (places : List ℕ) (
 -- ---- the whole
 
 pub record Rendering : Type 0 where
-  pub answer : Written
+  pub answer : Result ℕ Refusal
   pub bytes : List ℕ
 
 -- refused, nothing is written
 abbrev pub refused_as : Refusal → List ℕ → Rendering
-refused_as why old = record { answer = Refused why; bytes = old }
+refused_as why old = record { answer = Err why; bytes = old }
 
 -- a text where it fits, and else how long it is
 abbrev pub text_in : List ℕ → List ℕ → Rendering
 text_in t old =
     pick (leb (length t) (length old))
-    (record { answer = Bytes (length t); bytes = t ++ drop (length t) old })
+    (record { answer = Ok (length t); bytes = t ++ drop (length t) old })
     (refused_as (NoAnswerRoom (length t)) old)
 
 -- the text of the one value; fitting streams have no other number of values

@@ -3,52 +3,26 @@
 ghost use Rattle.std.specs.Prelude.{◌≡◌, length};
 ghost use Rattle.rendering.specs.Fitting.{fit_of, data_fits, bools_fit, fitting_of, InRow};
 
-use flags::reading::Shape;
 use flags::segments;
 use snesl::code::Base;
 
-// How many items flags have, if they fit.
-#[derive(Clone, Copy)]
-pub enum Fit {
-    Items(usize),
-    No,
-}
-
-// The level that does not fit, outermost first.
-#[derive(Clone, Copy)]
-pub enum Fitting {
-    Fits,
-    Misfit(usize),
-}
-
-// Whether these are n segments, each some F's and a T, and nothing else. Each flag that ends no segment is an item.
-fn fit_flags(flags: &[i32], n: usize) -> Fit
+// How many items flags have that are n segments, each some F's and a T, and nothing else. Each flag that ends no segment is an item.
+fn fit_flags(flags: &[i32], n: usize) -> Option<usize>
     ensures { result ≡ fit_of n flags.now }
 {
-    if let Shape::Whole(m) = segments(flags, 0, flags.len()) {
-        if m == n {
-            return Fit::Items(flags.len() - m);
-        }
+    let ends = segments(flags)?;
+    if ends == n {
+        Some(flags.len() - ends)
+    } else {
+        None
     }
-    Fit::No
 }
 
 // Whether each element is a bool's: 0 or 1.
 fn are_bools(elements: &[i32]) -> bool
     ensures { result ≡ bools_fit elements.now }
 {
-    let mut i = 0;
-    while i < elements.len() {
-        let z = elements[i];
-        if z == 0 {
-            i += 1;
-        } else if z == 1 {
-            i += 1;
-        } else {
-            return false;
-        }
-    }
-    true
+    elements.iter().all(|&z| z == 0 || z == 1)
 }
 
 // Whether these are n elements of a base. Any number is an int.
@@ -64,35 +38,28 @@ fn fit_data(elements: &[i32], base: Base, n: usize) -> bool
     }
 }
 
-// Streams one after another, tried level by level from the outermost flags on.
+// Streams one after another, tried level by level from the outermost flags on: whether they fit, or the level that doesn't.
 pub fn first_misfit(
     elements: &[i32],
     lengths: &[usize],
     places: &[usize],
     base: Base,
     depth: u8,
-) -> Fitting
+) -> Result<(), usize>
     requires { InRow depth (length elements.now) lengths.now places.now }
     ensures { result ≡ fitting_of base depth lengths.now elements.now }
 {
+    let levels = depth as usize + 1;
     let mut n: usize = 1;
-    let mut level = depth as usize;
-    while level > 0 {
+    for level in (1..levels).rev() {
         let start = places[level];
         let end = start + lengths[level];
-        match fit_flags(&elements[start..end], n) {
-            Fit::Items(items) => {
-                n = items;
-                level -= 1;
-            }
-            Fit::No => {
-                return Fitting::Misfit(level);
-            }
-        }
+        n = fit_flags(&elements[start..end], n).ok_or(level)?;
     }
     let end = lengths[0];
     if fit_data(&elements[..end], base, n) {
-        return Fitting::Fits;
+        Ok(())
+    } else {
+        Err(0)
     }
-    Fitting::Misfit(0)
 }

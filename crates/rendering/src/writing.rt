@@ -5,7 +5,6 @@ ghost use Rattle.rendering.specs.Showing.{is_stop, letter_of, scalar_text, Showa
 
 use decimals::numbers::{put, write_int};
 use flags::flag_at;
-use flags::reading::Flag;
 use snesl::code::Base;
 
 // Whether a level's next flag is a T. The cursor moves on.
@@ -16,21 +15,14 @@ fn stops(elements: &[i32], cursors: &mut [usize], level: usize) -> bool
 {
     let at = cursors[level];
     cursors[level] = at + 1;
-    match flag_at(elements, at) {
-        Flag::F => false,
-        Flag::T => true,
-        Flag::Neither => true,
-    }
+    flag_at(elements, at) != Some(false)
 }
 
 // A bool's letter.
 fn letter(z: i32) -> u8
     ensures { result ≡ letter_of z }
 {
-    if z == 0 {
-        return b'F';
-    }
-    b'T'
+    if z == 0 { b'F' } else { b'T' }
 }
 
 // An element of a base.
@@ -95,16 +87,14 @@ fn write_list(
 {
     let mut next = at;
     let mut mark: u8 = b'{';
-    loop {
-        if stops(elements, cursors, depth as usize) {
-            if mark == b',' {
-                return put(answer, next, b'}');
-            }
-            next = put(answer, next, b'{');
-            return put(answer, next, b'}');
-        }
+    // The list's own flags say where it ends, so that no range says it beforehand.
+    while !stops(elements, cursors, depth as usize) {
         next = put(answer, next, mark);
         next = write_item(elements, base, depth - 1, cursors, answer, next);
         mark = b',';
     }
+    if mark != b',' {
+        next = put(answer, next, b'{');
+    }
+    put(answer, next, b'}')
 }

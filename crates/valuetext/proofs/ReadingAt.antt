@@ -3,6 +3,7 @@ use Prim.Native.Nat.{ℕ, suc, ◌+◌, ◌-◌, ◌<◌, ◌^◌}
 use mathlib.Core.Bool.{true}
 use mathlib.Core.List.{List}
 use mathlib.Core.Option.{none}
+use Rattle.std.specs.Prelude.{Option, Some, None}
 use mathlib.Core.Path.{◌≡◌, sym, subst}
 use native.Mathlib.Omega.{arith}
 use lib.IntN.{ℤ, pos}
@@ -12,8 +13,6 @@ use Rattle.snesl.specs.declared.code.Base.TheVariants as base
 use Rattle.snesl.specs.Values.{type_of}
 use Rattle.snesl.specs.Text.{read_value}
 use Rattle.valuetext.specs.Reading.{opening_at, after_at, ints_in, Ready, Laid, ReadAs, read_no, read-bytes}
-use Rattle.valuetext.specs.declared.reading.Taken.{Taken}
-use Rattle.valuetext.specs.declared.reading.Taken.TheVariants.{Bytes, No}
 use Rattle.valuetext.specs.declared.reading.Opening.TheVariants.{Empty, Items, No as NoList}
 use Rattle.valuetext.specs.declared.reading.After.TheVariants.{Close}
 use Rattle.decimals.proofs.Parts.{rest_of}
@@ -29,7 +28,7 @@ module _ {t : List ℕ} {b : List ℤ} {cs : List ℕ} where
   pub ready_at : {β : Base} {d e : ℕ} → d ≡ e → Ready β d t b cs → Ready β e t b cs
   ready_at {β} p a = subst (λ (x : ℕ). Ready β x t b cs) p a
 
-  pub read_at : {β : Base} {d e : ℕ} {b' : List ℤ} {cs' : List ℕ} {r : Taken} → d ≡ e → ReadAs β d t b b' cs cs' r → ReadAs β e t b b' cs cs' r
+  pub read_at : {β : Base} {d e : ℕ} {b' : List ℤ} {cs' : List ℕ} {r : Option ℕ} → d ≡ e → ReadAs β d t b b' cs cs' r → ReadAs β e t b b' cs cs' r
   read_at {β = β} {b' = b'} {cs' = cs'} {r = r} p a = subst (λ (x : ℕ). ReadAs β x t b b' cs cs' r) p a
 
   -- ---- an item that is a list
@@ -41,14 +40,14 @@ module _ {t : List ℕ} {b : List ℤ} {cs : List ℕ} where
         (empty-ready e (ready_at (sym (above d h)) a))
 
     pub empty-at : {b' : List ℤ} {cs' : List ℕ} → Empty ≡ opening_at t → b' ≡ set b (get_or cs d 0) (pos 1) → cs' ≡ set cs d (get_or cs d 0 + 1)
-        → ReadAs β d t b b' cs cs' (Bytes 2)
+        → ReadAs β d t b b' cs cs' (Some 2)
     empty-at {b'} {cs'} e p q =
         read_at (above d h)
         (empty-list e
         (subst (λ (x : ℕ). b' ≡ set b (get_or cs x 0) (pos 1)) (sym (above d h)) p)
         (subst (λ (x : ℕ). cs' ≡ set cs x (get_or cs x 0 + 1)) (sym (above d h)) q))
 
-    pub no-list-at : {b' : List ℤ} {cs' : List ℕ} → NoList ≡ opening_at t → ReadAs β d t b b' cs cs' No
+    pub no-list-at : {b' : List ℤ} {cs' : List ℕ} → NoList ≡ opening_at t → ReadAs β d t b b' cs cs' None
     no-list-at e = read_at (above d h) (read_no (opens-no β (d - 1) t e))
 
 -- ---- a list of ints
@@ -58,26 +57,26 @@ module _ {β : Base} {d : ℕ} {t : List ℕ} {b : List ℤ} {cs : List ℕ} (e 
   ints-ready a o =
       (subst (λ (x : Base). Ready x 1 t b cs) (ints-told β d e).0 (ready_at (ints-told β d e).1 a), o)
 
-  pub ints-read : {b' : List ℤ} {cs' : List ℕ} {r : Taken} → ReadAs base.Int 1 t b b' cs cs' r → ReadAs β d t b b' cs cs' r
+  pub ints-read : {b' : List ℤ} {cs' : List ℕ} {r : Option ℕ} → ReadAs base.Int 1 t b b' cs cs' r → ReadAs β d t b b' cs cs' r
   ints-read {b'} {cs'} {r} a =
       read_at (sym (ints-told β d e).1) (subst (λ (x : Base). ReadAs x 1 t b b' cs cs' r) (sym (ints-told β d e).0) a)
 
 -- ---- what a reader of an item answers
 
 module _ {β : Base} {d : ℕ} {t : List ℕ} {b b' : List ℤ} {cs cs' : List ℕ} where
-  pub laid_of : {r : Taken} {n : ℕ} → ReadAs β d t b b' cs cs' r → r ≡ Bytes n → Laid β d t b b' cs cs' n
-  laid_of (read_no e) p = let z : ◌≡◌ {A = ℕ} 0 1 = cc in absurd (omega arith)
+  pub laid_of : {r : Option ℕ} {n : ℕ} → ReadAs β d t b b' cs cs' r → r ≡ Some n → Laid β d t b b' cs cs' n
+  laid_of (read_no e) p = cc
   laid_of {n = n} (read-bytes {k = k} l) p = let q : k ≡ n = cc in subst (Laid β d t b b' cs cs') q l
 
-  pub none_of : {r : Taken} → ReadAs β d t b b' cs cs' r → r ≡ No → read_value (type_of β d) t ≡ none
+  pub none_of : {r : Option ℕ} → ReadAs β d t b b' cs cs' r → r ≡ None → read_value (type_of β d) t ≡ none
   none_of (read_no e) p = e
-  none_of (read-bytes l) p = let z : ◌≡◌ {A = ℕ} 0 1 = cc in absurd (omega arith)
+  none_of (read-bytes l) p = cc
 
 module _ {β : Base} {d : ℕ} {b : List ℤ} {cs : List ℕ} (t : List ℕ) (k : ℕ) where
   pub part-ready : Ready β d (drop k t) b cs → Ready β d (take (length t - k) (drop k t)) b cs
   part-ready a = subst (λ (x : List ℕ). Ready β d x b cs) (sym (rest_of t k)) a
 
-  pub part-read : {b' : List ℤ} {cs' : List ℕ} {r : Taken} → ReadAs β d (take (length t - k) (drop k t)) b b' cs cs' r → ReadAs β d (drop k t) b b' cs cs' r
+  pub part-read : {b' : List ℤ} {cs' : List ℕ} {r : Option ℕ} → ReadAs β d (take (length t - k) (drop k t)) b b' cs cs' r → ReadAs β d (drop k t) b b' cs cs' r
   part-read {b'} {cs'} {r} a = subst (λ (x : List ℕ). ReadAs β d x b b' cs cs' r) (rest_of t k) a
 
 -- ---- the list's own level, the number lv
@@ -98,7 +97,7 @@ module _ {β : Base} {d lv : ℕ} (p : suc d ≡ lv) {t : List ℕ} {b b' : List
     end-ready-at = subst (λ (x : ℕ). (x < length cs') × (get_or cs' x 0 + 1 < 2 ^ 64)) p (end-ready a e)
 
     pub close_at : {b₁ : List ℤ} {cs₁ : List ℕ} → b₁ ≡ set b' (get_or cs' lv 0) (pos 1) → cs₁ ≡ set cs' lv (get_or cs' lv 0 + 1)
-        → ReadAs β lv t b b₁ cs cs₁ (Bytes (k + n + 1))
+        → ReadAs β lv t b b₁ cs cs₁ (Some (k + n + 1))
     close_at {b₁} {cs₁} q r =
         read_at p
         (item-close a e

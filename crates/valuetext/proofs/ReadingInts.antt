@@ -9,12 +9,11 @@ use lib.IntN.{ℤ, pos}
 use lib.ListN.{length, get_or, set, drop}
 use Rattle.snesl.specs.declared.code.Base.TheVariants as base
 use Rattle.decimals.specs.Numbers.{int_at}
-use Rattle.decimals.specs.declared.numbers.ReadInt.TheVariants.{Int, No as NoInt}
+use Rattle.std.specs.Prelude.{Option, Some, None}
 use Rattle.valuetext.specs.Reading.{opening_at, after_at, Ready, Laid, ReadAs}
-use Rattle.valuetext.specs.declared.reading.Taken.TheVariants.{Bytes, No}
 use Rattle.valuetext.specs.declared.reading.Opening.TheVariants.{Items}
 use Rattle.valuetext.specs.declared.reading.After.TheVariants.{Comma, Close}
-use Rattle.valuetext.proofs.ReadingSteps.{int_at_lem, leaf-scalar, leaf-no, leaf-ready, Listing, listing_start, listing-no, item-ready, flag-ready, listing-item, Item, item-comma, item-close, end-ready}
+use Rattle.valuetext.proofs.ReadingSteps.{int_at_lem, leaf-scalar, leaf-no, leaf-ready, Listing, listing_start, listing-no, item-ready, flag-ready, listing-item, Item, item-comma-at, item-close, end-ready}
 use Rattle.valuetext.proofs.ReadingAt.{laid_of, none_of}
 
 -- the lent cursors with the two moved on
@@ -55,19 +54,19 @@ ints-start {t} {b} {cs} a e =
     record { listing = subst (λ (c : List ℕ). Listing base.Int 0 t b b cs c 1) (sym (moved_none cs a.levels)) (listing_start a e); kept = refl }
 
 module _ {t : List ℕ} {b b' : List ℤ} {cs cs' : List ℕ} {x y k : ℕ} (a : Ints t b b' cs cs' x y k) where
-  pub ints-no : {b₁ : List ℤ} {cs₁ : List ℕ} → NoInt ≡ int_at (drop k t) → ReadAs base.Int 1 t b b₁ cs cs₁ No
-  ints-no e = listing-no a.listing (none_of (leaf-no {β = base.Int} {t = drop k t} {b = b'} {b' = b'} {cs = cs} {cs' = cs} (e ∙ int_at_lem (drop k t))) refl)
+  pub ints-no : {b₁ : List ℤ} {cs₁ : List ℕ} {r : Option ℕ} → int_at (drop k t) ≡ None → r ≡ None → ReadAs base.Int 1 t b b₁ cs cs₁ r
+  ints-no e p = listing-no a.listing (none_of (leaf-no {β = base.Int} {t = drop k t} {b = b'} {b' = b'} {cs = cs} {cs' = cs} (sym (int_at_lem (drop k t)) ∙ e) refl) refl) p
 
   move : Moves cs x y
   move = moves cs x y a.listing.ready.levels
 
-  module _ {z : ℤ} {n : ℕ} (e : Int z n ≡ int_at (drop k t)) where
+  module _ {z : ℤ} {n : ℕ} (e : int_at (drop k t) ≡ Some (z, n)) where
     pub data-fits : x + 1 < 2 ^ 64
-    data-fits = omega (arith, (leaf-ready (item-ready a.listing) (e ∙ int_at_lem (drop k t))).1, move.at-data)
+    data-fits = omega (arith, (leaf-ready (item-ready a.listing) (sym (int_at_lem (drop k t)) ∙ e)).1, move.at-data)
 
     module _ {b₁ : List ℤ} (p : b₁ ≡ set b' x (to_z w32 (of_z w32 z))) where
       laid : Laid base.Int 0 (drop k t) b' b₁ (moved cs x y) (set (moved cs x y) 0 (get_or (moved cs x y) 0 0 + 1)) n
-      laid = laid_of (leaf-scalar (e ∙ int_at_lem (drop k t)) (p ∙ ap (λ (i : ℕ). set b' i (to_z w32 (of_z w32 z))) (sym move.at-data)) refl) refl
+      laid = laid_of (leaf-scalar (sym (int_at_lem (drop k t)) ∙ e) (p ∙ ap (λ (i : ℕ). set b' i (to_z w32 (of_z w32 z))) (sym move.at-data)) refl) refl
 
       pub flags-fit : y + 1 < 2 ^ 64
       flags-fit = omega (arith, (flag-ready a.listing laid).1, move.at-flags)
@@ -78,14 +77,14 @@ module _ {t : List ℕ} {b b' : List ℤ} {cs cs' : List ℕ} {x y k : ℕ} (a :
 
 -- an int is laid and its F too: what follows it
 module _ {t : List ℕ} {b b' : List ℤ} {cs : List ℕ} (x y : ℕ) {k n : ℕ} (i : Item base.Int 0 t b b' cs (moved cs x y) k n) where
-  pub ints-comma : {cs' : List ℕ} → cs' ≡ cs → Comma ≡ after_at t (k + n) → Ints t b b' cs cs' x y (k + n + 1)
-  ints-comma s e = record { listing = item-comma i e; kept = s }
+  pub ints-comma : {cs' : List ℕ} {j : ℕ} → cs' ≡ cs → Comma ≡ after_at t (k + n) → k + n + 1 ≡ j → Ints t b b' cs cs' x y j
+  ints-comma s e p = record { listing = item-comma-at i e p; kept = s }
 
   module _ (e : Close ≡ after_at t (k + n)) where
     pub end_fits : y + 1 < 2 ^ 64
     end_fits = omega (arith, (end-ready i e).1, (moves cs x y i.ready.levels).at-end)
 
-    pub ints-close : {b₁ : List ℤ} {cs₁ : List ℕ} → b₁ ≡ set b' y (pos 1) → cs₁ ≡ moved cs x (y + 1) → ReadAs base.Int 1 t b b₁ cs cs₁ (Bytes (k + n + 1))
+    pub ints-close : {b₁ : List ℤ} {cs₁ : List ℕ} → b₁ ≡ set b' y (pos 1) → cs₁ ≡ moved cs x (y + 1) → ReadAs base.Int 1 t b b₁ cs cs₁ (Some (k + n + 1))
     ints-close p q =
         item-close i e
         (p ∙ ap (λ (j : ℕ). set b' j (pos 1)) (sym (moves cs x y i.ready.levels).at-end))

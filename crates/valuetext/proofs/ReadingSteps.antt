@@ -4,9 +4,11 @@ use mathlib.Core.Bool.{Bool, true, false}
 use mathlib.Core.List.{List, [], ◌∷◌, ◌++◌, map, append_assoc, append-nil}
 use mathlib.Core.Logic.{◌⊎◌, inl, inr}
 use mathlib.Core.Option.{Option, some, none}
+use Rattle.std.specs.Prelude.{Option as RustOption, Some, None}
+use Rattle.std.proofs.lemmas.Option.{some_pair_parts}
 use mathlib.Core.Path.{◌≡◌, refl, sym, ap, ap₂, ◌∙◌, subst}
 use native.Mathlib.Omega.{arith}
-use borrow.Author.Tests.{eqb-true, eq-eqb, ne_eqb}
+use borrow.Author.Tests.{eqb-true}
 use lib.Dec.{eqb}
 use mir.Syntax.{w32}
 use mir.Val.{SFits, to_z, of_z}
@@ -22,12 +24,10 @@ use Rattle.snesl.specs.Representation.{concat, segments}
 use Rattle.snesl.specs.Text.{before, read_items, read_int, read_bool, read_element, read_value}
 use Rattle.decimals.specs.Numbers.{pick, int_at, int_read}
 use Rattle.valuetext.specs.Laying.{cells, lay, advance, Under, Apart}
-use Rattle.valuetext.specs.Reading.{opening_at, after_at, cell, scalar_read, scalar_at, bool_at, ints_in, Clear, measuring, filling, Ready, Laid, ReadAs, read_no, read-bytes}
-use Rattle.valuetext.specs.declared.reading.Taken.TheVariants.{Bytes, No}
+use Rattle.valuetext.specs.Reading.{opening_at, after_at, cell, scalar_read, scalar_at, ints_in, Clear, measuring, filling, Ready, Laid, ReadAs, read_no, read-bytes}
 use Rattle.valuetext.specs.declared.reading.Opening.TheVariants.{Empty, Items, No as NoList}
 use Rattle.valuetext.specs.declared.reading.After.{After}
 use Rattle.valuetext.specs.declared.reading.After.TheVariants.{Comma, Close, Else}
-use Rattle.decimals.specs.declared.numbers.ReadInt.TheVariants.{Int, No as NoInt}
 use Rattle.laws.proofs.Options.{some_pair}
 use Rattle.decimals.proofs.Stores.{sets-append, sets-none}
 use Rattle.decimals.proofs.IntText.{IntRead, int-read}
@@ -97,24 +97,20 @@ bool-byte t r e = go (eqb (get_or t 0 0) 84) refl (eqb (get_or t 0 0) 70) refl e
         → (r.1 ≡ 1) × (1 ≤ length t)
     go true u q v e' = (sym (some_pair _ _ _ _ e').1, present t 0 (eqb-true (get_or t 0 0) 84 u) (omega arith))
     go false u true v e' = (sym (some_pair _ _ _ _ e').1, present t 0 (eqb-true (get_or t 0 0) 70 v) (omega arith))
-    go false u false v e' = let x : ◌≡◌ {A = ℕ} 0 1 = cc in absurd (omega arith)
+    go false u false v e' = cc
 
-scalar-of : (β : Base) {t : List ℕ} {z : ℤ} {k : ℕ} → Int z k ≡ scalar_at β t → Scalar β t z k
+scalar-of : (β : Base) {t : List ℕ} {z : ℤ} {k : ℕ} → scalar_at β t ≡ Some (z, k) → Scalar β t z k
 scalar-of base.Int {t} {z} {k} e = go (read_int t) refl e
   where
-    go : (o : Option (ℤ × ℕ)) → read_int t ≡ o → Int z k ≡ scalar_read base.Int o → Scalar base.Int t z k
-    go none h e' = let x : ◌≡◌ {A = ℕ} 0 1 = cc in absurd (omega arith)
-    go (some r) h e' =
-        let p : r.0 ≡ z = cc in
-        let q : r.1 ≡ k = cc in
-        int-scalar (h ∙ (λ i. some (p i, q i)))
+    go : (o : Option (ℤ × ℕ)) → read_int t ≡ o → scalar_read base.Int o ≡ Some (z, k) → Scalar base.Int t z k
+    go none h e' = cc
+    go (some r) h e' = let (p, q) = some_pair_parts _ _ _ _ e' in int-scalar (h ∙ (λ i. some (p i, q i)))
 scalar-of base.Bool {t} {z} {k} e = go (read_bool t) refl e
   where
-    go : (o : Option (Bool × ℕ)) → read_bool t ≡ o → Int z k ≡ scalar_read base.Bool o → Scalar base.Bool t z k
-    go none h e' = let x : ◌≡◌ {A = ℕ} 0 1 = cc in absurd (omega arith)
+    go : (o : Option (Bool × ℕ)) → read_bool t ≡ o → scalar_read base.Bool o ≡ Some (z, k) → Scalar base.Bool t z k
+    go none h e' = cc
     go (some r) h e' =
-        let p : bit r.0 ≡ z = cc in
-        let q : r.1 ≡ k = cc in
+        let (p, q) = some_pair_parts _ _ _ _ e' in
         let w = bool-byte t r h in
         record {
           value = r.0;
@@ -125,9 +121,9 @@ scalar-of base.Bool {t} {z} {k} e = go (read_bool t) refl e
           inside = omega (arith, w.0, w.1, q);
         }
 
-no-scalar-of : (β : Base) (o : Option (Element β × ℕ)) → NoInt ≡ scalar_read β o → o ≡ none
+no-scalar-of : (β : Base) (o : Option (Element β × ℕ)) → scalar_read β o ≡ None → o ≡ none
 no-scalar-of β none e = refl
-no-scalar-of β (some r) e = let x : ◌≡◌ {A = ℕ} 0 1 = cc in absurd (omega arith)
+no-scalar-of β (some r) e = cc
 
 -- an int is read as decimals reads it
 pub int_at_lem : (t : List ℕ) → int_at t ≡ scalar_at base.Int t
@@ -137,46 +133,14 @@ int_at_lem t = go (read_int t)
     go none = refl
     go (some r) = refl
 
-pub int-at-base : {β : Base} (t : List ℕ) → β ≡ base.Int → int_at t ≡ scalar_at β t
-int-at-base t p = subst (λ (β : Base). int_at t ≡ scalar_at β t) (sym p) (int_at_lem t)
-
-pub bool-at-base : {β : Base} (t : List ℕ) → β ≡ base.Bool → bool_at t ≡ scalar_at β t
-bool-at-base t p = ap (λ (β : Base). scalar_at β t) (sym p)
-
--- one byte tells a bool
-bool-as : (t : List ℕ) → bool_at t ≡ pick (eqb (get_or t 0 0) 84) (Int (pos 1) 1) (pick (eqb (get_or t 0 0) 70) (Int (pos 0) 1) NoInt)
-bool-as t = go (eqb (get_or t 0 0) 84) (eqb (get_or t 0 0) 70)
-  where
-    go : (p q : Bool)
-        → scalar_read base.Bool (elim p [ true ↦ some (true, 1) | false ↦ elim q [ true ↦ some (false, 1) | false ↦ none ] ])
-        ≡ pick p (Int (pos 1) 1) (pick q (Int (pos 0) 1) NoInt)
-    go true q = refl
-    go false true = refl
-    go false false = refl
-
-pub reads-T : (t : List ℕ) → get_or t 0 0 ≡ 84 → Int (pos 1) 1 ≡ bool_at t
-reads-T t e = sym (bool-as t ∙ rw (eq-eqb (get_or t 0 0) 84 e))
-
-pub reads-F : (t : List ℕ) → (get_or t 0 0 ≡ 84 → ⊥) → get_or t 0 0 ≡ 70 → Int (pos 0) 1 ≡ bool_at t
-reads-F t n e = sym (bool-as t ∙ rw (ne_eqb (get_or t 0 0) 84 n, eq-eqb (get_or t 0 0) 70 e))
-
-pub reads-neither : (t : List ℕ) → (get_or t 0 0 ≡ 84 → ⊥) → (get_or t 0 0 ≡ 70 → ⊥) → NoInt ≡ bool_at t
-reads-neither t n m = sym (bool-as t ∙ rw (ne_eqb (get_or t 0 0) 84 n, ne_eqb (get_or t 0 0) 70 m))
-
 -- what is told of a list of ints
-pub ints-in : {β : Base} (d : ℕ) → β ≡ base.Int → eqb d 1 ≡ ints_in β d
-ints-in d p = ap (λ (β : Base). ints_in β d) (sym p)
-
-pub bools-in : {β : Base} (d : ℕ) → β ≡ base.Bool → false ≡ ints_in β d
-bools-in d p = ap (λ (β : Base). ints_in β d) (sym p)
-
 pub ints-told : (β : Base) (d : ℕ) → ints_in β d ≡ true → (β ≡ base.Int) × (d ≡ 1)
 ints-told base.Int d e = (refl, eqb-true d 1 e)
-ints-told base.Bool d e = let x : ◌≡◌ {A = ℕ} 0 1 = cc in absurd (omega arith)
+ints-told base.Bool d e = cc
 
 module _ {β : Base} {t : List ℕ} where
-  pub leaf-scalar : {b b' : List ℤ} {cs cs' : List ℕ} {z : ℤ} {k : ℕ} → Int z k ≡ scalar_at β t
-      → b' ≡ set b (get_or cs 0 0) (to_z w32 (of_z w32 z)) → cs' ≡ set cs 0 (get_or cs 0 0 + 1) → ReadAs β 0 t b b' cs cs' (Bytes k)
+  pub leaf-scalar : {b b' : List ℤ} {cs cs' : List ℕ} {z : ℤ} {k : ℕ} → scalar_at β t ≡ Some (z, k)
+      → b' ≡ set b (get_or cs 0 0) (to_z w32 (of_z w32 z)) → cs' ≡ set cs 0 (get_or cs 0 0 + 1) → ReadAs β 0 t b b' cs cs' (Some k)
   unfolding read_value lay advance
   leaf-scalar {b} {b'} {cs} {cs'} {z} {k} e p q =
       let i : Scalar β t z k = scalar-of β e in
@@ -193,11 +157,11 @@ module _ {β : Base} {t : List ℕ} where
         grown = λ j. omega (arith, grown-set cs 0 j, i.some_bytes, ap (λ (l : List ℕ). get_or l j 0) q);
       })
 
-  pub leaf-no : {b b' : List ℤ} {cs cs' : List ℕ} → NoInt ≡ scalar_at β t → ReadAs β 0 t b b' cs cs' No
+  pub leaf-no : {b b' : List ℤ} {cs cs' : List ℕ} {r : RustOption ℕ} → scalar_at β t ≡ None → r ≡ None → ReadAs β 0 t b b' cs cs' r
   unfolding read_value
-  leaf-no e = read_no (no-scalar-of β (read_element β t) e)
+  leaf-no {b} {b'} {cs} {cs'} e p = subst (ReadAs β 0 t b b' cs cs') (sym p) (read_no (no-scalar-of β (read_element β t) e))
 
-  pub leaf-ready : {b : List ℤ} {cs : List ℕ} {z : ℤ} {k : ℕ} → Ready β 0 t b cs → Int z k ≡ scalar_at β t → (0 < length cs) × (get_or cs 0 0 + 1 < 2 ^ 64)
+  pub leaf-ready : {b : List ℤ} {cs : List ℕ} {z : ℤ} {k : ℕ} → Ready β 0 t b cs → scalar_at β t ≡ Some (z, k) → (0 < length cs) × (get_or cs 0 0 + 1 < 2 ^ 64)
   leaf-ready {b} {cs} {z} {k} a e =
       let i : Scalar β t z k = scalar-of β e in
       (a.levels, omega (arith, a.counts 0 (omega arith), i.some_bytes, i.inside))
@@ -213,8 +177,8 @@ module _ (β : Base) (d : ℕ) (t : List ℕ) where
           → ◌≡◌ {A = Option (List (Val (type_of β d)) × ℕ)}
           (elim p [ true ↦ elim q [ true ↦ some ([], 2) | false ↦ read_items (read_value (type_of β d)) (length t) t 1 ] | false ↦ none ]) (some ([], 2))
       go true true e' = refl
-      go true false e' = let x : ◌≡◌ {A = ℕ} 0 1 = cc in absurd (omega arith)
-      go false q e' = let x : ◌≡◌ {A = ℕ} 0 1 = cc in absurd (omega arith)
+      go true false e' = cc
+      go false q e' = cc
 
   pub opens-items : Items ≡ opening_at t → read_value (type_of β (suc d)) t ≡ read_items (read_value (type_of β d)) (length t) t 1
   unfolding read_value
@@ -224,9 +188,9 @@ module _ (β : Base) (d : ℕ) (t : List ℕ) where
           → ◌≡◌ {A = Option (List (Val (type_of β d)) × ℕ)}
           (elim p [ true ↦ elim q [ true ↦ some ([], 2) | false ↦ read_items (read_value (type_of β d)) (length t) t 1 ] | false ↦ none ])
           (read_items (read_value (type_of β d)) (length t) t 1)
-      go true true e' = let x : ◌≡◌ {A = ℕ} 0 1 = cc in absurd (omega arith)
+      go true true e' = cc
       go true false e' = refl
-      go false q e' = let x : ◌≡◌ {A = ℕ} 0 1 = cc in absurd (omega arith)
+      go false q e' = cc
 
   pub opens-no : NoList ≡ opening_at t → read_value (type_of β (suc d)) t ≡ none
   unfolding read_value
@@ -235,8 +199,8 @@ module _ (β : Base) (d : ℕ) (t : List ℕ) where
       go : (p q : Bool) → NoList ≡ pick p (pick q Empty Items) NoList
           → ◌≡◌ {A = Option (List (Val (type_of β d)) × ℕ)}
           (elim p [ true ↦ elim q [ true ↦ some ([], 2) | false ↦ read_items (read_value (type_of β d)) (length t) t 1 ] | false ↦ none ]) none
-      go true true e' = let x : ◌≡◌ {A = ℕ} 0 1 = cc in absurd (omega arith)
-      go true false e' = let x : ◌≡◌ {A = ℕ} 0 1 = cc in absurd (omega arith)
+      go true true e' = cc
+      go true false e' = cc
       go false q e' = refl
 
 opens-two : (t : List ℕ) → Empty ≡ opening_at t → 2 ≤ length t
@@ -244,15 +208,15 @@ opens-two t e = go (eqb (get_or t 0 0) 123) (eqb (get_or t 1 0) 125) refl e
   where
     go : (p q : Bool) → eqb (get_or t 1 0) 125 ≡ q → Empty ≡ pick p (pick q Empty Items) NoList → 2 ≤ length t
     go true true h e' = present t 1 (eqb-true (get_or t 1 0) 125 h) (omega arith)
-    go true false h e' = let x : ◌≡◌ {A = ℕ} 0 1 = cc in absurd (omega arith)
-    go false q h e' = let x : ◌≡◌ {A = ℕ} 0 1 = cc in absurd (omega arith)
+    go true false h e' = cc
+    go false q h e' = cc
 
 opens_one : (t : List ℕ) → Items ≡ opening_at t → 1 ≤ length t
 opens_one t e = go (eqb (get_or t 0 0) 123) (eqb (get_or t 1 0) 125) refl e
   where
     go : (p q : Bool) → eqb (get_or t 0 0) 123 ≡ p → Items ≡ pick p (pick q Empty Items) NoList → 1 ≤ length t
     go true q h e' = present t 0 (eqb-true (get_or t 0 0) 123 h) (omega arith)
-    go false q h e' = let x : ◌≡◌ {A = ℕ} 0 1 = cc in absurd (omega arith)
+    go false q h e' = cc
 
 -- ---- an empty list
 
@@ -261,7 +225,7 @@ module _ {β : Base} {d : ℕ} {t : List ℕ} {b : List ℤ} {cs : List ℕ} (e 
   empty-ready a = (a.levels, omega (arith, a.counts (suc d) (omega arith), opens-two t e))
 
   pub empty-list : {b' : List ℤ} {cs' : List ℕ} → b' ≡ set b (get_or cs (suc d) 0) (pos 1) → cs' ≡ set cs (suc d) (get_or cs (suc d) 0 + 1)
-      → ReadAs β (suc d) t b b' cs cs' (Bytes 2)
+      → ReadAs β (suc d) t b b' cs cs' (Some 2)
   unfolding lay advance concat segments
   empty-list {b'} {cs'} p q =
       read-bytes
@@ -292,7 +256,7 @@ module _ {A : Type 0} where
 
   unappended : (vs ws : List A) (j : ℕ) (o : Option (List A × ℕ)) → appended vs o ≡ some (ws, j)
       → (us : List A) × (o ≡ some (us, j)) × (ws ≡ vs ++ us)
-  unappended vs ws j none e = let z : ◌≡◌ {A = ℕ} 0 1 = cc in absurd (omega arith)
+  unappended vs ws j none e = cc
   unappended vs ws j (some r) e =
       let p : vs ++ r.0 ≡ ws = (some_pair _ _ _ _ e).0 in
       let q : r.1 ≡ j = (some_pair _ _ _ _ e).1 in
@@ -331,14 +295,14 @@ module _ {A : Type 0} where
     first-item us j e = go (item (drop k t)) refl
       where
         deep : (x : A) (n : ℕ) (a : After) (o : Option (List A × ℕ)) → followed a x (k + n + 1) o ≡ some (us, j) → (rest : List A) × (us ≡ x ∷ rest)
-        deep x n Comma none e' = let z : ◌≡◌ {A = ℕ} 0 1 = cc in absurd (omega arith)
+        deep x n Comma none e' = cc
         deep x n Comma (some r) e' = let p : x ∷ r.0 ≡ us = (some_pair _ _ _ _ e').0 in (r.0, sym p)
         deep x n Close o e' = let p : x ∷ [] ≡ us = (some_pair _ _ _ _ e').0 in ([], sym p)
-        deep x n Else o e' = let z : ◌≡◌ {A = ℕ} 0 1 = cc in absurd (omega arith)
+        deep x n Else o e' = cc
 
         go : (o : Option (A × ℕ)) → item (drop k t) ≡ o
             → (x : A) × (n : ℕ) × (rest : List A) × (item (drop k t) ≡ some (x, n)) × (us ≡ x ∷ rest)
-        go none h = let z : ◌≡◌ {A = ℕ} 0 1 = cc (items-none h) in absurd (omega arith)
+        go none h = cc (items-none h)
         go (some r) h =
             let q : (rest : List A) × (us ≡ r.0 ∷ rest) =
             deep r.0 r.1 (after_at t (k + r.1)) (read_items item m t (k + r.1 + 1)) (sym (items-some r.0 r.1 h) ∙ e) in
@@ -496,9 +460,10 @@ pub record Item (β : Base) (d : ℕ) (t : List ℕ) (b b' : List ℤ) (cs cs' :
   pub inside : k + n ≤ length t
 
 module _ {β : Base} {d : ℕ} {t : List ℕ} {b b' : List ℤ} {cs cs' : List ℕ} {k : ℕ} (a : Listing β d t b b' cs cs' k) where
-  pub listing-no : {b₁ : List ℤ} {cs₁ : List ℕ} → read_value (type_of β d) (drop k t) ≡ none → ReadAs β (suc d) t b b₁ cs cs₁ No
-  listing-no e =
-      read_no (reads_on a ∙ ap (appended a.items) (items-none (read_value (type_of β d)) (fuel a).0 t k e))
+  pub listing-no : {b₁ : List ℤ} {cs₁ : List ℕ} {r : RustOption ℕ} → read_value (type_of β d) (drop k t) ≡ none → r ≡ None → ReadAs β (suc d) t b b₁ cs cs₁ r
+  listing-no {b₁} {cs₁} e p =
+      subst (ReadAs β (suc d) t b b₁ cs cs₁) (sym p)
+      (read_no (reads_on a ∙ ap (appended a.items) (items-none (read_value (type_of β d)) (fuel a).0 t k e)))
 
   free_of : {x : Val (type_of β d)} {n : ℕ} → read_value (type_of β d) (drop k t) ≡ some (x, n) → Free β d b cs (a.items ++ x ∷ [])
   unfolding Free
@@ -589,7 +554,7 @@ module _ {β : Base} {d : ℕ} {t : List ℕ} {b b' : List ℤ} {cs cs' : List �
       read-so
       ∙ ap (λ (g : After). appended a.items (followed g a.item (k + n + 1) (read_items (read_value (type_of β d)) a.most t (k + n + 1)))) (sym e)
 
-  pub item-else : {b₁ : List ℤ} {cs₁ : List ℕ} → Else ≡ after_at t (k + n) → ReadAs β (suc d) t b b₁ cs cs₁ No
+  pub item-else : {b₁ : List ℤ} {cs₁ : List ℕ} → Else ≡ after_at t (k + n) → ReadAs β (suc d) t b b₁ cs cs₁ None
   item-else e = read_no (after-as Else e)
 
   -- what stands there is a comma or a brace, and no end
@@ -622,6 +587,9 @@ module _ {β : Base} {d : ℕ} {t : List ℕ} {b b' : List ℤ} {cs cs' : List �
         inside = omega (arith, comma-inside e);
       }
 
+  pub item-comma-at : {j : ℕ} → Comma ≡ after_at t (k + n) → k + n + 1 ≡ j → Listing β d t b b' cs cs' j
+  item-comma-at e p = subst (Listing β d t b b' cs cs') p (item-comma e)
+
   pub end-ready : Close ≡ after_at t (k + n) → (suc d < length cs') × (get_or cs' (suc d) 0 + 1 < 2 ^ 64)
   end-ready e = (
     omega (
@@ -636,7 +604,7 @@ module _ {β : Base} {d : ℕ} {t : List ℕ} {b b' : List ℤ} {cs cs' : List �
 
   pub item-close : {b₁ : List ℤ} {cs₁ : List ℕ} → Close ≡ after_at t (k + n)
       → b₁ ≡ set b' (get_or cs' (suc d) 0) (pos 1) → cs₁ ≡ set cs' (suc d) (get_or cs' (suc d) 0 + 1)
-      → ReadAs β (suc d) t b b₁ cs cs₁ (Bytes (k + n + 1))
+      → ReadAs β (suc d) t b b₁ cs cs₁ (Some (k + n + 1))
   unfolding lay advance concat segments
   item-close {b₁} {cs₁} e p q =
       let ws : List (Val (type_of β d)) = a.items ++ a.item ∷ [] in

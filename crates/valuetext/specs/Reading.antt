@@ -1,17 +1,13 @@
 -- What the readers of value text answer, and what they do to the elements and the cursors lent, as the value that `read_value` finds has it.
-use Rattle.std.specs.Prelude.{ℕ, ◌+◌, ◌≤◌, ◌<◌, ◌^◌, Bool, false, List, [], ◌∷◌, ◌≡◌, eqb, ℤ, length, get_or}
-use Rattle.std.proofs.Math.Option.{Option, some, none}
+use Rattle.std.specs.Prelude.{ℕ, ◌+◌, ◌≤◌, ◌<◌, ◌^◌, Bool, false, List, [], ◌∷◌, ◌≡◌, eqb, ℤ, length, get_or, Option, Some, None}
+use Rattle.std.proofs.Math.Option as math
 use Rattle.snesl.specs.declared.code.Base.{Base}
 use Rattle.snesl.specs.declared.code.Base.TheVariants as base
 use Rattle.snesl.specs.Values.{type_of, Element, Val}
 use Rattle.snesl.specs.Streams.{bit}
 use Rattle.snesl.specs.Text.{open_brace, close_brace, comma, read_element, read_value}
 use Rattle.decimals.specs.Numbers.{pick}
-use Rattle.decimals.specs.declared.numbers.ReadInt.{ReadInt}
-use Rattle.decimals.specs.declared.numbers.ReadInt.TheVariants.{Int, No as NoInt}
 use Rattle.valuetext.specs.Laying.{lay, advance, Apart}
-use Rattle.valuetext.specs.declared.reading.Taken.{Taken}
-use Rattle.valuetext.specs.declared.reading.Taken.TheVariants.{Bytes, No}
 use Rattle.valuetext.specs.declared.reading.Opening.{Opening}
 use Rattle.valuetext.specs.declared.reading.Opening.TheVariants.{Empty, Items, No as NoList}
 use Rattle.valuetext.specs.declared.reading.After.{After}
@@ -28,15 +24,15 @@ abbrev pub cell : (β : Base) → Element β → ℤ
 cell base.Int z = z
 cell base.Bool c = bit c
 
-abbrev pub scalar_read : (β : Base) → Option (Element β × ℕ) → ReadInt
-scalar_read β none = NoInt
-scalar_read β (some r) = Int (cell β r.0) r.1
+abbrev pub scalar_read : (β : Base) → math.Option (Element β × ℕ) → Option (ℤ × ℕ)
+scalar_read β math.none = None
+scalar_read β (math.some r) = Some (cell β r.0, r.1)
 
 -- the scalar at the front of a text
-abbrev pub scalar_at : (β : Base) → List ℕ → ReadInt
+abbrev pub scalar_at : (β : Base) → List ℕ → Option (ℤ × ℕ)
 scalar_at β t = scalar_read β (read_element β t)
 
-abbrev pub bool_at : List ℕ → ReadInt
+abbrev pub bool_at : List ℕ → Option (ℤ × ℕ)
 bool_at t = scalar_at base.Bool t
 
 -- is it a list of ints?
@@ -47,7 +43,7 @@ ints_in base.Bool d = false
 -- Either no elements are lent, and the reader only counts; or the text was read before and its streams don't overlap.
 pub data Clear (β : Base) (d : ℕ) (t : List ℕ) (b : List ℤ) (cs : List ℕ) : Type 0 where
   measuring : length b ≡ 0 → Clear β d t b cs
-  filling : {v : Val (type_of β d)} {k : ℕ} → read_value (type_of β d) t ≡ some (v, k) → Apart β d cs (v ∷ []) → Clear β d t b cs
+  filling : {v : Val (type_of β d)} {k : ℕ} → read_value (type_of β d) t ≡ math.some (v, k) → Apart β d cs (v ∷ []) → Clear β d t b cs
 
 -- what a reader of base β and depth d is handed: a cursor for each level, that can take an element for each byte
 pub record Ready (β : Base) (d : ℕ) (t : List ℕ) (b : List ℤ) (cs : List ℕ) : Type 0 where
@@ -58,12 +54,12 @@ pub record Ready (β : Base) (d : ℕ) (t : List ℕ) (b : List ℤ) (cs : List 
 -- the value that was read, laid at the cursors; no cursor moves by more than the bytes taken
 pub record Laid (β : Base) (d : ℕ) (t : List ℕ) (b b' : List ℤ) (cs cs' : List ℕ) (k : ℕ) : Type 0 where
   pub value : Val (type_of β d)
-  pub reads : read_value (type_of β d) t ≡ some (value, k)
+  pub reads : read_value (type_of β d) t ≡ math.some (value, k)
   pub content : b' ≡ lay β d b cs (value ∷ [])
   pub cursors : cs' ≡ advance β d cs (value ∷ [])
   pub inside : k ≤ length t
   pub grown : (i : ℕ) → get_or cs' i 0 ≤ get_or cs i 0 + k
 
-pub data ReadAs (β : Base) (d : ℕ) (t : List ℕ) (b b' : List ℤ) (cs cs' : List ℕ) : Taken → Type 0 where
-  read_no : read_value (type_of β d) t ≡ none → ReadAs β d t b b' cs cs' No
-  read-bytes : {k : ℕ} → Laid β d t b b' cs cs' k → ReadAs β d t b b' cs cs' (Bytes k)
+pub data ReadAs (β : Base) (d : ℕ) (t : List ℕ) (b b' : List ℤ) (cs cs' : List ℕ) : Option ℕ → Type 0 where
+  read_no : read_value (type_of β d) t ≡ math.none → ReadAs β d t b b' cs cs' None
+  read-bytes : {k : ℕ} → Laid β d t b b' cs cs' k → ReadAs β d t b b' cs cs' (Some k)

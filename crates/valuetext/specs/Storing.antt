@@ -1,6 +1,6 @@
 -- Value text to streams (01, "Representation by itself", and refusals 3, 7 and 9 in that order), as a function of the text, the
 -- type and what is lent. A type is a base β and a depth d, as code holds it.
-use Rattle.std.specs.Prelude.{ℕ, suc, ◌+◌, ◌≤◌, ◌&&◌, List, [], ◌∷◌, ◌++◌, map, ◌≡◌, leb, ltb, ℤ, length, take, drop}
+use Rattle.std.specs.Prelude.{ℕ, suc, ◌+◌, ◌≤◌, ◌&&◌, List, [], ◌∷◌, ◌++◌, map, ◌≡◌, leb, ltb, ℤ, length, take, drop, Result, Ok, Err}
 use Rattle.std.proofs.Math.Option.{Option, some, none}
 use Rattle.snesl.specs.declared.code.Base.{Base}
 use Rattle.snesl.specs.Values.{ValueType, type_of, Val}
@@ -12,10 +12,8 @@ use Rattle.snesl.specs.Limits.{most_depth, most_elements, used_of}
 use Rattle.snesl.specs.declared.refusal.Refusal.{Refusal}
 use Rattle.snesl.specs.declared.refusal.Refusal.TheVariants.{OverLimit, NoValueText, NoRoom}
 use Rattle.decimals.specs.Numbers.{pick}
-use Rattle.valuetext.specs.declared.storing.Measured.{Measured}
-use Rattle.valuetext.specs.declared.storing.Measured.TheVariants.{Elements, Over, No}
-use Rattle.valuetext.specs.declared.storing.Stored.{Stored}
-use Rattle.valuetext.specs.declared.storing.Stored.TheVariants.{Elements as StoredElements, Refused}
+use Rattle.valuetext.specs.declared.storing.Unmeasured.{Unmeasured}
+use Rattle.valuetext.specs.declared.storing.Unmeasured.TheVariants.{NoValue, Over}
 
 -- the streams of one value, in tree order
 abbrev pub value_store : (τ : ValueType) → Val τ → Store
@@ -34,12 +32,17 @@ text_elements τ t = contents (text_store τ t)
 
 -- ---- the two passes
 
-abbrev pub measured_if : (τ : ValueType) → Option (Val τ) → Measured
-measured_if τ none = No
-measured_if τ (some v) = pick (leb (room (value_store τ v)) most_elements) (Elements (room (value_store τ v))) Over
+abbrev pub measured_if : (τ : ValueType) → Option (Val τ) → Result ℕ Unmeasured
+measured_if τ none = Err NoValue
+measured_if τ (some v) = pick (leb (room (value_store τ v)) most_elements) (Ok (room (value_store τ v))) (Err Over)
 
-abbrev pub measured : (τ : ValueType) → List ℕ → Measured
+abbrev pub measured : (τ : ValueType) → List ℕ → Result ℕ Unmeasured
 measured τ t = measured_if τ (value_of τ t)
+
+-- as text to streams refuses it
+abbrev pub refusal_of : Unmeasured → Refusal
+refusal_of NoValue = NoValueText 0
+refusal_of Over = NoRoom 0
 
 -- a value's counts are put in front
 abbrev pub counts_if : (β : Base) (d : ℕ) → Option (Val (type_of β d)) → List ℕ → List ℕ
@@ -60,19 +63,19 @@ pub record Fillable (β : Base) (d : ℕ) (t : List ℕ) (counts : List ℕ) (st
 -- ---- the whole
 
 pub record Conversion : Type 0 where
-  pub answer : Stored
+  pub answer : Result ℕ Refusal
   pub elements : List ℤ
   pub lengths : List ℕ
 
 -- refused, nothing is written
 abbrev pub refused : Refusal → List ℤ → List ℕ → Conversion
-refused why es ls = record { answer = Refused why; elements = es; lengths = ls }
+refused why es ls = record { answer = Err why; elements = es; lengths = ls }
 
 -- accepted, only the streams and their lengths are
 abbrev pub accepted : Store → List ℤ → List ℕ → Conversion
 accepted σ es ls =
     record {
-      answer = StoredElements (room σ);
+      answer = Ok (room σ);
       elements = contents σ ++ drop (room σ) es;
       lengths = map len σ ++ drop (length σ) ls;
     }

@@ -3,18 +3,11 @@
 ghost use Rattle.std.specs.Prelude.{◌+◌, ◌<◌, ◌^◌, ◌≡◌, length, get_or, set};
 ghost use Rattle.valuetext.specs.Reading.{opening_at, after_at, scalar_at, bool_at, ints_in, Ready, ReadAs};
 
-use decimals::numbers::{ReadInt, byte_at, quick_int, read_int};
+use decimals::numbers::{byte_at, quick_int, read_int};
 use snesl::code::Base;
 
-// What a reader took of the text, from its first byte on.
-#[derive(Clone, Copy)]
-pub enum Taken {
-    Bytes(usize),
-    No,
-}
-
 // How a text begins: with an empty list, with a list that has items, or with none.
-#[derive(Clone, Copy)]
+#[derive(Clone, Copy, Debug, PartialEq, Eq)]
 pub enum Opening {
     Empty,
     Items,
@@ -22,7 +15,7 @@ pub enum Opening {
 }
 
 // What stands behind an item.
-#[derive(Clone, Copy)]
+#[derive(Clone, Copy, Debug, PartialEq, Eq)]
 pub enum After {
     Comma,
     Close,
@@ -52,44 +45,36 @@ fn append(elements: &mut [i32], cursors: &mut [usize], level: usize, z: i32)
 fn opening_of(text: &[u8]) -> Opening
     ensures { result ≡ opening_at text.now }
 {
-    if byte_at(text, 0) != b'{' {
-        return Opening::No;
+    match text {
+        [b'{', b'}', ..] => Opening::Empty,
+        [b'{', ..] => Opening::Items,
+        _ => Opening::No,
     }
-    if byte_at(text, 1) == b'}' {
-        return Opening::Empty;
-    }
-    Opening::Items
 }
 
 fn what_follows(text: &[u8], at: usize) -> After
     ensures { result ≡ after_at text.now at }
 {
-    let b = byte_at(text, at);
-    if b == b',' {
-        return After::Comma;
+    match byte_at(text, at) {
+        b',' => After::Comma,
+        b'}' => After::Close,
+        _ => After::Else,
     }
-    if b == b'}' {
-        return After::Close;
-    }
-    After::Else
 }
 
-// T as 1 and F as 0.
-fn read_bool(text: &[u8]) -> ReadInt
+// T as 1 and F as 0, with its one byte.
+fn read_bool(text: &[u8]) -> Option<(i32, usize)>
     ensures { result ≡ bool_at text.now }
 {
-    let b = byte_at(text, 0);
-    if b == b'T' {
-        return ReadInt::Int(1, 1);
+    match byte_at(text, 0) {
+        b'T' => Some((1, 1)),
+        b'F' => Some((0, 1)),
+        _ => None,
     }
-    if b == b'F' {
-        return ReadInt::Int(0, 1);
-    }
-    ReadInt::No
 }
 
-// A scalar as the element that it becomes.
-fn read_scalar(text: &[u8], base: Base) -> ReadInt
+// A scalar as the element that it becomes, with the bytes it takes.
+fn read_scalar(text: &[u8], base: Base) -> Option<(i32, usize)>
     ensures { result ≡ scalar_at base text.now }
 {
     match base {
@@ -98,21 +83,18 @@ fn read_scalar(text: &[u8], base: Base) -> ReadInt
     }
 }
 
-fn read_leaf(text: &[u8], base: Base, elements: &mut [i32], cursors: &mut [usize]) -> Taken
+// This reader and those below answer how many bytes they took of the text, from its first one on.
+fn read_leaf(text: &[u8], base: Base, elements: &mut [i32], cursors: &mut [usize]) -> Option<usize>
     requires { Ready base 0 text.now elements.old cursors.old }
     ensures { ReadAs base 0 text.now elements.old elements.new cursors.old cursors.new result }
 {
-    match read_scalar(text, base) {
-        ReadInt::Int(z, k) => {
-            append(elements, cursors, 0, z);
-            Taken::Bytes(k)
-        }
-        ReadInt::No => Taken::No,
-    }
+    let (z, n) = read_scalar(text, base)?;
+    append(elements, cursors, 0, z);
+    Some(n)
 }
 
 // The ints of a list, behind its brace, up to and with its closing one. Most of a text is such lists, so the cursors of the data and of the flags stay in locals.
-fn read_ints(text: &[u8], elements: &mut [i32], cursors: &mut [usize]) -> Taken
+fn read_ints(text: &[u8], elements: &mut [i32], cursors: &mut [usize]) -> Option<usize>
     requires ready { Ready Base.Int 1 text.now elements.old cursors.old }
     requires value { Opening.Items ≡ opening_at text.now }
     ensures { ReadAs Base.Int 1 text.now elements.old elements.new cursors.old cursors.new result }
@@ -120,31 +102,22 @@ fn read_ints(text: &[u8], elements: &mut [i32], cursors: &mut [usize]) -> Taken
     let mut data = cursors[0];
     let mut flags = cursors[1];
     let mut k: usize = 1;
+    // What stands behind an item says whether there is another, so that no range says it beforehand.
     loop {
-        match quick_int(&text[k..]) {
-            ReadInt::Int(z, n) => {
-                store(elements, data, z);
-                store(elements, flags, 0);
-                data += 1;
-                flags += 1;
-                match what_follows(text, k + n) {
-                    After::Comma => {
-                        k = k + n + 1;
-                    }
-                    After::Close => {
-                        store(elements, flags, 1);
-                        cursors[0] = data;
-                        cursors[1] = flags + 1;
-                        return Taken::Bytes(k + n + 1);
-                    }
-                    After::Else => {
-                        return Taken::No;
-                    }
-                }
+        let (z, n) = quick_int(&text[k..])?;
+        store(elements, data, z);
+        store(elements, flags, 0);
+        data += 1;
+        flags += 1;
+        match what_follows(text, k + n) {
+            After::Comma => k += n + 1,
+            After::Close => {
+                store(elements, flags, 1);
+                cursors[0] = data;
+                cursors[1] = flags + 1;
+                return Some(k + n + 1);
             }
-            ReadInt::No => {
-                return Taken::No;
-            }
+            After::Else => return None,
         }
     }
 }
@@ -153,10 +126,7 @@ fn read_ints(text: &[u8], elements: &mut [i32], cursors: &mut [usize]) -> Taken
 fn of_ints(base: Base, depth: u8) -> bool
     ensures { result ≡ ints_in base depth }
 {
-    match base {
-        Base::Int => depth == 1,
-        Base::Bool => false,
-    }
+    base == Base::Int && depth == 1
 }
 
 // An item, from the text's first byte on: a scalar, or a list.
@@ -167,7 +137,7 @@ pub(crate) fn read_item(
     depth: u8,
     elements: &mut [i32],
     cursors: &mut [usize],
-) -> Taken
+) -> Option<usize>
     requires { Ready base depth text.now elements.old cursors.old }
     ensures { ReadAs base depth text.now elements.old elements.new cursors.old cursors.new result }
 {
@@ -178,7 +148,7 @@ pub(crate) fn read_item(
         Opening::Empty => {
             let level = depth as usize;
             append(elements, cursors, level, 1);
-            Taken::Bytes(2)
+            Some(2)
         }
         Opening::Items => {
             if of_ints(base, depth) {
@@ -186,7 +156,7 @@ pub(crate) fn read_item(
             }
             read_list(text, base, depth, elements, cursors)
         }
-        Opening::No => Taken::No,
+        Opening::No => None,
     }
 }
 
@@ -198,32 +168,23 @@ fn read_list(
     depth: u8,
     elements: &mut [i32],
     cursors: &mut [usize],
-) -> Taken
+) -> Option<usize>
     requires ready { Ready base depth text.now elements.old cursors.old }
     requires depth_nonzero { (0 < depth) × (Opening.Items ≡ opening_at text.now) }
     ensures { ReadAs base depth text.now elements.old elements.new cursors.old cursors.new result }
 {
     let mut k: usize = 1;
+    // What stands behind an item says whether there is another, so that no range says it beforehand.
     loop {
-        match read_item(&text[k..], base, depth - 1, elements, cursors) {
-            Taken::Bytes(n) => {
-                append(elements, cursors, depth as usize, 0);
-                match what_follows(text, k + n) {
-                    After::Comma => {
-                        k = k + n + 1;
-                    }
-                    After::Close => {
-                        append(elements, cursors, depth as usize, 1);
-                        return Taken::Bytes(k + n + 1);
-                    }
-                    After::Else => {
-                        return Taken::No;
-                    }
-                }
+        let n = read_item(&text[k..], base, depth - 1, elements, cursors)?;
+        append(elements, cursors, depth as usize, 0);
+        match what_follows(text, k + n) {
+            After::Comma => k += n + 1,
+            After::Close => {
+                append(elements, cursors, depth as usize, 1);
+                return Some(k + n + 1);
             }
-            Taken::No => {
-                return Taken::No;
-            }
+            After::Else => return None,
         }
     }
 }

@@ -1,10 +1,6 @@
 -- The last digit first, each at its place.
-use Rattle.std.proofs.Common.{◌≤◌}
 use Rattle.decimals.proofs.NumberWriting.{Digiting}
 use Rattle.decimals.proofs.numbers.write_number.Given as goal
 
 abbrev pub invariant-loop-p : goal.invariant-loop-p
-invariant-loop-p l = (Digiting l.initial.buf l.buf l.at l.n l.p l.m) × (l.p ≤ l.end)
-
-abbrev pub decreases-loop-p : goal.decreases-loop-p
-decreases-loop-p l = l.p
+invariant-loop-p l = Digiting l.initial.buf l.buf l.at l.n l.p l.m

@@ -1,11 +1,7 @@
--- The bytes before i stand written.
-use Prim.Native.Nat.{◌≤◌, ◌-◌}
-use lib.ListN.{length, take}
+-- The bytes so far stand written.
+use Rattle.std.proofs.Common.{take}
 use Rattle.decimals.specs.Writing.{Writes}
 use Rattle.lines.proofs.pieces.put_bytes.Given as goal
 
-abbrev pub invariant-loop-i : goal.invariant-loop-i
-invariant-loop-i l = Writes l.initial.text l.text l.at (take l.i l.bytes) l.p × (l.i ≤ length l.bytes)
-
-abbrev pub decreases-loop-i : goal.decreases-loop-i
-decreases-loop-i l = length l.bytes - l.i
+abbrev pub invariant-loop-b : goal.invariant-loop-b
+invariant-loop-b l = Writes l.initial.text l.text l.at (take l.b-index l.bytes) l.p

@@ -1,37 +1,20 @@
--- Element by element, up to the first that is no bool.
-use native.Mathlib.Omega.{arith}
-use Rattle.rendering.proofs.FittingSteps.{tried-start, tried-zero, tried-one, tried-neither, tried-end}
+-- Each element is a flag, in one way of saying it and the other.
+use Rattle.std.proofs.Common.{◌≡◌, List, [], ◌∷◌, Bool, ◌&&◌, ℤ, refl, ap, ◌∙◌, rules, tests}
+use Rattle.std.specs.List.{list_all}
+use Rattle.std.proofs.lemmas.Iterator.{YieldsList-from_slice}
+use Rattle.std.proofs.lemmas.Iterator.Search.{all_from_yields_List}
+use Rattle.snesl.specs.Transducers.{flag_of}
+use Rattle.snesl.specs.Representation.{is_flag, are_elements}
+use Rattle.rendering.specs.Fitting.{bools_fit}
 use Rattle.rendering.proofs.fitting.are_bools.Goals as goal
 
-pub loop-i-init : goal.loop-i-init
-loop-i-init c = tried-start c.args.elements.now
+abbrev is_bool : ℤ → Bool
+is_bool z = is_flag (flag_of z)
 
-pub offset_bounds-elements-i : goal.offset_bounds-elements-i
-offset_bounds-elements-i c = omega (arith, c.well_formed.0.1)
-
-pub bounds-elements-i : goal.bounds-elements-i
-bounds-elements-i c = omega (arith, c.loop-i-test.true)
-
-pub overflow_add-i : goal.overflow_add-i
-overflow_add-i c = omega (arith, c.loop-i-test.true, c.well_formed.0.1)
-
-pub loop-i-smaller-then-z-eq0 : goal.loop-i-smaller-then-z-eq0
-loop-i-smaller-then-z-eq0 c = omega (arith, c.loop-i-test.true)
-
-pub loop-i-preserved-then-z-eq0 : goal.loop-i-preserved-then-z-eq0
-loop-i-preserved-then-z-eq0 c = tried-zero c.loop-i.invariant c.loop-i-test.true c.z-1.given c.if-z-eq0.true
-
-pub overflow_add-i-then-z-eq1 : goal.overflow_add-i-then-z-eq1
-overflow_add-i-then-z-eq1 c = omega (arith, c.loop-i-test.true, c.well_formed.0.1)
-
-pub loop-i-smaller : goal.loop-i-smaller
-loop-i-smaller c = omega (arith, c.loop-i-test.true)
-
-pub loop-i-preserved : goal.loop-i-preserved
-loop-i-preserved c = tried-one c.loop-i.invariant c.loop-i-test.true c.z-1.given c.if-z-eq1.true
-
-pub returns-else-z-eq1 : goal.returns-else-z-eq1
-returns-else-z-eq1 c = tried-neither c.loop-i.invariant c.loop-i-test.true c.if-z-eq0.false c.if-z-eq1.false
+each-bool : (zs : List ℤ) → list_all is_bool zs ≡ bools_fit zs
+unfolding are_elements
+each-bool [] = refl
+each-bool (z ∷ zs) = ap (λ b. is_bool z && b) (each-bool zs)
 
 pub returns : goal.returns
-returns c = tried-end c.loop-i.invariant c.loop-i-test.false
+returns c = all_from_yields_List is_bool _ _ _ c.all.ensures.ran (YieldsList-from_slice c.args.elements.now cc) (λ x b q k. (refl, search (rules, tests))) ∙ each-bool c.args.elements.now

@@ -1,10 +1,12 @@
 -- Of each base its own reader.
-use mathlib.Core.Path.{◌∙◌}
-use Rattle.valuetext.proofs.ReadingSteps.{int-at-base, bool-at-base}
+use Rattle.std.proofs.Common.{sym, ap, ◌∙◌}
+use Rattle.snesl.specs.declared.code.Base.{Base}
+use Rattle.valuetext.specs.Reading.{scalar_at}
+use Rattle.valuetext.proofs.ReadingSteps.{int_at_lem}
 use Rattle.valuetext.proofs.reading.read_scalar.Goals as goal
 
 pub returns-in-Int : goal.returns-in-Int
-returns-in-Int c = c.read_int.ensures ∙ int-at-base c.args.text.now c.in-Int.is
+returns-in-Int c = c.read_int.ensures ∙ int_at_lem c.args.text.now ∙ ap (λ (β : Base). scalar_at β c.args.text.now) (sym c.in-Int.is)
 
 pub returns-in-Bool : goal.returns-in-Bool
-returns-in-Bool c = c.read_bool.ensures ∙ bool-at-base c.args.text.now c.in-Bool.is
+returns-in-Bool c = c.read_bool.ensures ∙ ap (λ (β : Base). scalar_at β c.args.text.now) (sym c.in-Bool.is)

@@ -1,30 +1,19 @@
 -- The reader lent no elements counts; the counts of a value are kept, and added up.
-use mathlib.Core.Path.{sym, ◌∙◌}
-use Prim.Native.Nat.{◌+◌}
-use native.Mathlib.Omega.{arith}
-use lib.Seq.{length-take-le}
-use Rattle.valuetext.proofs.ReadingAt.{laid_of, none_of}
-use Rattle.valuetext.proofs.StoringSteps.{value_none, value-short, measure-ready, measured-none, measured-over, measured-of}
+use Rattle.std.proofs.Common.{◌≡◌, ℕ, length, refl, ap, ◌∙◌, arith}
+use Rattle.std.specs.Prelude.{Option, Some}
+use Rattle.std.specs.Option.{ok_or}
+use Rattle.std.proofs.lemmas.Grind.{common_steps}
+use Rattle.valuetext.specs.declared.storing.Unmeasured.TheVariants.{Over}
+use Rattle.valuetext.proofs.ReadingAt.{laid_of}
+use Rattle.valuetext.proofs.StoringSteps.{measured_as, kept}
 use Rattle.valuetext.proofs.storing.measure_text.Goals as goal
 
-pub read_item-requires : goal.read_item-requires
-read_item-requires c = measure-ready c.args.base c.args.depth c.args.text.now c.requires.0 c.well_formed.0.0
+pub returns-clause-value : goal.returns-clause-value
+returns-clause-value c =
+    let q : c.read_item-taken.result ≡ Some (length c.args.text.now) = grind (arith, common_steps) in
+    c.ok_or.ensures.value ∙ ap (λ (o : Option ℕ). ok_or o Over) c.add_up.ensures ∙ measured_as c.args.base c.args.depth c.args.text.now c.args.counts.now (laid_of c.read_item-taken.ensures q) c.requires.0 refl
 
-pub returns-then-n-text : goal.returns-then-n-text
-returns-then-n-text c = let laid = laid_of c.read_item.ensures c.in-Bytes.is in let both = measured-none c.args.base c.args.depth c.args.text.now c.args.counts.now
-    (value-short c.args.base c.args.depth c.args.text.now laid.value c.in-Bytes.n laid.reads c.if-n-text.true) in record { value = both.0; counts_after = both.1 }
-
-pub slice_bounds-add_up-end : goal.slice_bounds-add_up-end
-slice_bounds-add_up-end c = sym (length-take-le (c.args.depth + 1) c.read_item.new.cursors (omega (arith, c.requires.0, c.read_item.auto.cursors)))
-
-pub returns-in-Of : goal.returns-in-Of
-returns-in-Of c = let both = measured-of c.args.base c.args.depth c.args.text.now c.args.counts.now (laid_of c.read_item.ensures c.in-Bytes.is) c.requires.0 c.if-n-text.false c.copy.ensures
-    (sym c.in-Of.is ∙ c.add_up.ensures) in record { value = both.0; counts_after = both.1 }
-
-pub returns-in-Over : goal.returns-in-Over
-returns-in-Over c = let both = measured-over c.args.base c.args.depth c.args.text.now c.args.counts.now (laid_of c.read_item.ensures c.in-Bytes.is) c.requires.0 c.if-n-text.false c.copy.ensures
-    (sym c.in-Over.is ∙ c.add_up.ensures) in record { value = both.0; counts_after = both.1 }
-
-pub returns-in-No : goal.returns-in-No
-returns-in-No c = let both = measured-none c.args.base c.args.depth c.args.text.now c.args.counts.now
-    (value_none c.args.base c.args.depth c.args.text.now (none_of c.read_item.ensures c.in-No.is)) in record { value = both.0; counts_after = both.1 }
+pub returns-clause-counts_after : goal.returns-clause-counts_after
+returns-clause-counts_after c =
+    let q : c.read_item-taken.result ≡ Some (length c.args.text.now) = grind (arith, common_steps) in
+    kept c.args.base c.args.depth c.args.text.now c.args.counts.now (laid_of c.read_item-taken.ensures q) c.requires.0 refl c.copy.ensures
