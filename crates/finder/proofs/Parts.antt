@@ -7,15 +7,14 @@ use native.Mathlib.Omega.{arith}
 use lib.Dec.{eqb, leb}
 use lib.ListN.{length, take, drop}
 use borrow.Author.Tests.{leb-true}
+use Rattle.std.specs.Result.{result_ok}
+use Rattle.std.specs.Prelude.{Option, Some, None, Result, Ok, Err}
 use Rattle.snesl.specs.declared.refusal.Refusal.{Refusal}
 use Rattle.snesl.specs.declared.refusal.Refusal.TheVariants.{NoRecord}
 use Rattle.snesl.specs.declared.limits.Job.{Job}
 use Rattle.snesl.specs.Finder as finder
 use Rattle.snesl.specs.Records as records
 use Rattle.snesl.specs.Records.{mark_at, mark_va, Span, span_at, span_first, texts_at, texts, Front, front, texts_then, job_end, front_of, read_job}
-use Rattle.formula.specs.declared.read.Text.TheVariants as text
-use Rattle.formula.specs.declared.read.JobRead.{JobRead}
-use Rattle.formula.specs.declared.read.JobRead.TheVariants as job
 use Rattle.finder.specs.declared.find.Part.{Part}
 use Rattle.finder.specs.Parts.{Held, part_from, nowhere, part_among, located_in, located}
 use Rattle.formula.specs.Reading.{text_at, job_of}
@@ -26,7 +25,7 @@ record First (t : List ℕ) (m k : ℕ) (ss : List Span) (end : ℕ) : Type 0 wh
   rest : List Span
   spans : ss ≡ span_at t k ∷ rest
   read : texts_at m t (k + 4 + (span_at t k).bytes) ≡ texts rest end
-  is : text_at t k ≡ text.Found (k + 4 + (span_at t k).bytes)
+  is : text_at t k ≡ Some (k + 4 + (span_at t k).bytes)
   fits : k + 4 + (span_at t k).bytes ≤ length t
 
 module _ (t : List ℕ) where
@@ -60,7 +59,7 @@ module _ (t : List ℕ) where
 
   -- the first of more than i texts, and the others
   record Next (i k : ℕ) : Type 0 where
-    is : text_at t k ≡ text.Found (k + 4 + (span_at t k).bytes)
+    is : text_at t k ≡ Some (k + 4 + (span_at t k).bytes)
     fits : k + 4 + (span_at t k).bytes ≤ length t
     others : 0 < i → Held t (i - 1) (k + 4 + (span_at t k).bytes)
 
@@ -77,13 +76,10 @@ module _ (t : List ℕ) where
             others = λ p. record { inputs = m; spans = f.rest; end = h.end; enough = omega arith; read = f.read };
           }
 
-  -- `left` more texts are passed by before the one that is asked for
-  pub record Parting (i from left k : ℕ) : Type 0 where
-    pub held : Held t left k
-    pub same : part_from i t from ≡ part_from left t k
-
-  pub start : {i from : ℕ} → Held t i from → Parting i from i from
-  start h = record { held = h; same = refl }
+  -- `done` texts are passed by before the i-th, and the next one is at k
+  pub record Parting (i from done k : ℕ) : Type 0 where
+    pub held : Held t (i - done) k
+    pub same : part_from i t from ≡ part_from (i - done) t k
 
   part-on : (left k : ℕ) → 0 < left → part_from left t k ≡ part_from (left - 1) t (k + 4 + (span_at t k).bytes)
   unfolding part_from
@@ -92,26 +88,32 @@ module _ (t : List ℕ) where
       let e : l ≡ suc l - 1 = omega arith in
       ap (λ z. part_from z t (k + 4 + (span_at t k).bytes)) e
 
-  module _ {i from left k : ℕ} (p : Parting i from left k) where
-    ahead : {n : ℕ} → text.Found n ≡ text_at t k → n ≡ k + 4 + (span_at t k).bytes
+  module _ {i from done k : ℕ} (p : Parting i from done k) {o : Option ℕ} (q : o ≡ text_at t k) where
+    ahead : {n : ℕ} → o ≡ Some n → n ≡ k + 4 + (span_at t k).bytes
     ahead e = cc (next p.held).is
 
-    pub never : text.Cut ≡ text_at t k → ⊥
+    pub never : o ≡ None → ⊥
     never e = let z : ◌≡◌ {A = ℕ} 0 1 = cc (next p.held).is in omega arith
 
-    pub turn : (n : ℕ) → text.Found n ≡ text_at t k → (left ≡ 0 → ⊥) → Parting i from (left - 1) n
-    turn n e f =
-        subst (Parting i from (left - 1)) (sym (ahead e))
-        (record { held = (next p.held).others (omega arith); same = p.same ∙ part-on left k (omega arith) })
+    pub turn : {n : ℕ} → o ≡ Some n → done < i → Parting i from (done + 1) n
+    turn {n} e h =
+        let less : i - done - 1 ≡ i - (done + 1) = omega arith in
+        record {
+          held = subst (λ z. Held t z n) less (subst (Held t (i - done - 1)) (sym (ahead e)) ((next p.held).others (omega arith)));
+          same =
+              p.same
+              ∙ (part-on (i - done) k (omega arith) ∙ (ap (part_from (i - done - 1) t) (sym (ahead e)) ∙ ap (λ z. part_from z t n) less));
+        }
 
-    pub within : (n : ℕ) → text.Found n ≡ text_at t k → (k + 4 ≤ n) × (n ≤ length t)
-    within n e = (omega (arith, ahead e), omega (arith, ahead e, (next p.held).fits))
+    pub within : {n : ℕ} → o ≡ Some n → (k + 4 ≤ n) × (n ≤ length t)
+    within e = (omega (arith, ahead e), omega (arith, ahead e, (next p.held).fits))
 
-    pub done : (n : ℕ) → text.Found n ≡ text_at t k → left ≡ 0 → record { start = k + 4; bytes = n - (k + 4) } ≡ part_from i t from
+    pub passed : {n : ℕ} → o ≡ Some n → i ≤ done → record { start = k + 4; bytes = n - (k + 4) } ≡ part_from i t from
     unfolding part_from
-    done n e z =
+    passed {n} e h =
         let m : n - (k + 4) ≡ (span_at t k).bytes = omega (arith, ahead e) in
-        ap (λ m. record { start = k + 4; bytes = m }) m ∙ (ap (λ m. part_from m t k) (sym z) ∙ sym p.same)
+        let z : 0 ≡ i - done = omega arith in
+        ap (λ m. record { start = k + 4; bytes = m }) m ∙ (ap (λ m. part_from m t k) z ∙ sym p.same)
 
   -- the same of the list of all texts
   parts :
@@ -141,18 +143,18 @@ module _ (t : List ℕ) where
     read : texts_at j.formula.inputs t j.formula.end ≡ texts spans end
     finds : (i : ℕ) → located i t ≡ part_among i spans
 
-  supplied : (j : Job) → job.Found j ≡ job_of t (read_job t) → Supplied j
+  supplied : (j : Job) → Ok j ≡ job_of t (read_job t) → Supplied j
   supplied j e = go (front_of t) refl e
     where
       all :
           (is : List records.Input) (k : ℕ) (r : records.Raw) (n : ℕ) → front_of t ≡ front is k r n
-          → (x : records.Texts) → texts_at (length is) t n ≡ x → job.Found j ≡ job_of t (texts_then t is k r n x) → Supplied j
+          → (x : records.Texts) → texts_at (length is) t n ≡ x → Ok j ≡ job_of t (texts_then t is k r n x) → Supplied j
       all is k r n p (records.refused f) q w = let z : ◌≡◌ {A = ℕ} 0 1 = cc in absurd (omega arith)
       all is k r n p (texts ss end) q w = last (eqb end (length t)) refl w
         where
           last :
               (b : Bool) → eqb end (length t) ≡ b
-              → job.Found j ≡ job_of t (elim b [ true ↦ records.job is k r n ss | false ↦ records.refused (NoRecord end) ])
+              → Ok j ≡ job_of t (elim b [ true ↦ records.job is k r n ss | false ↦ records.refused (NoRecord end) ])
               → Supplied j
           last true u v =
               let whole : texts_then t is k r n (texts ss end) ≡ records.job is k r n ss = rw (u, texts_then) in
@@ -166,11 +168,11 @@ module _ (t : List ℕ) where
               }
           last false u v = let z : ◌≡◌ {A = ℕ} 0 1 = cc in absurd (omega arith)
 
-      go : (f : Front) → front_of t ≡ f → job.Found j ≡ job_of t (job_end t f) → Supplied j
+      go : (f : Front) → front_of t ≡ f → Ok j ≡ job_of t (job_end t f) → Supplied j
       go (records.refused r) p w = let z : ◌≡◌ {A = ℕ} 0 1 = cc in absurd (omega arith)
       go (front is k r n) p w = all is k r n p (texts_at (length is) t n) refl w
 
-  module _ {j : Job} (p : job.Found j ≡ job_of t (read_job t)) (i : ℕ) where
+  module _ {j : Job} (p : Ok j ≡ job_of t (read_job t)) (i : ℕ) where
     pub present : i < j.formula.inputs → Held t i j.formula.end
     present h =
         let s = supplied j p in
@@ -186,10 +188,18 @@ module _ (t : List ℕ) where
         let s = supplied j p in
         sym (s.finds i ∙ (parts j.formula.inputs j.formula.end s.spans s.end s.read i).1 h)
 
-  pub refused : (r : Refusal) → job.Refused r ≡ job_of t (read_job t) → (i : ℕ) → nowhere ≡ located i t
+  -- as `ok` tells it of what was read
+  pub read-is : {r : Result Job Refusal} {o : Option Job} {j : Job} → r ≡ job_of t (read_job t) → o ≡ result_ok r → o ≡ Some j → Ok j ≡ job_of t (read_job t)
+  read-is {r} {o} {j} p q e = go r q ∙ p
+    where
+      go : (r : Result Job Refusal) → o ≡ result_ok r → Ok j ≡ r
+      go (Ok k) q = cc
+      go (Err f) q = cc
+
+  pub refused : (r : Refusal) → Err r ≡ job_of t (read_job t) → (i : ℕ) → nowhere ≡ located i t
   refused r e i = go (read_job t) e
     where
-      go : (x : records.JobRead) → job.Refused r ≡ job_of t x → nowhere ≡ located_in i x
+      go : (x : records.JobRead) → Err r ≡ job_of t x → nowhere ≡ located_in i x
       go (records.refused f) e = refl
       go (records.job is k f n ss) e = let z : ◌≡◌ {A = ℕ} 0 1 = cc in absurd (omega arith)
 
@@ -217,9 +227,9 @@ module _ (t : List ℕ) where
       inside : (p : Part) → p ≡ located i t → p.start + p.bytes ≤ length t → (located i t).start + (located i t).bytes ≤ length t
       inside p e h = subst (λ (p : Part). p.start + p.bytes ≤ length t) e h
 
-      go : (x : JobRead) → x ≡ job_of t (read_job t) → (located i t).start + (located i t).bytes ≤ length t
-      go (job.Refused r) e = inside nowhere (refused r e i) (omega arith)
-      go (job.Found j) e =
+      go : (x : Result Job Refusal) → x ≡ job_of t (read_job t) → (located i t).start + (located i t).bytes ≤ length t
+      go (Err r) e = inside nowhere (refused r e i) (omega arith)
+      go (Ok j) e =
           let s = supplied j e in
           inside
           (part_among i s.spans)

@@ -1,14 +1,15 @@
 -- The input records, one at a time: what stands at k, and what the definition makes of all from k on.
-use Prim.Native.Nat.{ℕ, zero, suc, ◌+◌, ◌-◌, ◌≤◌, ◌<◌}
+use Prim.Native.Nat.{ℕ, zero, suc, ◌+◌, ◌-◌, ◌*◌, ◌≤◌, ◌<◌}
 use mathlib.Core.Bool.{Bool, true, false, ◌&&◌}
 use mathlib.Core.List.{List, []}
-use mathlib.Core.Logic.{◌⊎◌, inl, inr}
 use mathlib.Core.Option.{Option, some, none}
 use mathlib.Core.Path.{◌≡◌, refl, sym, ap, subst, ◌∙◌}
 use native.Mathlib.Omega.{arith}
-use lib.Dec.{eqb, leb, ltb}
+use lib.Dec.{eqb, leb}
 use lib.ListN.{length}
-use borrow.Author.Tests.{leb-true, ltb-true, ltb-false, eqb-true, ne_eqb, le-leb, lt-leb, lt-ltb, le-ltb}
+use borrow.Author.Tests.{eqb-true, le-leb, lt-leb}
+use Rattle.std.specs.Prelude.{Result, Ok, Err}
+use Rattle.laws.proofs.Options.{none-some}
 use Rattle.snesl.specs.declared.code.Base.{Base}
 use Rattle.snesl.specs.declared.code.Base.TheVariants as base
 use Rattle.snesl.specs.declared.refusal.Refusal.{Refusal}
@@ -16,27 +17,9 @@ use Rattle.snesl.specs.declared.refusal.Refusal.TheVariants.{NoRecord, OverLimit
 use Rattle.snesl.specs.Limits.{most_inputs, most_depth, last_variable}
 use Rattle.snesl.specs.Records as records
 use Rattle.snesl.specs.Records.{byte_at, mark_at, mark_in, mark_ib, Input, input_base, input_at, input_ok, input_first, inputs_at, refused, declared}
-use Rattle.formula.specs.declared.read.Entry.{Entry}
-use Rattle.formula.specs.declared.read.Entry.TheVariants as entry
 use Rattle.formula.specs.declared.read.Declared.{Declared}
-use Rattle.formula.specs.declared.read.Declared.TheVariants.{Refused, Found}
 use Rattle.formula.specs.Declarations.{is_input, base_of_mark}
 use Rattle.formula.specs.Reading.{entry_at, declared_of}
-
--- ---- marks
-
-pub marks-input : (m : ℕ) → (m ≡ mark_ib) ⊎ (m ≡ mark_in) → true ≡ is_input m
-marks-input m (inl q) = sym (ap is_input q)
-marks-input m (inr q) = sym (ap is_input q)
-
-pub marks-other : (m : ℕ) → ((m ≡ mark_ib) ⊎ (m ≡ mark_in) → ⊥) → false ≡ is_input m
-marks-other m f = rw (ne_eqb m mark_in (λ q. f (inr q)), ne_eqb m mark_ib (λ q. f (inl q)), is_input)
-
-pub marks-bool : (m : ℕ) → m ≡ mark_ib → base.Bool ≡ base_of_mark m
-marks-bool m q = sym (ap base_of_mark q)
-
-pub marks-int : (m : ℕ) → (m ≡ mark_ib → ⊥) → base.Int ≡ base_of_mark m
-marks-int m f = rw (ne_eqb m mark_ib f, base_of_mark)
 
 -- the base of an input's mark is the one that it declares
 pub base-is : (m : ℕ) (b : Base) → input_base m ≡ some b → base_of_mark m ≡ b
@@ -50,151 +33,158 @@ base-is m b e = go (eqb m mark_in) refl (eqb m mark_ib) refl e
         let int : m ≡ mark_in = eqb-true m mark_in p in
         ap base_of_mark int ∙ cc
     go false p true q e = ap (λ (z : Bool). elim z as (λ c. Base) [ true ↦ base.Bool | false ↦ base.Int ]) q ∙ cc
-    go false p false q e = let z : ◌≡◌ {A = ℕ} 0 1 = cc in absurd (omega arith)
+    go false p false q e = none-some e
 
 -- ---- one record by its tests, in the definition's order
 
-module _ (t : List ℕ) (k count : ℕ) where
+module _ (t : List ℕ) (k : ℕ) where
   -- as the functions tell it
   pub marked : {m : ℕ} {r b : Bool} → m ≡ mark_at t k → r ≡ is_input m → r ≡ b → is_input (mark_at t k) ≡ b
   marked e f q = ap is_input (sym e) ∙ (sym f ∙ q)
 
-  pub entry-last : is_input (mark_at t k) ≡ false → entry.Last ≡ entry_at t k count
+  pub entry-last : is_input (mark_at t k) ≡ false → Ok false ≡ entry_at t k
   unfolding entry_at
   entry-last m = rw (m, entry_at)
 
   module _ (m : is_input (mark_at t k) ≡ true) where
-    pub entry-cut : leb (k + 4) (length t) ≡ false → entry.Refused (NoRecord k) ≡ entry_at t k count
+    pub entry-cut : leb (k + 4) (length t) ≡ false → Err (NoRecord k) ≡ entry_at t k
     unfolding entry_at
     entry-cut e = rw (m, e, entry_at)
 
     module _ (e : leb (k + 4) (length t) ≡ true) where
-      pub entry-name : last_variable < byte_at t (k + 2) → entry.Refused (OverLimit k) ≡ entry_at t k count
+      pub entry-name : last_variable < byte_at t (k + 2) → Err (OverLimit k) ≡ entry_at t k
       unfolding entry_at
       entry-name h = rw (m, e, lt-leb (byte_at t (k + 2)) last_variable h, entry_at)
 
       module _ (h : byte_at t (k + 2) ≤ last_variable) where
-        pub entry-deep : most_depth < byte_at t (k + 3) → entry.Refused (OverLimit k) ≡ entry_at t k count
+        pub entry-deep : most_depth < byte_at t (k + 3) → Err (OverLimit k) ≡ entry_at t k
         unfolding entry_at
         entry-deep i = rw (m, e, le-leb (byte_at t (k + 2)) last_variable h, lt-leb (byte_at t (k + 3)) most_depth i, entry_at)
 
-        module _ (i : byte_at t (k + 3) ≤ most_depth) where
-          pub entry-many : most_inputs ≤ count → entry.Refused (TooMany k) ≡ entry_at t k count
-          unfolding entry_at
-          entry-many j =
-              rw (m, e, le-leb (byte_at t (k + 2)) last_variable h, le-leb (byte_at t (k + 3)) most_depth i, le-ltb count most_inputs j, entry_at)
-
-          pub entry-one : count < most_inputs → entry.One ≡ entry_at t k count
-          unfolding entry_at
-          entry-one j =
-              rw (m, e, le-leb (byte_at t (k + 2)) last_variable h, le-leb (byte_at t (k + 3)) most_depth i, lt-ltb count most_inputs j, entry_at)
+        pub entry-one : byte_at t (k + 3) ≤ most_depth → Ok true ≡ entry_at t k
+        unfolding entry_at
+        entry-one i = rw (m, e, le-leb (byte_at t (k + 2)) last_variable h, le-leb (byte_at t (k + 3)) most_depth i, entry_at)
 
 -- ---- records
 
 -- an answer behind `count` inputs that stand before it
-abbrev more : ℕ → Declared → Declared
-more count (Refused r) = Refused r
-more count (Found n k) = Found (count + n) k
+abbrev more : ℕ → Result Declared Refusal → Result Declared Refusal
+more count (Err r) = Err r
+more count (Ok d) = Ok (record { inputs = count + d.inputs; end = d.end })
 
-more-none : (d : Declared) → d ≡ more 0 d
-more-none (Refused r) = refl
-more-none (Found n k) = ap (λ m. Found m k) (omega arith)
+more-none : (d : Result Declared Refusal) → d ≡ more 0 d
+more-none (Err r) = refl
+more-none (Ok d) = ap (λ m. Ok (record { inputs = m; end = d.end })) (omega arith)
 
-more-one : (count : ℕ) (d : Declared) → more count (more 1 d) ≡ more (count + 1) d
-more-one count (Refused r) = refl
-more-one count (Found n k) = ap (λ m. Found m k) (omega arith)
+more-one : (count : ℕ) (d : Result Declared Refusal) → more count (more 1 d) ≡ more (count + 1) d
+more-one count (Err r) = refl
+more-one count (Ok d) = ap (λ m. Ok (record { inputs = m; end = d.end })) (omega arith)
 
 first_more : (i : Input) (d : records.Declared) → declared_of (input_first i d) ≡ more 1 (declared_of d)
 first_more i (refused r) = refl
-first_more i (declared is k) = ap (λ m. Found m k) (omega arith)
+first_more i (declared is k) = ap (λ m. Ok (record { inputs = m; end = k })) (omega arith)
 
 module _ (t : List ℕ) (k : ℕ) where
-  abbrev pub Next : (left : ℕ) → Entry → records.Declared → Type 0
-  Next left entry.Last d = declared_of d ≡ Found 0 k
-  Next left (entry.Refused r) d = declared_of d ≡ Refused r
-  Next left entry.One d =
-      (0 < left) × (k + 4 ≤ length t) × (declared_of d ≡ more 1 (declared_of (inputs_at (left - 1) t (k + 4))))
+  -- all input records from k on, by what stands at k; d is what they are where an input stands there
+  abbrev Next : Result Bool Refusal → Result Declared Refusal → records.Declared → Type 0
+  Next (Err r) d a = declared_of a ≡ Err r
+  Next (Ok false) d a = declared_of a ≡ Ok (record { inputs = 0; end = k })
+  Next (Ok true) d a = declared_of a ≡ d
 
-  by_tests :
-      (left count : ℕ) (d : Base → records.Declared)
-      → ((b : Base) → ltb count most_inputs ≡ true → k + 4 ≤ length t → Next left entry.One (d b))
-      → ((b : Base) → ltb count most_inputs ≡ false → d b ≡ refused (TooMany k))
-      → Next left (entry_at t k count) (elim (input_base (mark_at t k)) [ some b ↦ input_ok t k (d b) | none ↦ declared [] k ])
+  next :
+      (d : Base → records.Declared) (e : Result Declared Refusal) → ((b : Base) → declared_of (d b) ≡ e)
+      → Next (entry_at t k) e (elim (input_base (mark_at t k)) [ some b ↦ input_ok t k (d b) | none ↦ declared [] k ])
   unfolding entry_at
-  by_tests left count d f g =
-      go (input_base (mark_at t k)) (leb (k + 4) (length t)) refl
-      (leb (byte_at t (k + 2)) last_variable && leb (byte_at t (k + 3)) most_depth) (ltb count most_inputs) refl
+  next d e f =
+      go (input_base (mark_at t k)) (leb (k + 4) (length t)) (leb (byte_at t (k + 2)) last_variable && leb (byte_at t (k + 3)) most_depth)
     where
       go :
-          (m : Option Base) (l : Bool) → leb (k + 4) (length t) ≡ l → (o c : Bool) → ltb count most_inputs ≡ c
-          → Next left
+          (m : Option Base) (l o : Bool)
+          → Next
           (elim (elim m as (λ z. Bool) [ some b ↦ true | none ↦ false ]) [
-            | true ↦
-                elim l [
-                  | true ↦ elim o [ true ↦ elim c [ true ↦ entry.One | false ↦ entry.Refused (TooMany k) ] | false ↦ entry.Refused (OverLimit k) ]
-                  | false ↦ entry.Refused (NoRecord k)
-                ]
-            | false ↦ entry.Last
+            | true ↦ elim l [ true ↦ elim o [ true ↦ Ok true | false ↦ Err (OverLimit k) ] | false ↦ Err (NoRecord k) ]
+            | false ↦ Ok false
           ])
+          e
           (elim m [
             | some b ↦ elim l [ true ↦ elim o [ true ↦ d b | false ↦ refused (OverLimit k) ] | false ↦ refused (NoRecord k) ]
             | none ↦ declared [] k
           ])
-      go (some b) true e true true q = f b q (leb-true (k + 4) (length t) e)
-      go (some b) true e true false q = ap declared_of (g b q)
-      go (some b) true e false c q = refl
-      go (some b) false e o c q = refl
-      go none l e o c q = refl
+      go (some b) true true = f b
+      go (some b) true false = refl
+      go (some b) false o = refl
+      go none l o = refl
 
-  next : (left count : ℕ) → count + left ≡ most_inputs → Next left (entry_at t k count) (inputs_at left t k)
+  none_left : Next (entry_at t k) (Err (TooMany k)) (inputs_at 0 t k)
   unfolding inputs_at
-  next zero count e = by_tests zero count (λ b. refused (TooMany k)) (λ b q l. absurd (never (ltb-true count most_inputs q))) (λ b q. refl)
-    where
-      never : count < most_inputs → ⊥
-      never h = omega arith
-  next (suc left) count e =
-      by_tests (suc left) count (λ b. input_first (input_at t k b) (inputs_at left t (k + 4)))
-      (λ b q l. (omega arith, l, first_more (input_at t k b) (inputs_at left t (k + 4)) ∙ ap (λ z. more 1 (declared_of (inputs_at z t (k + 4)))) same))
-      (λ b q. absurd (never (ltb-false count most_inputs q)))
+  none_left = next (λ b. refused (TooMany k)) (Err (TooMany k)) (λ b. refl)
+
+  some_left : (left : ℕ) → 0 < left → Next (entry_at t k) (more 1 (declared_of (inputs_at (left - 1) t (k + 4)))) (inputs_at left t k)
+  unfolding inputs_at
+  some_left zero h = absurd (omega arith)
+  some_left (suc left) h =
+      next (λ b. input_first (input_at t k b) (inputs_at left t (k + 4))) _
+      (λ b. first_more (input_at t k b) (inputs_at left t (k + 4)) ∙ ap (λ z. more 1 (declared_of (inputs_at z t (k + 4)))) same)
     where
       same : left ≡ suc left - 1
       same = omega arith
-
-      never : most_inputs ≤ count → ⊥
-      never h = omega arith
-
-  pub next-by : (left count : ℕ) → count + left ≡ most_inputs → {r : Entry} → r ≡ entry_at t k count → Next left r (inputs_at left t k)
-  next-by left count e {r} p = subst (λ z. Next left z (inputs_at left t k)) (sym p) (next left count e)
 
 -- `count` inputs are read, and k is the position behind them
 pub record Declaring (t : List ℕ) (count k : ℕ) : Type 0 where
   pub few : count ≤ most_inputs
   pub rest : declared_of (inputs_at most_inputs t 0) ≡ more count (declared_of (inputs_at (most_inputs - count) t k))
 
+-- that answer at an answer which is known
+by :
+    (t : List ℕ) (k : ℕ) {q r : Result Bool Refusal} (e : Result Declared Refusal) (a : records.Declared)
+    → q ≡ entry_at t k → q ≡ r → Next t k (entry_at t k) e a → Next t k r e a
+by t k e a p f = subst (λ z. Next t k z e a) (sym p ∙ f)
+
 module _ (t : List ℕ) where
   pub start : Declaring t 0 0
   start = record { few = omega arith; rest = more-none (declared_of (inputs_at most_inputs t 0)) }
 
-  module _ {count k : ℕ} (d : Declaring t count k) where
-    behind : {r : Entry} → r ≡ entry_at t k count → Next t k (most_inputs - count) r (inputs_at (most_inputs - count) t k)
-    behind p = next-by t k (most_inputs - count) count (omega arith) p
+  -- no more than are allowed
+  pub all_read : {count : ℕ} → Declaring t count (4 * count) → most_inputs ≤ count → Declaring t most_inputs (4 * most_inputs)
+  all_read {count} d h = let e : count ≡ most_inputs = omega (arith, d.few) in subst (λ n. Declaring t n (4 * n)) e d
 
-    pub fits : entry.One ≡ entry_at t k count → (count < most_inputs) × (k + 4 ≤ length t)
-    fits p = (omega (arith, (behind p).0), (behind p).1)
+  module _ {count k : ℕ} (d : Declaring t count k) {q : Result Bool Refusal} (p : q ≡ entry_at t k) where
+    -- fewer inputs than are allowed are read
+    module _ (h : count < most_inputs) where
+      one_less :
+          {r : Result Bool Refusal} → q ≡ r
+          → Next t k r (more 1 (declared_of (inputs_at (most_inputs - count - 1) t (k + 4)))) (inputs_at (most_inputs - count) t k)
+      one_less f = by t k _ _ p f (some_left t k (most_inputs - count) (omega arith))
 
-    pub turn : entry.One ≡ entry_at t k count → Declaring t (count + 1) (k + 4)
-    turn p =
-        record {
-          few = omega (arith, (behind p).0);
-          rest =
-              d.rest
-              ∙ (ap (more count) (behind p).2
-              ∙ (more-one count (declared_of (inputs_at (most_inputs - count - 1) t (k + 4)))
-              ∙ ap (λ z. more (count + 1) (declared_of (inputs_at z t (k + 4)))) (omega arith)));
-        }
+      pub turn : q ≡ Ok true → Declaring t (count + 1) (k + 4)
+      turn f =
+          record {
+            few = omega arith;
+            rest =
+                d.rest
+                ∙ (ap (more count) (one_less f)
+                ∙ (more-one count (declared_of (inputs_at (most_inputs - count - 1) t (k + 4)))
+                ∙ ap (λ z. more (count + 1) (declared_of (inputs_at z t (k + 4)))) (omega arith)));
+          }
 
-    pub last : entry.Last ≡ entry_at t k count → Found count k ≡ declared_of (inputs_at most_inputs t 0)
-    last p = sym (d.rest ∙ (ap (more count) (behind p) ∙ ap (λ z. Found z k) (omega arith)))
+      pub last : q ≡ Ok false → Ok (record { inputs = count; end = k }) ≡ declared_of (inputs_at most_inputs t 0)
+      last f = sym (d.rest ∙ (ap (more count) (one_less f) ∙ ap (λ z. Ok (record { inputs = z; end = k })) (omega arith)))
 
-    pub stopped : (r : Refusal) → entry.Refused r ≡ entry_at t k count → Refused r ≡ declared_of (inputs_at most_inputs t 0)
-    stopped r p = sym (d.rest ∙ ap (more count) (behind p))
+      pub stopped : {r : Refusal} → q ≡ Err r → Err r ≡ declared_of (inputs_at most_inputs t 0)
+      stopped f = sym (d.rest ∙ ap (more count) (one_less f))
+
+    -- as many are read as are allowed
+    module _ (h : most_inputs ≤ count) where
+      no_more : {r : Result Bool Refusal} → q ≡ r → Next t k r (Err (TooMany k)) (inputs_at (most_inputs - count) t k)
+      no_more {r} f =
+          let z : 0 ≡ most_inputs - count = omega (arith, d.few) in
+          subst (λ n. Next t k r (Err (TooMany k)) (inputs_at n t k)) z (by t k _ _ p f (none_left t k))
+
+      pub one_over : q ≡ Ok true → Err (TooMany k) ≡ declared_of (inputs_at most_inputs t 0)
+      one_over f = sym (d.rest ∙ ap (more count) (no_more f))
+
+      pub last-full : q ≡ Ok false → Ok (record { inputs = count; end = k }) ≡ declared_of (inputs_at most_inputs t 0)
+      last-full f = sym (d.rest ∙ (ap (more count) (no_more f) ∙ ap (λ z. Ok (record { inputs = z; end = k })) (omega arith)))
+
+      pub stopped-full : {r : Refusal} → q ≡ Err r → Err r ≡ declared_of (inputs_at most_inputs t 0)
+      stopped-full f = sym (d.rest ∙ ap (more count) (no_more f))

@@ -1,3 +1,4 @@
+pub mod Asking
 pub mod Scanning
 pub mod Declaring
 pub mod Texts

@@ -1,14 +1,14 @@
 // The input records of a formula that was read, IN and IB. Whoever wants one asks here: nothing else knows where they stand.
-ghost use Rattle.std.specs.Prelude.{◌≡◌, ◌+◌, ◌≤◌, length};
-ghost use Rattle.snesl.specs.Records.{input_at};
-ghost use Rattle.formula.specs.Declarations.{input_place, is_input, base_of_mark, base_at, declaration_of};
+ghost use Rattle.std.specs.Prelude.{◌≡◌, ◌+◌, ◌≤◌, length, unwrap_or};
+ghost use Rattle.snesl.specs.Records.{input_at, input_base};
+ghost use Rattle.formula.specs.Declarations.{input_place, is_input, base_option, base_of_mark, base_at, declaration_of};
 
 use records::head::mark_at;
-use records::marks;
+use records::marks::Mark;
 use snesl::code::{Base, Variable};
 
 // An input record's place, and what it says: so many braces round its base.
-#[derive(Clone, Copy)]
+#[derive(Clone, Copy, Debug, PartialEq, Eq)]
 pub struct Declaration {
     pub place: usize,
     pub name: Variable,
@@ -16,25 +16,25 @@ pub struct Declaration {
     pub depth: u8,
 }
 
+// The base that a mark declares, if it is an input's.
+pub fn base_of(mark: u16) -> Option<Base>
+    ensures declared { result ≡ base_option (input_base mark) }
+    ensures base { unwrap_or result Base.Int ≡ base_of_mark mark }
+{
+    match Mark::try_from(mark) {
+        Ok(Mark::Input(base)) => Some(base),
+        // An arm each: of one arm for several patterns the proof learns none of them.
+        Ok(Mark::Text) => None,
+        Ok(Mark::Expression(_)) => None,
+        Err(_) => None,
+    }
+}
+
 // Does the mark start an input record?
 pub fn is_input(mark: u16) -> bool
     ensures { result ≡ is_input mark }
 {
-    match mark {
-        marks::IN | marks::IB => true,
-        _ => false,
-    }
-}
-
-// The base that an input's mark declares.
-pub fn base_of(mark: u16) -> Base
-    ensures { result ≡ base_of_mark mark }
-{
-    if mark == marks::IB {
-        Base::Bool
-    } else {
-        Base::Int
-    }
+    base_of(mark).is_some()
 }
 
 // Input number i, counted from 0: the records stand first, four bytes each.
@@ -43,12 +43,10 @@ pub fn declared(bytes: &[u8], i: usize) -> Declaration
     ensures { result ≡ declaration_of (input_at bytes.now (input_place i) (base_at bytes.now (input_place i))) }
 {
     let place = 4 * i;
-    let base = base_of(mark_at(bytes, place));
-    let name = Variable(bytes[place + 2]);
     Declaration {
-        place: place,
-        name: name,
-        base: base,
+        place,
+        name: Variable(bytes[place + 2]),
+        base: base_of(mark_at(bytes, place)).unwrap_or(Base::Int),
         depth: bytes[place + 3],
     }
 }

@@ -1,4 +1,2 @@
-pub mod Bounds
-pub mod Bits
 pub mod Variables
 pub mod Heads

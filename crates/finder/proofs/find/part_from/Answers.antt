@@ -1,23 +1,23 @@
--- Each turn passes one text by, and where the one that is asked for stands is handed back.
-use mathlib.Core.Path.{sym, ◌∙◌}
-use native.Mathlib.Omega.{arith}
-use Rattle.finder.proofs.Parts.{start, never, turn, within, done}
+-- Each turn passes one text by, and behind the last stands the one that is asked for.
+use Rattle.std.proofs.Common.{ap, arith}
+use Rattle.std.specs.Prelude.{Some}
+use Rattle.finder.proofs.Parts.{never, turn, within, passed}
 use Rattle.finder.proofs.find.part_from.Goals as goal
 
-pub loop-next-init : goal.loop-next-init
-loop-next-init c = start _ c.requires
+pub returns-in_err-k : goal.returns-in_err-k
+returns-in_err-k c = absurd (never _ c.loop.invariant c.text_at.ensures c.in_err-k.was)
 
-pub returns-in-Cut : goal.returns-in-Cut
-returns-in-Cut c = absurd (never _ c.loop-next.invariant (sym c.in-Cut.is ∙ c.text_at.ensures))
+pub loop-preserved : goal.loop-preserved
+loop-preserved c = turn _ c.loop.invariant c.text_at.ensures c.in_ok-k.was c.loop-test.true
+
+pub returns-in_err-end : goal.returns-in_err-end
+returns-in_err-end c = absurd (never _ c.loop.invariant c.text_at-2.ensures c.in_err-end.was)
 
 pub overflow_add-start : goal.overflow_add-start
-overflow_add-start c = omega (arith, within _ c.loop-next.invariant _ (sym c.in-Found.is ∙ c.text_at.ensures))
+overflow_add-start c = omega (arith, within _ c.loop.invariant c.text_at-2.ensures c.in_ok-end.was)
 
-pub overflow_sub-bytes : goal.overflow_sub-bytes
-overflow_sub-bytes c = omega (arith, within _ c.loop-next.invariant _ (sym c.in-Found.is ∙ c.text_at.ensures))
+pub overflow_sub-result : goal.overflow_sub-result
+overflow_sub-result c = omega (arith, within _ c.loop.invariant c.text_at-2.ensures c.in_ok-end.was)
 
-pub returns-then-left-eq0 : goal.returns-then-left-eq0
-returns-then-left-eq0 c = done _ c.loop-next.invariant _ (sym c.in-Found.is ∙ c.text_at.ensures) c.if-left-eq0.true
-
-pub loop-next-preserved : goal.loop-next-preserved
-loop-next-preserved c = turn _ c.loop-next.invariant _ (sym c.in-Found.is ∙ c.text_at.ensures) c.if-left-eq0.false
+pub returns : goal.returns
+returns c = ap Some (passed _ c.loop.invariant c.text_at-2.ensures c.in_ok-end.was c.loop-test.false)

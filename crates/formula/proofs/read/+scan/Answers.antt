@@ -1,47 +1,29 @@
 -- A scan goes on as its first record asks, with one nesting less.
-use mathlib.Core.Path.{sym, ◌∙◌}
-use native.Mathlib.Omega.{arith}
-use Rattle.formula.proofs.Scanning.{scan-by}
+use Rattle.std.proofs.Common.{◌∙◌, ap, sym}
+use Rattle.std.proofs.lemmas.Result.{err_from_is_err_and}
+use Rattle.std.specs.Prelude.{Ok}
+use Rattle.formula.proofs.Scanning.{scan-by, scan-unasked, scan-full}
 use Rattle.formula.proofs.read.+scan.Goals as goal
 
-pub overflow_add-result : goal.overflow_add-result
-overflow_add-result t c = omega (arith, (scan-by c.args.bytes.now c.args.k c.args.n c.args.levels c.asked.ensures (sym c.in-Leaf.is ∙ c.admit.ensures)).0)
+pub returns-in_err-asks : goal.returns-in_err-asks
+returns-in_err-asks t c = let p = err_from_is_err_and c.from_residual.result c.from_residual.ensures.1 in
+    rw (p.1, p.2) (scan-unasked c.args.bytes.now c.args.k c.args.n c.args.levels c.asked.ensures c.in_err-asks.was)
 
-pub overflow_add-n : goal.overflow_add-n
-overflow_add-n t c = omega (arith, (scan-by c.args.bytes.now c.args.k c.args.n c.args.levels c.asked.ensures (sym c.in-Let.is ∙ c.admit.ensures)).0)
+pub returns-in_err-admit : goal.returns-in_err-admit
+returns-in_err-admit t c = let p = err_from_is_err_and c.from_residual-in_err-admit.result c.from_residual-in_err-admit.ensures.1 in
+    rw (p.1, p.2) (scan-full c.args.bytes.now c.args.k c.args.n c.args.levels c.asked.ensures c.in_ok-asks.was c.admit.ensures c.in_err-admit.was)
 
-pub overflow_sub-levels : goal.overflow_sub-levels
-overflow_sub-levels t c = omega (arith, (scan-by c.args.bytes.now c.args.k c.args.n c.args.levels c.asked.ensures (sym c.in-Let.is ∙ c.admit.ensures)).1)
-
-pub scan-requires : goal.scan-requires
-scan-requires t c = (omega (arith, (scan-by c.args.bytes.now c.args.k c.args.n c.args.levels c.asked.ensures (sym c.in-Let.is ∙ c.admit.ensures)).1), tt)
-
-pub overflow_sub-levels-in-Found : goal.overflow_sub-levels-in-Found
-overflow_sub-levels-in-Found t c = omega (arith, (scan-by c.args.bytes.now c.args.k c.args.n c.args.levels c.asked.ensures (sym c.in-Let.is ∙ c.admit.ensures)).1)
-
-pub scan-requires-in-Found : goal.scan-requires-in-Found
-scan-requires-in-Found t c = (omega (arith, (scan-by c.args.bytes.now c.args.k c.args.n c.args.levels c.asked.ensures (sym c.in-Let.is ∙ c.admit.ensures)).1), tt)
-
-pub overflow_add-n-in-Nested : goal.overflow_add-n-in-Nested
-overflow_add-n-in-Nested t c = omega (arith, (scan-by c.args.bytes.now c.args.k c.args.n c.args.levels c.asked.ensures (sym c.in-Nested.is ∙ c.admit.ensures)).0)
-
-pub overflow_sub-levels-in-Nested : goal.overflow_sub-levels-in-Nested
-overflow_sub-levels-in-Nested t c = omega (arith, (scan-by c.args.bytes.now c.args.k c.args.n c.args.levels c.asked.ensures (sym c.in-Nested.is ∙ c.admit.ensures)).1)
-
-pub scan-requires-in-Nested : goal.scan-requires-in-Nested
-scan-requires-in-Nested t c = (omega (arith, (scan-by c.args.bytes.now c.args.k c.args.n c.args.levels c.asked.ensures (sym c.in-Nested.is ∙ c.admit.ensures)).1), tt)
-
-pub returns-in-Refused : goal.returns-in-Refused
-returns-in-Refused t c = sym (scan-by c.args.bytes.now c.args.k c.args.n c.args.levels c.asked.ensures (sym c.in-Refused.is ∙ c.admit.ensures))
+pub returns-in_err-body-in-Let : goal.returns-in_err-body-in-Let
+returns-in_err-body-in-Let t c = let both = (scan-by c.args.bytes.now c.args.k c.args.n c.args.levels c.asked.ensures (c.in_ok-asks.was ∙ ap Ok c.in-Let.is) c.admit.ensures c.in_ok-admit.was).2 in
+    let p = err_from_is_err_and c.from_residual-in_err-body-in-Let.result c.from_residual-in_err-body-in-Let.ensures.1 in
+    rw (p.1, p.2) (sym (both.first _ (sym c.scan.ensures ∙ c.in_err-body-in-Let.was)))
 
 pub returns-in-Leaf : goal.returns-in-Leaf
-returns-in-Leaf t c = sym (scan-by c.args.bytes.now c.args.k c.args.n c.args.levels c.asked.ensures (sym c.in-Leaf.is ∙ c.admit.ensures)).1
+returns-in-Leaf t c = sym (scan-by c.args.bytes.now c.args.k c.args.n c.args.levels c.asked.ensures (c.in_ok-asks.was ∙ ap Ok c.in-Leaf.is) c.admit.ensures c.in_ok-admit.was).1
 
-pub returns-in-Refused-scan : goal.returns-in-Refused-scan
-returns-in-Refused-scan t c = sym ((scan-by c.args.bytes.now c.args.k c.args.n c.args.levels c.asked.ensures (sym c.in-Let.is ∙ c.admit.ensures)).2.first _ (sym c.scan.ensures ∙ c.in-Refused-scan.is))
-
-pub returns-in-Found : goal.returns-in-Found
-returns-in-Found t c = c.scan-in-Found.ensures ∙ sym ((scan-by c.args.bytes.now c.args.k c.args.n c.args.levels c.asked.ensures (sym c.in-Let.is ∙ c.admit.ensures)).2.second _ _ (sym c.scan.ensures ∙ c.in-Found.is))
+pub returns-in_ok-body-in-Let : goal.returns-in_ok-body-in-Let
+returns-in_ok-body-in-Let t c = let both = (scan-by c.args.bytes.now c.args.k c.args.n c.args.levels c.asked.ensures (c.in_ok-asks.was ∙ ap Ok c.in-Let.is) c.admit.ensures c.in_ok-admit.was).2 in
+    c.scan-in-Let.ensures ∙ sym (both.second _ (sym c.scan.ensures ∙ c.in_ok-body-in-Let.was))
 
 pub returns-in-Nested : goal.returns-in-Nested
-returns-in-Nested t c = c.scan-in-Nested.ensures ∙ sym (scan-by c.args.bytes.now c.args.k c.args.n c.args.levels c.asked.ensures (sym c.in-Nested.is ∙ c.admit.ensures)).2
+returns-in-Nested t c = c.scan-in-Nested.ensures ∙ sym (scan-by c.args.bytes.now c.args.k c.args.n c.args.levels c.asked.ensures (c.in_ok-asks.was ∙ ap Ok c.in-Nested.is) c.admit.ensures c.in_ok-admit.was).2

@@ -1,13 +1,15 @@
 -- The formula's end is the bytes', or what follows is refused.
-use mathlib.Core.Path.{sym, ◌∙◌}
-use Rattle.formula.proofs.Fronts.{read-alone, all_read, left_over}
+use Rattle.std.proofs.lemmas.Result.{err_from_is_err_and}
+use Rattle.formula.proofs.Fronts.{unread, left_over, all_read}
 use Rattle.formula.proofs.read.read_formula.Goals as goal
 
-pub returns-in-Refused : goal.returns-in-Refused
-returns-in-Refused c = read-alone c.args.bytes.now (sym c.in-Refused.is ∙ c.front.ensures)
+pub returns-in_err-found : goal.returns-in_err-found
+returns-in_err-found c = let p = err_from_is_err_and c.from_residual.result c.from_residual.ensures.1 in
+    rw (p.1, p.2) (unread c.args.bytes.now c.front.ensures c.in_err-found.was)
 
-pub returns-then-end-bytes : goal.returns-then-end-bytes
-returns-then-end-bytes c = all_read c.args.bytes.now _ c.if-end-bytes.true ∙ read-alone c.args.bytes.now (sym c.in-Found.is ∙ c.front.ensures)
+pub returns-in_err-ended : goal.returns-in_err-ended
+returns-in_err-ended c = let p = err_from_is_err_and c.from_residual-in_err-ended.result c.from_residual-in_err-ended.ensures.1 in
+    rw (p.1, p.2) (left_over c.args.bytes.now c.front.ensures c.in_ok-found.was c.ended.ensures c.in_err-ended.was)
 
-pub returns-else-end-bytes : goal.returns-else-end-bytes
-returns-else-end-bytes c = left_over c.args.bytes.now _ c.if-end-bytes.false ∙ read-alone c.args.bytes.now (sym c.in-Found.is ∙ c.front.ensures)
+pub returns : goal.returns
+returns c = all_read c.args.bytes.now c.front.ensures c.in_ok-found.was c.ended.ensures c.in_ok-ended.was

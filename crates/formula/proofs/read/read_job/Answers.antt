@@ -1,16 +1,19 @@
 -- The texts follow the formula, and their end is the bytes', or what follows is refused.
-use mathlib.Core.Path.{sym, ◌∙◌}
-use Rattle.formula.proofs.Fronts.{read-supplied, read-texted, all-texts, more_bytes}
+use Rattle.std.proofs.lemmas.Result.{err_from_is_err_and}
+use Rattle.formula.proofs.Fronts.{no-formula, no-texts, more_bytes, all-texts}
 use Rattle.formula.proofs.read.read_job.Goals as goal
 
-pub returns-in-Refused : goal.returns-in-Refused
-returns-in-Refused c = read-supplied c.args.bytes.now (sym c.in-Refused.is ∙ c.front.ensures)
+pub returns-in_err-formula : goal.returns-in_err-formula
+returns-in_err-formula c = let p = err_from_is_err_and c.from_residual.result c.from_residual.ensures.1 in
+    rw (p.1, p.2) (no-formula c.args.bytes.now c.front.ensures c.in_err-formula.was)
 
-pub returns-in-Refused-texts_from : goal.returns-in-Refused-texts_from
-returns-in-Refused-texts_from c = read-texted c.args.bytes.now _ (sym c.in-Found.is ∙ c.front.ensures) (sym c.in-Refused-texts_from.is ∙ c.texts_from.ensures)
+pub returns-in_err-end : goal.returns-in_err-end
+returns-in_err-end c = let p = err_from_is_err_and c.from_residual-in_err-end.result c.from_residual-in_err-end.ensures.1 in
+    rw (p.1, p.2) (no-texts c.args.bytes.now c.front.ensures c.in_ok-formula.was c.texts_from.ensures c.in_err-end.was)
 
-pub returns-then-end-bytes : goal.returns-then-end-bytes
-returns-then-end-bytes c = all-texts c.args.bytes.now _ _ c.if-end-bytes.true ∙ read-texted c.args.bytes.now _ (sym c.in-Found.is ∙ c.front.ensures) (sym c.in-Found-texts_from.is ∙ c.texts_from.ensures)
+pub returns-in_err-ended : goal.returns-in_err-ended
+returns-in_err-ended c = let p = err_from_is_err_and c.from_residual-in_err-ended.result c.from_residual-in_err-ended.ensures.1 in
+    rw (p.1, p.2) (more_bytes c.args.bytes.now c.front.ensures c.in_ok-formula.was c.texts_from.ensures c.in_ok-end.was c.ended.ensures c.in_err-ended.was)
 
-pub returns-else-end-bytes : goal.returns-else-end-bytes
-returns-else-end-bytes c = more_bytes c.args.bytes.now _ _ c.if-end-bytes.false ∙ read-texted c.args.bytes.now _ (sym c.in-Found.is ∙ c.front.ensures) (sym c.in-Found-texts_from.is ∙ c.texts_from.ensures)
+pub returns : goal.returns
+returns c = all-texts c.args.bytes.now c.front.ensures c.in_ok-formula.was c.texts_from.ensures c.in_ok-end.was c.ended.ensures c.in_ok-ended.was

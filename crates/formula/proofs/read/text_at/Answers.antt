@@ -1,58 +1,22 @@
--- The tests stand in the definition's order; the length's two bytes make at most 65,535.
-use Prim.Native.Nat.{◌+◌, ◌*◌}
-use mathlib.Core.Path.{sym, ◌∙◌}
-use native.Mathlib.Omega.{arith}
-use lib.ListN.{length}
-use borrow.Author.Tests.{leb-true, eq-eqb, ne_eqb}
-use Rattle.snesl.specs.Records.{byte_at, mark_at, mark_va}
-use Rattle.formula.specs.Reading.{text_at}
+-- The tests stand in the definition's order.
+use Rattle.std.proofs.Common.{◌+◌, ◌∙◌, ap, sym}
+use Rattle.std.specs.Bool.{then_some}
+use Rattle.formula.proofs.Texts.{text-none, text-cut, text-by}
 use Rattle.formula.proofs.read.text_at.Goals as goal
+use Rattle.formula.proofs.read.text_at.Goals.{then-not-is_text-via-then-not-is_text, then-not-is_text-via-else-not-is_text+then-not-has_bytes}
+use Rattle.snesl.specs.Records.{mark_va}
+use lib.Dec.{eqb}
 
-pub overflow_add-size : goal.overflow_add-size
-overflow_add-size c = omega (arith, leb-true (c.args.k + 4) (length c.args.bytes.now) (sym c.has_bytes.ensures ∙ c.if-has_bytes.true))
+pub returns-then-not-is_text : goal.returns-then-not-is_text
+returns-then-not-is_text c = let mark = ap (λ m. eqb m mark_va) (sym c.mark_at.ensures) ∙ sym c.is_text.ensures in
+    elim c.then-not-is_text.branch [
+      | then-not-is_text-via-then-not-is_text w ↦ text-none c.args.bytes.now c.args.k (mark ∙ w.if-not-is_text.true)
+      | then-not-is_text-via-else-not-is_text+then-not-has_bytes w ↦
+          text-cut c.args.bytes.now c.args.k (mark ∙ w.if-not-is_text.false) (sym w.has_bytes.ensures ∙ w.if-not-has_bytes.true)
+    ]
 
-pub bounds-bytes-k : goal.bounds-bytes-k
-bounds-bytes-k c = omega (arith, leb-true (c.args.k + 4) (length c.args.bytes.now) (sym c.has_bytes.ensures ∙ c.if-has_bytes.true))
-
-pub overflow_cast-size : goal.overflow_cast-size
-overflow_cast-size c = omega (arith, c.type_inv.bytes (c.args.k + 2))
-
-pub overflow_add-size-then-has_bytes : goal.overflow_add-size-then-has_bytes
-overflow_add-size-then-has_bytes c = omega (arith, leb-true (c.args.k + 4) (length c.args.bytes.now) (sym c.has_bytes.ensures ∙ c.if-has_bytes.true))
-
-pub bounds-bytes-k-then-has_bytes : goal.bounds-bytes-k-then-has_bytes
-bounds-bytes-k-then-has_bytes c = omega (arith, leb-true (c.args.k + 4) (length c.args.bytes.now) (sym c.has_bytes.ensures ∙ c.if-has_bytes.true))
-
-pub overflow_cast-size-then-has_bytes : goal.overflow_cast-size-then-has_bytes
-overflow_cast-size-then-has_bytes c = omega (arith, c.type_inv.bytes (c.args.k + 3))
-
-pub overflow_mul-size : goal.overflow_mul-size
-overflow_mul-size c = omega (arith, c.type_inv.bytes (c.args.k + 3))
-
-pub overflow_add-size-then-has_bytes-2 : goal.overflow_add-size-then-has_bytes-2
-overflow_add-size-then-has_bytes-2 c = omega (arith, c.type_inv.bytes (c.args.k + 2), c.type_inv.bytes (c.args.k + 3))
-
-pub overflow_add-k : goal.overflow_add-k
-overflow_add-k c = omega (arith, leb-true (c.args.k + 4) (length c.args.bytes.now) (sym c.has_bytes.ensures ∙ c.if-has_bytes.true))
-
-pub overflow_add-result : goal.overflow_add-result
-overflow_add-result c = omega (arith, leb-true (c.args.k + 4) (length c.args.bytes.now) (sym c.has_bytes.ensures ∙ c.if-has_bytes.true))
-
-pub overflow_add-result-then-has_bytes-2 : goal.overflow_add-result-then-has_bytes-2
-overflow_add-result-then-has_bytes-2 c = omega (arith, leb-true (c.args.k + 4 + (byte_at c.args.bytes.now (c.args.k + 2) + byte_at c.args.bytes.now (c.args.k + 3) * 256)) (length c.args.bytes.now) (sym c.has_bytes-then-has_bytes.ensures ∙ c.if-has_bytes-2.true))
-
-pub returns-then-has_bytes-2 : goal.returns-then-has_bytes-2
-unfolding text_at
-returns-then-has_bytes-2 c = rw (eq-eqb (mark_at c.args.bytes.now c.args.k) mark_va (sym c.mark_at.ensures ∙ c.if-mark_at-eq-VA.true), sym c.has_bytes.ensures ∙ c.if-has_bytes.true, sym c.has_bytes-then-has_bytes.ensures ∙ c.if-has_bytes-2.true, text_at)
-
-pub returns-else-has_bytes-2 : goal.returns-else-has_bytes-2
-unfolding text_at
-returns-else-has_bytes-2 c = rw (eq-eqb (mark_at c.args.bytes.now c.args.k) mark_va (sym c.mark_at.ensures ∙ c.if-mark_at-eq-VA.true), sym c.has_bytes.ensures ∙ c.if-has_bytes.true, sym c.has_bytes-then-has_bytes.ensures ∙ c.if-has_bytes-2.false, text_at)
-
-pub returns-else-has_bytes : goal.returns-else-has_bytes
-unfolding text_at
-returns-else-has_bytes c = rw (eq-eqb (mark_at c.args.bytes.now c.args.k) mark_va (sym c.mark_at.ensures ∙ c.if-mark_at-eq-VA.true), sym c.has_bytes.ensures ∙ c.if-has_bytes.false, text_at)
-
-pub returns-else-mark_at-eq-VA : goal.returns-else-mark_at-eq-VA
-unfolding text_at
-returns-else-mark_at-eq-VA c = rw (ne_eqb (mark_at c.args.bytes.now c.args.k) mark_va (λ q. c.if-mark_at-eq-VA.false (c.mark_at.ensures ∙ q)), text_at)
+pub returns : goal.returns
+returns c = let mark = ap (λ m. eqb m mark_va) (sym c.mark_at.ensures) ∙ sym c.is_text.ensures in
+    c.then_some.ensures
+    ∙ (ap (λ b. then_some b (c.args.k + 4 + c.size_at-size.result)) c.has_bytes-2.ensures
+    ∙ text-by c.args.bytes.now c.args.k (mark ∙ c.if-not-is_text.false) (sym c.has_bytes.ensures ∙ c.if-not-has_bytes.false) c.size_at-size.ensures)
