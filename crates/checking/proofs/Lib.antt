@@ -1,9 +1,6 @@
-pub mod Turning
-pub mod Sizes
 pub mod Closing
 pub mod Walking
 pub mod Walks
-pub mod Telling
 pub mod Judging
 pub mod Entering
 pub mod Checks

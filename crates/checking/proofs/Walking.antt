@@ -11,14 +11,17 @@ use Rattle.snesl.specs.declared.refusal.Refusal.TheVariants.{NoRecord, OverLimit
 use Rattle.snesl.specs.Limits.{most_listed, most_records}
 use Rattle.snesl.specs.Records as records
 use Rattle.snesl.specs.Records.{Raw, bind, each, guard, Scanned, refused, scanned, absent, over, single, letting, eaching, guarding, head_at, variable_at, variables_at, scan, then_scan, too_deep, counted}
-use Rattle.checking.specs.declared.check.Single.{Single}
-use Rattle.checking.specs.declared.check.Single.TheVariants.{Word, Refused}
+use Rattle.std.proofs.Common.{Result, Ok, Err}
+use Rattle.snesl.specs.declared.refusal.Refusal.{Refusal}
+use Rattle.snesl.specs.Values.{int, bool}
+use Rattle.scopes.specs.declared.types.ValueType.{ValueType}
+use Rattle.scopes.specs.declared.scope.Binding.{Binding}
+use Rattle.scopes.specs.Types.{told}
 use Rattle.checking.specs.declared.check.Turn.{Turn}
 use Rattle.checking.specs.declared.check.Turn.TheVariants as turn
-use Rattle.records.specs.declared.head.Shape.{Shape}
 use Rattle.records.specs.Heads.{head_of}
-use Rattle.scopes.specs.Scopes.{word_in}
-use Rattle.checking.specs.Checks.{refuses, var_in, want_in, both_in, result_word, sized, judge, leaf_in, turn_in}
+use Rattle.scopes.specs.Scopes.{type_in}
+use Rattle.checking.specs.Checks.{var_in, want_in, both_in, result_type, ints, sized, judge, leaf_in, turn_in}
 use Rattle.records.proofs.Variables.{length-variables}
 use Rattle.records.proofs.Heads.{Reading, none, beyond, a_var, a_let, a_const, a_truth, an_iota, an_operation, a_negation, a_sum, an_each, a_guard, reading}
 
@@ -80,18 +83,18 @@ less l = omega arith
 two : (l : ℕ) → 0 < l → 2 ≤ suc l
 two l h = omega arith
 
-module _ (t : List ℕ) (k : ℕ) (w : List ℕ) (count : ℕ) (e : Raw) (next after : ℕ) where
+module _ (t : List ℕ) (k : ℕ) (w : List Binding) (count : ℕ) (e : Raw) (next after : ℕ) where
   -- what is known where the record at k asks this
-  abbrev pub Turned : (levels : ℕ) → Turn → Type 0
-  Turned levels (turn.Refused r) = judge w e ≡ refuses r
-  Turned levels (turn.Found m d) = (judge w e ≡ sized (Word d)) × (m ≡ next)
-  Turned levels (turn.Let x) = Lets t k levels count e next after x
-  Turned levels (turn.Each x y j) = Eaches t k levels count e next after x y j
-  Turned levels (turn.Guard g j) = Guards t k levels count e next after g j
+  abbrev pub Turned : (levels : ℕ) → Result Turn Refusal → Type 0
+  Turned levels (Err r) = judge w e ≡ Err r
+  Turned levels (Ok (turn.Found m d)) = (judge w e ≡ sized (Ok d)) × (m ≡ next)
+  Turned levels (Ok (turn.Let x)) = Lets t k levels count e next after x
+  Turned levels (Ok (turn.Each x y j)) = Eaches t k levels count e next after x y j
+  Turned levels (Ok (turn.Guard g j)) = Guards t k levels count e next after g j
 
-  leaf-turned : (levels m : ℕ) (c : Single) → judge w e ≡ sized c → m ≡ next → Turned levels (leaf_in m c)
-  leaf-turned levels m (Refused r) p q = p
-  leaf-turned levels m (Word d) p q = (p, q)
+  leaf-turned : (levels m : ℕ) (c : Result ValueType Refusal) → judge w e ≡ sized c → m ≡ next → Turned levels (leaf_in m c)
+  leaf-turned levels m (Err r) p q = p
+  leaf-turned levels m (Ok d) p q = (p, q)
 
   leaf-read : (f : Raw) (b : ℕ) → counted k count (scanned f (k + b) (count + 1)) ≡ scanned e next after → (e ≡ f) × (k + b ≡ next)
   leaf-read f b q = let r = counted-in k count (scanned f (k + b) (count + 1)) q in (cc, cc)
@@ -155,7 +158,7 @@ module _ (t : List ℕ) (k : ℕ) (w : List ℕ) (count : ℕ) (e : Raw) (next a
         }
 
     turned_by :
-        {m : ℕ} {s : Shape} {h : records.Head} → Reading t k m s h
+        {m : ℕ} {s : Result Unit Refusal} {h : records.Head} → Reading t k m s h
         → elim h [
           | absent ↦ refused (NoRecord k)
           | over ↦ refused (OverLimit k)
@@ -170,46 +173,46 @@ module _ (t : List ℕ) (k : ℕ) (w : List ℕ) (count : ℕ) (e : Raw) (next a
               counted k count (then_scan (scan l t (k + b) (count + 1)) (λ e₁ k₁ n₁. scanned (guard k g us e₁) k₁ n₁))
         ]
         ≡ scanned e next after
-        → Turned (suc l) (turn_in w k (head_of h))
+        → Turned (suc l) (turn_in w k (head_of k h))
     unfolding judge
     turned_by none q = let z : ◌≡◌ {A = ℕ} 0 1 = cc in absurd (omega arith)
     turned_by beyond q = let z : ◌≡◌ {A = ℕ} 0 1 = cc in absurd (omega arith)
     turned_by (a_var _ h) q =
         let r = leaf-read _ 3 q in
-        leaf-turned (suc l) (k + 3) (var_in k (word_in (variable_at t (k + 2)).0 w)) (ap (judge w) r.0) r.1
+        leaf-turned (suc l) (k + 3) (var_in k (type_in (variable_at t (k + 2)) w)) (ap (judge w) r.0) r.1
     turned_by (a_let _ h) q = let-read _ h (scan l t (k + 3) (count + 1)) refl (counted-in k count _ q)
     turned_by (a_const _ h) q =
         let r = leaf-read _ 6 q in
         (ap (judge w) r.0, r.1)
     turned_by (an_iota _ h) q =
         let r = leaf-read _ 3 q in
-        leaf-turned (suc l) (k + 3) (want_in k 0 2 (word_in (variable_at t (k + 2)).0 w)) (ap (judge w) r.0) r.1
+        leaf-turned (suc l) (k + 3) (want_in k (told int) ints (type_in (variable_at t (k + 2)) w)) (ap (judge w) r.0) r.1
     turned_by (an_operation o _ h) q =
         let r = leaf-read _ 4 q in
-        leaf-turned (suc l) (k + 4) (both_in k (result_word o) (word_in (variable_at t (k + 2)).0 w) (word_in (variable_at t (k + 3)).0 w))
+        leaf-turned (suc l) (k + 4) (both_in k (result_type o) (type_in (variable_at t (k + 2)) w) (type_in (variable_at t (k + 3)) w))
         (ap (judge w) r.0) r.1
     turned_by (a_negation _ h) q =
         let r = leaf-read _ 3 q in
-        leaf-turned (suc l) (k + 3) (want_in k 1 1 (word_in (variable_at t (k + 2)).0 w)) (ap (judge w) r.0) r.1
+        leaf-turned (suc l) (k + 3) (want_in k (told bool) (told bool) (type_in (variable_at t (k + 2)) w)) (ap (judge w) r.0) r.1
     turned_by (a_truth _ c _ h) q =
         let r = leaf-read _ 3 q in
         (ap (judge w) r.0, r.1)
     turned_by (a_sum _ h) q =
         let r = leaf-read _ 3 q in
-        leaf-turned (suc l) (k + 3) (want_in k 2 0 (word_in (variable_at t (k + 2)).0 w)) (ap (judge w) r.0) r.1
+        leaf-turned (suc l) (k + 3) (want_in k ints (told int) (type_in (variable_at t (k + 2)) w)) (ap (judge w) r.0) r.1
     turned_by (an_each _ j _ h f) q =
-        subst (λ n. Turned (suc l) (turn.Each (variable_at t (k + 2)) (variable_at t (k + 3)) n)) (sym (length-variables t (k + 5) j))
+        subst (λ n. Turned (suc l) (Ok (turn.Each (variable_at t (k + 2)) (variable_at t (k + 3)) n))) (sym (length-variables t (k + 5) j))
         (each_read _ _ j h f (scan l t (k + (5 + j)) (count + 1)) refl (counted-in k count _ q))
     turned_by (a_guard _ j _ h f) q =
-        subst (λ n. Turned (suc l) (turn.Guard (variable_at t (k + 2)) n)) (sym (length-variables t (k + 4) j))
+        subst (λ n. Turned (suc l) (Ok (turn.Guard (variable_at t (k + 2)) n))) (sym (length-variables t (k + 4) j))
         (guard-read _ j h f (scan l t (k + (4 + j)) (count + 1)) refl (counted-in k count _ q))
 
-  turned : (levels : ℕ) → scan levels t k count ≡ scanned e next after → Turned levels (turn_in w k (head_of (head_at t k)))
+  turned : (levels : ℕ) → scan levels t k count ≡ scanned e next after → Turned levels (turn_in w k (head_of k (head_at t k)))
   unfolding scan
   turned zero q = absurd (never-deep k (head_at t k) q)
   turned (suc l) q = turned_by l (reading t k) q
 
   -- the same of an answer that is equal to this
   pub turned-is :
-      (levels : ℕ) → scan levels t k count ≡ scanned e next after → {r : Turn} → r ≡ turn_in w k (head_of (head_at t k)) → Turned levels r
+      (levels : ℕ) → scan levels t k count ≡ scanned e next after → {r : Result Turn Refusal} → r ≡ turn_in w k (head_of k (head_at t k)) → Turned levels r
   turned-is levels q p = subst (Turned levels) (sym p) (turned levels q)

@@ -1,3 +1,1 @@
-pub mod TypeWords
-pub mod Scopes
 pub mod Listing

@@ -1,3 +1,3 @@
-pub mod TypeWords
+pub mod Types
 pub mod Scopes
 pub mod UsingLists

@@ -1,20 +1,20 @@
--- The scope of a check as the code holds it: a list of pairs, name and type (as TypeWords.antt has it), newest first.
-use Rattle.std.specs.Prelude.{ℕ, ◌+◌, ◌-◌, true, false, List, [], ◌∷◌, ◌≡◌, eqb, take, drop}
-use Rattle.scopes.specs.declared.scope.Kind.{Kind}
-use Rattle.scopes.specs.declared.scope.Kind.TheVariants.{Missing, Word}
+-- The scope of a check as the code holds it: the variables with their types, newest first.
+use Rattle.std.specs.Prelude.{ℕ, ◌+◌, ◌-◌, List, ◌∷◌, Option, option_map, find, ◌≡◌, take, drop}
+use Rattle.snesl.specs.declared.code.Variable.{Variable}
+use Rattle.snesl.specs.Checking.{same}
+use Rattle.scopes.specs.declared.types.ValueType.{ValueType}
+use Rattle.scopes.specs.declared.scope.Binding.{Binding}
 
--- the pairs from sp to the floor
-abbrev pub scope : (sp floor : ℕ) → List ℕ → List ℕ
+-- the variables from sp to the floor
+abbrev pub scope : (sp floor : ℕ) → List Binding → List Binding
 scope sp floor env = take (floor - sp) (drop sp env)
 
 -- the type of the newest variable of a name
-unfoldable pub word_in : ℕ → List ℕ → Kind
-word_in x [] = Missing
-word_in x (y ∷ []) = Missing
-word_in x (y ∷ d ∷ w) = elim (eqb x y) [ true ↦ Word d | false ↦ word_in x w ]
+unfoldable pub type_in : Variable → List Binding → Option ValueType
+type_in x w = option_map (λ b. b.value_type) (find (λ b. same x b.name) w)
 
--- one pair more below sp, and all else as it was
-pub record Pushed (old : List ℕ) (sp x d : ℕ) (new : List ℕ) (r : ℕ) : Type 0 where
-  pub at : r + 2 ≡ sp
+-- one variable more below sp, and all else as it was
+pub record Pushed (old : List Binding) (sp : ℕ) (b : Binding) (new : List Binding) (r : ℕ) : Type 0 where
+  pub at : r + 1 ≡ sp
   pub below : take r new ≡ take r old
-  pub words : drop r new ≡ x ∷ d ∷ drop sp old
+  pub bindings : drop r new ≡ b ∷ drop sp old

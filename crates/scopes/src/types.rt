@@ -1,26 +1,26 @@
-// A type as one byte, as the scope of a check holds it: int is 0, bool is 1, and each pair of braces adds 2. So half of it is the depth.
-ghost use Rattle.std.specs.Prelude.{◌≡◌, ◌≤◌};
-ghost use Rattle.snesl.specs.Limits.{most_depth};
-ghost use Rattle.snesl.specs.Values.{type_of};
-ghost use Rattle.scopes.specs.TypeWords.{word_of};
-
+// The type of a variable, as the scope of a check holds it.
 use snesl::code::Base;
 
-pub const INT: u8 = 0;
+// So many braces round a base.
+#[derive(Clone, Copy, Debug, PartialEq, Eq)]
+pub struct ValueType {
+    pub base: Base,
+    pub depth: u8,
+}
 
-pub const BOOL: u8 = 1;
+impl ValueType {
+    pub const INT: ValueType = ValueType {
+        base: Base::Int,
+        depth: 0,
+    };
 
-pub const BRACES: u8 = 2;
+    pub const BOOL: ValueType = ValueType {
+        base: Base::Bool,
+        depth: 0,
+    };
 
-pub const INTS: u8 = 2;
-
-// So many braces round a base, as one byte.
-pub fn word_of(base: Base, depth: u8) -> u8
-    requires { depth ≤ most_depth }
-    ensures { result ≡ word_of (type_of base depth) }
-{
-    match base {
-        Base::Int => INT + depth * BRACES,
-        Base::Bool => BOOL + depth * BRACES,
-    }
+    pub const INTS: ValueType = ValueType {
+        base: Base::Int,
+        depth: 1,
+    };
 }

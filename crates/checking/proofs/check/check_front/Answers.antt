@@ -1,49 +1,25 @@
 -- The inputs are entered, and then the expression is walked in their scope.
-use mathlib.Core.Path.{refl, sym}
-use native.Mathlib.Omega.{arith}
-use Rattle.checking.proofs.Checks.{declared-here, few-inputs, enters-at, entry-refused, walk-asked, walk_refused, walk-found}
+use Rattle.std.proofs.Common.{refl, sym, ◌∙◌, arith}
+use Rattle.scopes.proofs.Listing.{handed}
+use Rattle.checking.proofs.Checks.{declared-here, few-inputs, entry-refused, walk-asked, walk_refused, walk-found}
 use Rattle.checking.proofs.check.check_front.Goals as goal
 
-pub slice_bounds-enter-end : goal.slice_bounds-enter-end
-slice_bounds-enter-end c = refl
+pub enter-requires-clause-here : goal.enter-requires-clause-here
+enter-requires-clause-here c = declared-here c.args.bytes.now c.args.formula c.requires
 
-pub enter-requires : goal.enter-requires
-enter-requires c = record { fact_1 = declared-here c.args.bytes.now c.args.formula c.requires; fact_2 = omega (arith, few-inputs c.args.bytes.now c.args.formula c.requires) }
+pub enter-requires-clause-room : goal.enter-requires-clause-room
+enter-requires-clause-room c = omega (arith, few-inputs c.args.bytes.now c.args.formula c.requires)
 
-pub slice_bounds-walk-end : goal.slice_bounds-walk-end
-slice_bounds-walk-end c = sym c.enter.auto.env
+pub returns-in_err-sp : goal.returns-in_err-sp
+returns-in_err-sp c = sym (handed _ c.from_residual.ensures.1) ∙ entry-refused c.args.bytes.now c.args.formula c.requires c.enter.new.env _ c.in_err-sp.ensures
 
 pub walk-requires : goal.walk-requires
-walk-requires c = walk-asked c.args.bytes.now c.args.formula c.requires
-    (enters-at _ _ _ c.in-Scope.is c.enter.ensures)
-    c.enter.auto.env
+walk-requires c = walk-asked c.args.bytes.now c.args.formula c.requires c.in_ok-sp.ensures c.enter.auto.env
 
-pub returns-in-Refused : goal.returns-in-Refused
-returns-in-Refused c = entry-refused c.args.bytes.now c.args.formula c.requires
-    c.enter.new.env
-    _
-    (enters-at _ _ _ c.in-Refused.is c.enter.ensures)
+pub returns-in_err-walked : goal.returns-in_err-walked
+returns-in_err-walked c =
+    sym (handed _ c.from_residual-in_err-walked.ensures.1)
+    ∙ walk_refused c.args.bytes.now c.args.formula c.requires c.in_ok-sp.ensures c.enter.auto.env c.in_err-walked.ensures _ refl
 
-pub returns-in-Refused-walk : goal.returns-in-Refused-walk
-returns-in-Refused-walk c = walk_refused
-    c.args.bytes.now c.args.formula c.requires
-    (enters-at _ _ _ c.in-Scope.is c.enter.ensures)
-    c.enter.auto.env
-    c.walk.ensures
-    _
-    c.in-Refused-walk.is
-
-pub returns-in-Found : goal.returns-in-Found
-returns-in-Found c = let args = c.args in
-    walk-found
-    args.bytes.now
-    args.formula
-    c.requires
-    (enters-at _ _ _ c.in-Scope.is c.enter.ensures)
-    c.enter.auto.env
-    c.walk.ensures
-    _
-    _
-    _
-    c.in-Found.is
-    c.type_of.ensures
+pub returns : goal.returns
+returns c = walk-found c.args.bytes.now c.args.formula c.requires c.in_ok-sp.ensures c.enter.auto.env c.in_ok-walked.ensures _ refl

@@ -1,10 +1,11 @@
--- Each turn counts the binding of one pair.
-use Prim.Native.Nat.{◌-◌}
-use Rattle.checking.proofs.Sizes.{Sizing}
+-- The bindings so far are counted, each by no more than one of the largest byte.
+use Rattle.std.proofs.Common.{◌≡◌, ◌*◌, ◌≤◌, take}
+use Rattle.environment.specs.Needs.{binding_size}
+use Rattle.checking.specs.Checks.{bindings_size}
 use Rattle.checking.proofs.check.listed_size.Given as goal
 
-abbrev pub invariant-loop-i : goal.invariant-loop-i
-invariant-loop-i l = Sizing l.env l.sp l.floor l.size l.i
-
-abbrev pub decreases-loop-i : goal.decreases-loop-i
-decreases-loop-i l = l.floor - l.i
+abbrev pub invariant-loop-binding : goal.invariant-loop-binding
+invariant-loop-binding l = record {
+  counted : l.size ≡ bindings_size (take l.binding-index l.scope);
+  few : l.size ≤ l.binding-index * binding_size 255;
+}

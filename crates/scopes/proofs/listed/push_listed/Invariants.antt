@@ -2,8 +2,5 @@
 use Rattle.scopes.proofs.Listing.{Pushing}
 use Rattle.scopes.proofs.listed.push_listed.Given as goal
 
-abbrev pub invariant-loop-left : goal.invariant-loop-left
-invariant-loop-left l = Pushing l.bytes l.at l.count l.sp l.floor l.initial.env l.env l.left l.top
-
-abbrev pub decreases-loop-left : goal.decreases-loop-left
-decreases-loop-left l = l.left
+abbrev pub invariant-loop-i : goal.invariant-loop-i
+invariant-loop-i l = Pushing l.listed l.sp l.floor l.initial.env l.env l.i l.top
