@@ -2,7 +2,7 @@
 use Prim.Native.Nat.{ℕ, zero, suc, ◌+◌, ◌*◌, ◌-◌, ◌≤◌, ◌<◌}
 use mathlib.Core.List.{List, [], ◌∷◌, ◌++◌}
 use mathlib.Core.Option.{some}
-use mathlib.Core.Path.{◌≡◌, refl, sym, ◌∙◌, ap, ap₂, subst}
+use mathlib.Core.Path.{◌≡◌, refl, sym, ◌∙◌, ap, ap₂, subst, transport}
 use native.Mathlib.Numerals.{add-one, sub-one}
 use native.Mathlib.Omega.{arith}
 use lib.IntN.{ℤ}
@@ -27,12 +27,12 @@ use Rattle.snesl.specs.Checking.{Name, find, found, as_scalar, NamedScalars, lis
 use Rattle.snesl.specs.Translation.{id, numbered, distrs}
 use Rattle.environment.specs.Words.{place_words, tree_words, spelled, Entry}
 use Rattle.environment.proofs.Stack.{drop-written, length-written, written_then_lem}
+use Rattle.sink.specs.declared.state.Walk.{Walk}
 use Rattle.sink.specs.Sinks.{defined, feed}
 use Rattle.sink.specs.Sunk.{Sunk}
 use Rattle.steps.specs.Walking.{stepped, walked}
 use Rattle.steps.specs.Holding.{Held, keeps, place, PlacedAt, Stopping}
-use Rattle.steps.specs.declared.Executed.{Executed}
-use Rattle.steps.specs.declared.Executed.TheVariants.{Made, Stopped}
+use Rattle.std.specs.Prelude.{Ok, Err, Result as Returned}
 use Rattle.steps.proofs.Stores.{nothing_written, kept, newest}
 use Rattle.steps.proofs.Stepping.{carried-kind}
 use Rattle.steps.proofs.Walking.{walked-done, walked-define, walked-grown}
@@ -41,8 +41,6 @@ use Rattle.leaves.specs.Places.{places, shapely-leaf, Shaped, shaped-none, shape
 use Rattle.leaves.specs.Scenes.{Scene}
 use Rattle.leaves.specs.Making.{Makes, Instructed}
 use Rattle.bodies.specs.Bodies.{Spreading, spread_by, Spread, Distributing, Bound, Distributed, listed_answer}
-use Rattle.bodies.specs.declared.Listed.{Listed}
-use Rattle.bodies.specs.declared.Listed.TheVariants as listed
 use Rattle.bodies.proofs.Lists.{found-scalar, listed-first, length-listed}
 use Rattle.records.proofs.Variables.{length-variables}
 use Rattle.leaves.proofs.Places.{data-full, place_kept}
@@ -57,7 +55,7 @@ use Rattle.bodies.proofs.Scenes.{later}
 
 -- ---- one variable
 
-module _ {u : Variable} {to sp : ℕ} {env : List ℕ} {buf : List ℤ} {state text : List ℕ} (g : Spreading u to sp env buf state text) {p : ℕ}
+module _ {u : Variable} {to sp : ℕ} {env : List ℕ} {buf : List ℤ} {state : Walk} {text : List ℕ} (g : Spreading u to sp env buf state text) {p : ℕ}
     (e : Entry env sp p (lookup g.pointer (places g.scene.machine.store g.scene.trees))) where
   made-is : Distr (id (get_or env (sp - 3) 0)) (id (get_or env (p + 2) 0)) ≡ spread_by g
   made-is = ap₂ (λ a b. Distr (id a) (id b)) (named-there g.placed) (named-there (scalar-placed g.scene g.pointer e))
@@ -70,12 +68,12 @@ module _ {u : Variable} {to sp : ℕ} {env : List ℕ} {buf : List ℤ} {state t
         sunk = g.scene.sunk;
       })
 
-  module _ (n : ℕ) {buf₁ : List ℤ} {state₁ text₁ : List ℕ} {r : Executed}
+  module _ (n : ℕ) {buf₁ : List ℤ} {state₁ : Walk} {text₁ : List ℕ} {r : Returned ℕ Refusal}
       (w : Instructed (stepped (length buf) n (Distr (id (get_or env (sp - 3) 0)) (id (get_or env (p + 2) 0))) g.scene.machine) (Distr (id (get_or env (sp - 3) 0)) (id (get_or env (p + 2) 0))) g.scene.machine g.scene.sink buf buf₁ state₁ text₁ r) where
     own : Instructed (stepped (length buf) n (spread_by g) g.scene.machine) (spread_by g) g.scene.machine g.scene.sink buf buf₁ state₁ text₁ r
     own = subst (λ t. Instructed (stepped (length buf) n t g.scene.machine) t g.scene.machine g.scene.sink buf buf₁ state₁ text₁ r) made-is w
 
-    pub spread-stopped : {env' : List ℕ} {q : Refusal} → r ≡ Stopped q → Spread g n env' buf₁ state₁ text₁ (Stopped q)
+    pub spread-stopped : {env' : List ℕ} {q : Refusal} → r ≡ Err q → Spread g n env' buf₁ state₁ text₁ (Err q)
     spread-stopped {q = q} f =
         let s = stopping (length buf) n (spread_by g) own q f in
         record {
@@ -83,7 +81,7 @@ module _ {u : Variable} {to sp : ℕ} {env : List ℕ} {buf : List ℤ} {state t
           gave-up = λ why i h. sym f ∙ own.gave-up why i h;
         }
 
-    module _ {made : ℕ} (f : r ≡ Made made) where
+    module _ {made : ℕ} (f : r ≡ Ok made) where
       copy : Making (length buf) n (spread_by g) g.scene.machine g.scene.sink buf buf₁ state₁ text₁ made
       copy = making (length buf) n (spread_by g) own made f
 
@@ -103,11 +101,11 @@ module _ {u : Variable} {to sp : ℕ} {env : List ℕ} {buf : List ℤ} {state t
       unfolding copies
       long = items-long copy g.base copy-data
 
-      pub spread-push : (4 ≤ length state₁) × (1 ≤ get_or state₁ 0 0) × (get_or state₁ 0 0 < 4294967296) × (made ≤ get_or state₁ 1 0) × (get_or state₁ 1 0 < 4294967296)
+      pub spread-push : (1 ≤ state₁.machine.streams) × (state₁.machine.streams < 4294967296) × (made ≤ state₁.machine.room) × (state₁.machine.room < 4294967296)
       spread-push = pushable copy.held g.scene.machine.store (data_of g.base copies) stored (data-full g.base copies) long
 
       pub spread-made : {env₁ env₂ : List ℕ} → env₁ ≡ written to (u.0 ∷ 0 ∷ []) env
-          → env₂ ≡ written (to + 5 - 3) ((get_or state₁ 0 0 - 1) ∷ (get_or state₁ 1 0 - made) ∷ made ∷ []) env₁ → Spread g n env₂ buf₁ state₁ text₁ (Made made)
+          → env₂ ≡ written (to + 5 - 3) ((state₁.machine.streams - 1) ∷ (state₁.machine.room - made) ∷ made ∷ []) env₁ → Spread g n env₂ buf₁ state₁ text₁ (Ok made)
       spread-made {env₁} {env₂} w₁ w₂ =
           let copy_w : List ℕ = place_words (place copy.after.store (length g.scene.machine.store)) in
           let entry : env₂ ≡ written to (u.0 ∷ 0 ∷ copy_w) env =
@@ -122,10 +120,10 @@ module _ {u : Variable} {to sp : ℕ} {env : List ℕ} {buf : List ℤ} {state t
                 let same : copy.after ≡ m = cc in
                 subst
                 (λ q.
-                (vs : List (Element g.base)) × (q.store ≡ g.scene.machine.store ++ data_of g.base vs ∷ []) × (Made made ≡ Made (len (data_of g.base vs))) × Held q buf₁ state₁ × keeps q.store buf buf₁
-                × Sunk (defined (length g.scene.machine.store) (spread_by g) g.scene.sink) text₁ state₁
+                (vs : List (Element g.base)) × (q.store ≡ g.scene.machine.store ++ data_of g.base vs ∷ []) × ◌≡◌ {A = Returned ℕ Refusal} (Ok made) (Ok (len (data_of g.base vs))) × Held q buf₁ state₁.machine × keeps q.store buf buf₁
+                × Sunk (defined (length g.scene.machine.store) (spread_by g) g.scene.sink) text₁ state₁.sink
                 × (env₂ ≡ written to (u.0 ∷ 0 ∷ place_words (place q.store (length g.scene.machine.store))) env))
-                same (copies, stored, ap Made long, copy.held, copy.kept, copy.sunk, entry);
+                same (copies, stored, ap Ok long, copy.held, copy.kept, copy.sunk, entry);
             gave-up = λ why i h. sym f ∙ own.gave-up why i h;
           }
 
@@ -174,8 +172,8 @@ unfolding listed_scalars variables_at
 none-listed names t at zero ls e z = cc
 none-listed names t at (suc l) ls e z = absurd (omega arith)
 
-module _ {env : List ℕ} {sp : ℕ} {buf : List ℤ} {state text : List ℕ} (s : Scene env sp buf state text) (b n base : ℕ) where
-  bound-none : Distributed s b [] n base env buf state text listed.Bound
+module _ {env : List ℕ} {sp : ℕ} {buf : List ℤ} {state : Walk} {text : List ℕ} (s : Scene env sp buf state text) (b n base : ℕ) where
+  bound-none : Distributed s b [] n base env buf state text (Ok tt)
   unfolding distrs numbered listed_names places spelled feed
   bound-none =
       let e : walked (length buf) n done s.machine ≡ went s.machine = walked-done (length buf) n s.machine in
@@ -189,15 +187,15 @@ module _ {env : List ℕ} {sp : ℕ} {buf : List ℤ} {state text : List ℕ} (s
             (record { held = s.held; sunk = s.sunk; kept = refl; shaped = shaped-none; words = nothing_written base env });
       }
 
-pub all-bound : {t : List ℕ} {at left base sp : ℕ} {env : List ℕ} {buf : List ℤ} {state text : List ℕ} (n : ℕ) (g : Distributing t at left base sp env buf state text) → left ≡ 0
-    → Distributed g.scene g.flags g.list n base env buf state text listed.Bound
+pub all-bound : {t : List ℕ} {at left base sp : ℕ} {env : List ℕ} {buf : List ℤ} {state : Walk} {text : List ℕ} (n : ℕ) (g : Distributing t at left base sp env buf state text) → left ≡ 0
+    → Distributed g.scene g.flags g.list n base env buf state text (Ok tt)
 all-bound {t} {at} {left} {base} {sp} {env} {buf} {state} {text} n g z =
-    subst (λ l. Distributed g.scene g.flags l n base env buf state text listed.Bound) (none-listed g.scene.names t at left g.list g.lists z)
+    subst (λ l. Distributed g.scene g.flags l n base env buf state text (Ok tt)) (none-listed g.scene.names t at left g.list g.lists z)
     (bound-none g.scene g.flags n base)
 
 -- ---- one of them
 
-module _ {t : List ℕ} {at left base sp : ℕ} {env : List ℕ} {buf : List ℤ} {state text : List ℕ} (g : Distributing t at left base sp env buf state text) (some_left : 0 < left) where
+module _ {t : List ℕ} {at left base sp : ℕ} {env : List ℕ} {buf : List ℤ} {state : Walk} {text : List ℕ} (g : Distributing t at left base sp env buf state text) (some_left : 0 < left) where
   abbrev pub the-first : First g.scene.names t at left g.list
   the-first = first g.scene.names t at left g.list g.lists some_left
 
@@ -230,19 +228,19 @@ module _ {t : List ℕ} {at left base sp : ℕ} {env : List ℕ} {buf : List ℤ
         ap (λ l. feed (length g.scene.machine.store) (distrs g.flags (pointers l) g.scene.trees done) g.scene.sink) (sym the-first.is)
         ∙ define-fed (length g.scene.machine.store) (spread_by spreading) _ g.scene.sink
 
-    module _ {env₂ : List ℕ} {buf₁ : List ℤ} {state₁ text₁ : List ℕ} {r : Executed} (w : Spread spreading n env₂ buf₁ state₁ text₁ r) where
-      pub first-stopped : {env' : List ℕ} {q : Refusal} → r ≡ Stopped q → Distributed g.scene g.flags g.list n base env' buf₁ state₁ text₁ (listed.Stopped q)
+    module _ {env₂ : List ℕ} {buf₁ : List ℤ} {state₁ : Walk} {text₁ : List ℕ} {r : Returned ℕ Refusal} (w : Spread spreading n env₂ buf₁ state₁ text₁ r) where
+      pub first-stopped : {env' : List ℕ} {q : Refusal} → r ≡ Err q → Distributed g.scene g.flags g.list n base env' buf₁ state₁ text₁ (Err q)
       first-stopped {q = q} f =
           let s = stopping-as first_code (onward-stop _ (go (stepped (length buf) n (spread_by spreading) g.scene.machine) refl)) in
           record {
-            says = ap listed.Stopped s.refuses ∙ ap listed_answer (sym s.stops);
+            says = ap Err s.refuses ∙ ap listed_answer (sym s.stops);
             leaves = λ m h. let both : stopped s.why s.where-at ≡ went m = sym s.stops ∙ h in never (cc);
           }
         where
           go : (x : Result) → stepped (length buf) n (spread_by spreading) g.scene.machine ≡ x → Stopping (stepped (length buf) n (spread_by spreading) g.scene.machine) q
-          go (went m) h = let same : Stopped q ≡ Made (len (data_of the-first.base (w.went_on m h).0)) = sym f ∙ (w.went_on m h).2 in never (cc)
+          go (went m) h = let same : Err q ≡ Ok (len (data_of the-first.base (w.went_on m h).0)) = sym f ∙ (w.went_on m h).2 in never (cc)
           go (stopped why i) h =
-              let same : Stopped q ≡ Stopped (refusal_of why i) = sym f ∙ w.gave-up why i h in
+              let same : Err q ≡ Err (refusal_of why i) = sym f ∙ w.gave-up why i h in
               record { why = why; where-at = i; stops = h; refuses = cc }
 
       pub record Gave : Type 0 where
@@ -250,21 +248,21 @@ module _ {t : List ℕ} {at left base sp : ℕ} {env : List ℕ} {buf : List ℤ
         pub went_to : stepped (length buf) n (spread_by spreading) g.scene.machine ≡ went after
         pub copies : List (Element the-first.base)
         pub store : after.store ≡ g.scene.machine.store ++ data_of the-first.base copies ∷ []
-        pub held : Held after buf₁ state₁
+        pub held : Held after buf₁ state₁.machine
         pub behind : keeps after.store buf buf₁
-        pub sunk : Sunk (defined (length g.scene.machine.store) (spread_by spreading) g.scene.sink) text₁ state₁
+        pub sunk : Sunk (defined (length g.scene.machine.store) (spread_by spreading) g.scene.sink) text₁ state₁.sink
         pub words : env₂ ≡ written base (byte_at t at ∷ 0 ∷ place_words (place after.store (length g.scene.machine.store))) env
 
-      pub gave : {l : ℕ} → r ≡ Made l → Gave
+      pub gave : {l : ℕ} → r ≡ Ok l → Gave
       gave {l} f = go (stepped (length buf) n (spread_by spreading) g.scene.machine) refl
         where
           go : (x : Result) → stepped (length buf) n (spread_by spreading) g.scene.machine ≡ x → Gave
           go (went m) h =
               let o = w.went_on m h in
               record { after = m; went_to = h; copies = o.0; store = o.1; held = o.3; behind = o.4; sunk = o.5; words = o.6 }
-          go (stopped why i) h = let same : Made l ≡ Stopped (refusal_of why i) = sym f ∙ w.gave-up why i h in never (cc)
+          go (stopped why i) h = let same : Ok l ≡ Err (refusal_of why i) = sym f ∙ w.gave-up why i h in never (cc)
 
-      module _ {l : ℕ} (f : r ≡ Made l) where
+      module _ {l : ℕ} (f : r ≡ Ok l) where
         abbrev pub copied : Gave
         copied = gave f
 
@@ -314,7 +312,7 @@ module _ {t : List ℕ} {at left base sp : ℕ} {env : List ℕ} {buf : List ℤ
         rest-is = first_code ∙ onward-as _ copied.went_to
 
         -- the first entry and the others
-        module _ {env₃ : List ℕ} {buf₃ : List ℤ} {state₃ text₃ : List ℕ} {m : State} (τ : Store) (more : m.store ≡ copied.after.store ++ τ)
+        module _ {env₃ : List ℕ} {buf₃ : List ℤ} {state₃ : Walk} {text₃ : List ℕ} {m : State} (τ : Store) (more : m.store ≡ copied.after.store ++ τ)
             (b : Bound scene₂ g.flags the-first.others (base + 5) env₃ buf₃ state₃ text₃ m) where
           first-here : copied.after.store ! length g.scene.machine.store ≡ some (data_of the-first.base copied.copies)
           first-here = ap (λ σ. σ ! length g.scene.machine.store) copied.store ∙ newest g.scene.machine.store (data_of the-first.base copied.copies)
@@ -342,10 +340,10 @@ module _ {t : List ℕ} {at left base sp : ℕ} {env : List ℕ} {buf : List ℤ
               ∙ (ap (written (base + 5) others) entry-written
               ∙ written_then_lem env base entry others (base + 5) refl (omega (arith, others-long, g.space, g.scene.within))))
 
-          all-sunk : Sunk (feed (length g.scene.machine.store) (distrs g.flags (pointers g.list) g.scene.trees done) g.scene.sink) text₃ state₃
+          all-sunk : Sunk (feed (length g.scene.machine.store) (distrs g.flags (pointers g.list) g.scene.trees done) g.scene.sink) text₃ state₃.sink
           all-sunk =
               let one : suc (length g.scene.machine.store) ≡ length g.scene.machine.store + 1 = omega arith in
-              subst (λ k. Sunk k text₃ state₃)
+              subst (λ k. Sunk k text₃ state₃.sink)
               (ap (λ i. feed i (distrs g.flags (pointers the-first.others) g.scene.trees done) (defined (length g.scene.machine.store) (spread_by spreading) g.scene.sink)) (next-is ∙ one)
               ∙ sym first-fed)
               b.sunk
@@ -356,7 +354,7 @@ module _ {t : List ℕ} {at left base sp : ℕ} {env : List ℕ} {buf : List ℤ
               record {
                 held = b.held;
                 sunk =
-                    subst (λ i. Sunk (feed (length g.scene.machine.store) (distrs g.flags (pointers i) g.scene.trees done) g.scene.sink) text₃ state₃) (sym the-first.is) all-sunk;
+                    subst (λ i. Sunk (feed (length g.scene.machine.store) (distrs g.flags (pointers i) g.scene.trees done) g.scene.sink) text₃ state₃.sink) (sym the-first.is) all-sunk;
                 kept = keeps_then copied.after.store τ m.store buf buf₁ buf₃ copied.behind b.kept more;
                 shaped =
                     shaped-more
@@ -366,7 +364,7 @@ module _ {t : List ℕ} {at left base sp : ℕ} {env : List ℕ} {buf : List ℤ
                 words = words_are ∙ ap (λ q. written base (byte_at t at ∷ 0 ∷ (place_words q ++ others)) env) (sym first-place);
               }
 
-        pub distributed : {env₃ : List ℕ} {buf₃ : List ℤ} {state₃ text₃ : List ℕ} {q : Listed} → length buf₁ ≡ length buf
+        pub distributed : {env₃ : List ℕ} {buf₃ : List ℤ} {state₃ : Walk} {text₃ : List ℕ} {q : Returned Unit Refusal} → length buf₁ ≡ length buf
             → Distributed scene₂ g.flags the-first.others n (base + 5) env₃ buf₃ state₃ text₃ q
             → Distributed g.scene g.flags g.list n base env₃ buf₃ state₃ text₃ q
         distributed {env₃} {buf₃} {state₃} {text₃} {q} long v =
@@ -384,43 +382,34 @@ module _ {t : List ℕ} {at left base sp : ℕ} {env : List ℕ} {buf : List ℤ
 
 -- ---- the loop
 
--- what was lent keeps its length
-pub record Lengths (env₀ : List ℕ) (buf₀ : List ℤ) (state₀ text₀ : List ℕ) (env : List ℕ) (buf : List ℤ) (state text : List ℕ) : Type 0 where
-  pub env-long : length env ≡ length env₀
-  pub buf-long : length buf ≡ length buf₀
-  pub state-long : length state ≡ length state₀
-  pub text-long : length text ≡ length text₀
-
-pub same-lengths : {env : List ℕ} {buf : List ℤ} {state text : List ℕ} → Lengths env buf state text env buf state text
-same-lengths = record { env-long = refl; buf-long = refl; state-long = refl; text-long = refl }
-
-module _ {env₀ : List ℕ} {buf₀ : List ℤ} {state₀ text₀ env env₁ : List ℕ} {buf buf₁ : List ℤ} {state text state₁ text₁ : List ℕ} where
-  pub lengths-then : Lengths env₀ buf₀ state₀ text₀ env buf state text → length env₁ ≡ length env → length buf₁ ≡ length buf → length state₁ ≡ length state → length text₁ ≡ length text
-      → Lengths env₀ buf₀ state₀ text₀ env₁ buf₁ state₁ text₁
-  lengths-then l a b c d = record { env-long = a ∙ l.env-long; buf-long = b ∙ l.buf-long; state-long = c ∙ l.state-long; text-long = d ∙ l.text-long }
-
 -- What is left to distribute, and that with it all is done.
-pub record Rest {t : List ℕ} {at₀ left₀ base₀ sp : ℕ} {env₀ : List ℕ} {buf₀ : List ℤ} {state₀ text₀ : List ℕ} (g : Distributing t at₀ left₀ base₀ sp env₀ buf₀ state₀ text₀) (n : ℕ)
-    (at left base : ℕ) (env : List ℕ) (buf : List ℤ) (state text : List ℕ) : Type 0 where
+pub record Rest {t : List ℕ} {at₀ left₀ base₀ sp : ℕ} {env₀ : List ℕ} {buf₀ : List ℤ} {state₀ : Walk} {text₀ : List ℕ} (g : Distributing t at₀ left₀ base₀ sp env₀ buf₀ state₀ text₀) (n : ℕ)
+    (at left base : ℕ) (env : List ℕ) (buf : List ℤ) (state : Walk) (text : List ℕ) : Type 0 where
   pub left_over : Distributing t at left base sp env buf state text
-  pub whole : {env' : List ℕ} {buf' : List ℤ} {state' text' : List ℕ} {q : Listed} → Distributed left_over.scene left_over.flags left_over.list n base env' buf' state' text' q
+  pub whole : {env' : List ℕ} {buf' : List ℤ} {state' : Walk} {text' : List ℕ} {q : Returned Unit Refusal} → Distributed left_over.scene left_over.flags left_over.list n base env' buf' state' text' q
       → Distributed g.scene g.flags g.list n base₀ env' buf' state' text' q
 
-module _ {t : List ℕ} {at₀ left₀ base₀ sp : ℕ} {env₀ : List ℕ} {buf₀ : List ℤ} {state₀ text₀ : List ℕ} (g : Distributing t at₀ left₀ base₀ sp env₀ buf₀ state₀ text₀) (n : ℕ) where
-  pub rest-start : Rest g n at₀ left₀ base₀ env₀ buf₀ state₀ text₀
-  rest-start = record { left_over = g; whole = λ d. d }
+module _ {t : List ℕ} {at₀ left₀ base₀ sp : ℕ} {env₀ : List ℕ} {buf₀ : List ℤ} {state₀ : Walk} {text₀ : List ℕ} (g : Distributing t at₀ left₀ base₀ sp env₀ buf₀ state₀ text₀) (n : ℕ) where
+  -- Rests whose numbers are the same.
+  rest-as : {at at' left left' base base' : ℕ} {env : List ℕ} {buf : List ℤ} {state : Walk} {text : List ℕ} → at ≡ at' → left ≡ left' → base ≡ base'
+      → Rest g n at left base env buf state text → Rest g n at' left' base' env buf state text
+  rest-as {env = env} {buf} {state} {text} p q r h = transport (λ i. Rest g n (p i) (q i) (r i) env buf state text) h
 
-  module _ {at left base : ℕ} {env : List ℕ} {buf : List ℤ} {state text : List ℕ} (h : Rest g n at left base env buf state text) where
-    pub rest-done : left ≤ 0 → Distributed g.scene g.flags g.list n base₀ env buf state text listed.Bound
+  pub rest-start : {at left base : ℕ} → at ≡ at₀ → left ≡ left₀ → base ≡ base₀ → Rest g n at left base env₀ buf₀ state₀ text₀
+  rest-start p q r = rest-as (sym p) (sym q) (sym r) (record { left_over = g; whole = λ d. d })
+
+  module _ {at left base : ℕ} {env : List ℕ} {buf : List ℤ} {state : Walk} {text : List ℕ} (h : Rest g n at left base env buf state text) where
+    pub rest-done : left ≤ 0 → Distributed g.scene g.flags g.list n base₀ env buf state text (Ok tt)
     rest-done z = h.whole (all-bound n h.left_over (omega arith))
 
-    module _ (some_left : 0 < left) {env₁ : List ℕ} {buf₁ : List ℤ} {state₁ text₁ : List ℕ} {r : Executed} (w : Spread (spreading h.left_over some_left) n env₁ buf₁ state₁ text₁ r) where
-      pub rest-stopped : {q : Refusal} → r ≡ Stopped q → Distributed g.scene g.flags g.list n base₀ env₁ buf₁ state₁ text₁ (listed.Stopped q)
+    module _ (some_left : 0 < left) {env₁ : List ℕ} {buf₁ : List ℤ} {state₁ : Walk} {text₁ : List ℕ} {r : Returned ℕ Refusal} (w : Spread (spreading h.left_over some_left) n env₁ buf₁ state₁ text₁ r) where
+      pub rest-stopped : {q : Refusal} → r ≡ Err q → Distributed g.scene g.flags g.list n base₀ env₁ buf₁ state₁ text₁ (Err q)
       rest-stopped f = h.whole (first-stopped h.left_over some_left n w f)
 
-      pub rest-turn : {l : ℕ} → r ≡ Made l → length buf₁ ≡ length buf → Rest g n (at + 1) (left - 1) (base + 5) env₁ buf₁ state₁ text₁
-      rest-turn f long =
-          record {
+      pub rest-turn : {l at' left' base' : ℕ} → r ≡ Ok l → length buf₁ ≡ length buf → at + 1 ≡ at' → left - 1 ≡ left' → base + 5 ≡ base' → Rest g n at' left' base' env₁ buf₁ state₁ text₁
+      rest-turn f long p q r =
+          rest-as p q r
+          (record {
             left_over = others-ready h.left_over some_left n w f;
             whole = λ d. h.whole (distributed h.left_over some_left n w f long d);
-          }
+          })

@@ -31,11 +31,11 @@ use Rattle.environment.proofs.Stack.{part-drop, front-is, drop-above, drop-writt
 use Rattle.environment.proofs.Finding.{length-tree}
 use Rattle.environment.proofs.Entries.{bound}
 use Rattle.records.proofs.Variables.{length-variables}
+use Rattle.sink.specs.declared.state.Walk.{Walk}
 use Rattle.steps.specs.Walking.{stepped, walked}
 use Rattle.sink.specs.Sinks.{Sink, defined, closed, feed}
 use Rattle.steps.specs.Holding.{place, PlacedAt, Stopping}
-use Rattle.steps.specs.declared.Executed.{Executed}
-use Rattle.steps.specs.declared.Executed.TheVariants.{Made, Stopped}
+use Rattle.std.specs.Prelude.{Ok, Err, Result as Returned}
 use Rattle.steps.proofs.Stores.{kept, newest}
 use Rattle.steps.proofs.Walking.{walked-define, walked_seq, walked-with, Grown, walked-grown}
 use Rattle.steps.proofs.Stepping.{units_of_lem}
@@ -44,9 +44,6 @@ use Rattle.leaves.specs.Places.{places, Shapely, Shaped, shaped-more}
 use Rattle.leaves.specs.Making.{Makes, Instructed}
 use Rattle.leaves.specs.Scenes.{Scene}
 use Rattle.bodies.specs.Bodies.{Distributing, Bound, Distributed, listed_answer, Each, inner_trees, opens, Inside, Enters}
-use Rattle.bodies.specs.declared.Listed.{Listed}
-use Rattle.bodies.specs.declared.Listed.TheVariants as listed
-use Rattle.bodies.specs.declared.Entered.TheVariants as entered
 use Rattle.bodies.proofs.Differences.{back-up, fits_below, sub-twice, low-enough, far-below}
 use Rattle.bodies.proofs.Lists.{length-listed, count-distrs}
 use Rattle.leaves.proofs.Places.{place_kept, tree-kept, lookup-shapely, lookup-shallow, outer-flags, inner-shapely, shapely-kept}
@@ -61,39 +58,39 @@ use Rattle.bodies.proofs.Distributing.{length-entries}
 
 -- ---- what `distribute` answered
 
-module _ {env : List ℕ} {sp : ℕ} {buf : List ℤ} {state text : List ℕ} {s : Scene env sp buf state text} {b : ℕ} {ls : NamedScalars s.context} {n base : ℕ}
-    {env' : List ℕ} {buf' : List ℤ} {state' text' : List ℕ} {r : Listed} (d : Distributed s b ls n base env' buf' state' text' r) where
+module _ {env : List ℕ} {sp : ℕ} {buf : List ℤ} {state : Walk} {text : List ℕ} {s : Scene env sp buf state text} {b : ℕ} {ls : NamedScalars s.context} {n base : ℕ}
+    {env' : List ℕ} {buf' : List ℤ} {state' : Walk} {text' : List ℕ} {r : Returned Unit Refusal} (d : Distributed s b ls n base env' buf' state' text' r) where
   pub record Ended : Type 0 where
     pub after : State
     pub went_to : walked (length buf) n (distrs b (pointers ls) s.trees done) s.machine ≡ went after
     pub left : Bound s b ls base env' buf' state' text' after
 
-  pub ended : r ≡ listed.Bound → Ended
+  pub ended : r ≡ (Ok tt) → Ended
   ended e = go (walked (length buf) n (distrs b (pointers ls) s.trees done) s.machine) refl
     where
       go : (x : Result) → walked (length buf) n (distrs b (pointers ls) s.trees done) s.machine ≡ x → Ended
       go (went m) q = record { after = m; went_to = q; left = d.leaves m q }
       go (stopped why i) q =
-          let both : listed.Bound ≡ listed.Stopped (refusal_of why i) = sym e ∙ (d.says ∙ ap listed_answer q) in
+          let both : (Ok tt) ≡ Err (refusal_of why i) = sym e ∙ (d.says ∙ ap listed_answer q) in
           never (cc)
 
-  pub listed-stopping : (q : Refusal) → r ≡ listed.Stopped q → Stopping (walked (length buf) n (distrs b (pointers ls) s.trees done) s.machine) q
+  pub listed-stopping : (q : Refusal) → r ≡ Err q → Stopping (walked (length buf) n (distrs b (pointers ls) s.trees done) s.machine) q
   listed-stopping q e = go (walked (length buf) n (distrs b (pointers ls) s.trees done) s.machine) refl
     where
       go : (x : Result) → walked (length buf) n (distrs b (pointers ls) s.trees done) s.machine ≡ x
           → Stopping (walked (length buf) n (distrs b (pointers ls) s.trees done) s.machine) q
-      go (went m) f = let both : listed.Stopped q ≡ listed.Bound = sym e ∙ (d.says ∙ ap listed_answer f) in never (cc)
+      go (went m) f = let both : Err q ≡ (Ok tt) = sym e ∙ (d.says ∙ ap listed_answer f) in never (cc)
       go (stopped why i) f =
-          let both : listed.Stopped q ≡ listed.Stopped (refusal_of why i) = sym e ∙ (d.says ∙ ap listed_answer f) in
+          let both : Err q ≡ Err (refusal_of why i) = sym e ∙ (d.says ∙ ap listed_answer f) in
           record { why = why; where-at = i; stops = f; refuses = cc }
 
-enters-stopped : {t : List ℕ} {k sp : ℕ} {env : List ℕ} {buf : List ℤ} {state text : List ℕ} {g : Each t k sp env buf state text}
-    {n : ℕ} {env' : List ℕ} {buf' : List ℤ} {state' text' : List ℕ} {q : Refusal}
+enters-stopped : {t : List ℕ} {k sp : ℕ} {env : List ℕ} {buf : List ℤ} {state : Walk} {text : List ℕ} {g : Each t k sp env buf state text}
+    {n : ℕ} {env' : List ℕ} {buf' : List ℤ} {state' : Walk} {text' : List ℕ} {q : Refusal}
     → Stopping (walked (length buf) n (code (terms.each g.pointer (pointers g.list) g.body) g.scene.trees (length g.scene.machine.store)) g.scene.machine) q
-    → Enters g n env' buf' state' text' (entered.Stopped q)
+    → Enters g n env' buf' state' text' (Err q)
 enters-stopped {q = q} s =
     record {
-      goes_in = λ sp' n' e. never (cc);
+      goes_in = λ e' f. never (cc);
       stops = λ q' e. let same : q ≡ q' = cc in subst (Stopping _) same s;
     }
 
@@ -103,7 +100,7 @@ unfolding distrs ◌⨾◌
 distrs-then b [] δ p = refl
 distrs-then b (u ∷ us) δ p = ap (define (Distr (id b) (id (root (lookup u.1 δ))))) (distrs-then b us δ p)
 
-module _ {t : List ℕ} {k sp : ℕ} {env : List ℕ} {buf : List ℤ} {state text : List ℕ} (g : Each t k sp env buf state text)
+module _ {t : List ℕ} {k sp : ℕ} {env : List ℕ} {buf : List ℤ} {state : Walk} {text : List ℕ} (g : Each t k sp env buf state text)
     {p : ℕ} (e : Entry env sp p (lookup g.pointer (places g.scene.machine.store g.scene.trees))) where
   abbrev store : Store
   store = g.scene.machine.store
@@ -198,16 +195,16 @@ module _ {t : List ℕ} {k sp : ℕ} {env : List ℕ} {buf : List ℤ} {state te
       abbrev sink₁ : Sink
       sink₁ = defined (length store) (Usum (id flags_id)) g.scene.sink
 
-      module _ {buf₁ : List ℤ} {state₁ text₁ : List ℕ} {r₁ : Executed}
+      module _ {buf₁ : List ℤ} {state₁ : Walk} {text₁ : List ℕ} {r₁ : Returned ℕ Refusal}
           (p₁ : Instructed (stepped (length buf) n (Usum (id (get_or env₁ (sp - 3) 0))) g.scene.machine) (Usum (id (get_or env₁ (sp - 3) 0))) g.scene.machine g.scene.sink buf buf₁ state₁ text₁ r₁) where
         own : Instructed (stepped (length buf) n (Usum (id flags_id)) g.scene.machine) (Usum (id flags_id)) g.scene.machine g.scene.sink buf buf₁ state₁ text₁ r₁
         own = subst (λ i. Instructed (stepped (length buf) n (Usum (id i)) g.scene.machine) (Usum (id i)) g.scene.machine g.scene.sink buf buf₁ state₁ text₁ r₁) named p₁
 
-        pub usum-stopped : {env' : List ℕ} {q : Refusal} → r₁ ≡ Stopped q → Enters g n env' buf₁ state₁ text₁ (entered.Stopped q)
+        pub usum-stopped : {env' : List ℕ} {q : Refusal} → r₁ ≡ Err q → Enters g n env' buf₁ state₁ text₁ (Err q)
         usum-stopped {q = q} f =
             enters-stopped (stopping-as start-code (onward-stop (walked (length buf) n (distrs flags_id us g.scene.trees done ⨾ control)) (stopping (length buf) n (Usum (id flags_id)) own q f)))
 
-        module _ {i : ℕ} (e₁ : r₁ ≡ Made i) (long : length buf₁ ≡ length buf) where
+        module _ {i : ℕ} (e₁ : r₁ ≡ Ok i) (long : length buf₁ ≡ length buf) where
           pub u : Making (length buf) n (Usum (id (outer (lookup g.pointer g.scene.trees)))) g.scene.machine g.scene.sink buf buf₁ state₁ text₁ i
           u = making (length buf) n (Usum (id flags_id)) own i e₁
 
@@ -252,13 +249,13 @@ module _ {t : List ℕ} {k sp : ℕ} {env : List ℕ} {buf : List ℤ} {state te
               ∙ (walked_seq (length buf) n (distrs flags_id us g.scene.trees done) control u.after
               ∙ ap (λ c. onward (walked c n (distrs flags_id us g.scene.trees done) u.after) (walked (length buf) n control)) (sym long)))
 
-          module _ {env₂ : List ℕ} {buf₂ : List ℤ} {state₂ text₂ : List ℕ} {r : Listed}
+          module _ {env₂ : List ℕ} {buf₂ : List ℤ} {state₂ : Walk} {text₂ : List ℕ} {r : Returned Unit Refusal}
               (d : Distributed scene₁ (outer (lookup g.pointer g.scene.trees)) g.list n (sp - 3 - 5 * byte_at t (k + 4)) env₂ buf₂ state₂ text₂ r) where
-            pub distr-stopped : {q : Refusal} → r ≡ listed.Stopped q → Enters g n env₂ buf₂ state₂ text₂ (entered.Stopped q)
+            pub distr-stopped : {q : Refusal} → r ≡ Err q → Enters g n env₂ buf₂ state₂ text₂ (Err q)
             distr-stopped {q} f = enters-stopped (stopping-as distrs-code (onward-stop (walked (length buf) n control) (listed-stopping d q f)))
 
             -- inside
-            module _ (f : r ≡ listed.Bound) (long₂ : length env₂ ≡ length env₁) {env₃ : List ℕ} {sp' : ℕ}
+            module _ (f : r ≡ (Ok tt)) (long₂ : length env₂ ≡ length env₁) {env₃ : List ℕ} {sp' : ℕ}
                 (at : sp' ≡ sp - 3 - 5 * byte_at t (k + 4) - tree_size (get_or env (p + 1) 0 - 1) - 2)
                 (w₃ : env₃ ≡ written (sp - 3 - 5 * byte_at t (k + 4) - tree_size (get_or env (p + 1) 0 - 1) - 2) (byte_at t (k + 2) ∷ (get_or env (p + 1) 0 - 1) ∷ [])
                 (written (sp - 3 - 5 * byte_at t (k + 4) - tree_size (get_or env (p + 1) 0 - 1)) (part (p + 2) (tree_size (get_or env (p + 1) 0 - 1)) env₂) env₂)) where
@@ -463,13 +460,12 @@ module _ {t : List ℕ} {k sp : ℕ} {env : List ℕ} {buf : List ℤ} {state te
                     below = subst (λ q. q + 3 ≤ sp) (sym place_is) (far-below sp (5 * j) (tree_size (depth_of g.inside)) (words g.body) room-below);
                   }
 
-              pub enters-inside : Enters g n env₃ buf₂ state₂ text₂ (entered.Body sp' i)
+              pub enters-inside : Enters g n env₃ buf₂ state₂ text₂ (Ok (record { inner = sp'; units = i }))
               enters-inside =
                   record {
                     goes_in =
-                        λ a b q.
-                        let same : sp' ≡ a = cc in
-                        let too : i ≡ b = cc in
-                        subst (λ c. Inside g n c b env₃ buf₂ state₂ text₂) same (subst (λ c. Inside g n sp' c env₃ buf₂ state₂ text₂) too inside);
+                        λ e' q.
+                        let same : record { inner = sp'; units = i } ≡ e' = cc in
+                        subst (λ c. Inside g n c.inner c.units env₃ buf₂ state₂ text₂) same inside;
                     stops = λ q f. never (cc);
                   }

@@ -11,7 +11,9 @@ use Rattle.snesl.specs.declared.code.Transducer.{Transducer}
 use Rattle.snesl.specs.Transducers.{operands}
 use Rattle.snesl.specs.Listing.{define_line, with_ctrl_line, close_line}
 use Rattle.snesl.specs.Programs.{Program, done, define, with_ctrl, ◌⨾◌, count}
-use Rattle.sink.specs.Sinks.{Mode, running, listing, surveying, Sink, far, put, take_in, defined, opened, closed, feed}
+use Rattle.sink.specs.declared.state.Mode.{Mode}
+use Rattle.sink.specs.declared.state.Mode.TheVariants.{Running, Listing, Surveying}
+use Rattle.sink.specs.Sinks.{Sink, far, put, take_in, defined, opened, closed, feed}
 use Rattle.leaves.specs.Scenes.{most_taken, Wide}
 
 pub record Like (k k' : Sink) : Type 0 where
@@ -39,26 +41,26 @@ module _ (k : Sink) where
   pub like-defined : (s : ℕ) (t : Transducer) → Like k (defined s t k)
   like-defined s t = go k.mode
     where
-      go : (m : Mode) → Like k (elim m [ running ↦ k | listing ↦ put (define_line s t) k | surveying ↦ take_in (operands t) k ])
-      go running = record { mode = refl; most = refl }
-      go listing = like-put (define_line s t)
-      go surveying = record { mode = refl; most = refl }
+      go : (m : Mode) → Like k (elim m [ Running ↦ k | Listing ↦ put (define_line s t) k | Surveying ↦ take_in (operands t) k ])
+      go Running = record { mode = refl; most = refl }
+      go Listing = like-put (define_line s t)
+      go Surveying = record { mode = refl; most = refl }
 
   pub like-opened : (outs : List ℕ) (c : ℕ) (ins : List ℕ) → Like k (opened outs c ins k)
   like-opened outs c ins = go k.mode
     where
-      go : (m : Mode) → Like k (elim m [ running ↦ k | listing ↦ put (with_ctrl_line outs c ins) k | surveying ↦ k ])
-      go running = record { mode = refl; most = refl }
-      go listing = like-put (with_ctrl_line outs c ins)
-      go surveying = record { mode = refl; most = refl }
+      go : (m : Mode) → Like k (elim m [ Running ↦ k | Listing ↦ put (with_ctrl_line outs c ins) k | Surveying ↦ k ])
+      go Running = record { mode = refl; most = refl }
+      go Listing = like-put (with_ctrl_line outs c ins)
+      go Surveying = record { mode = refl; most = refl }
 
   like-closed : Like k (closed k)
   like-closed = go k.mode
     where
-      go : (m : Mode) → Like k (elim m [ running ↦ k | listing ↦ put close_line k | surveying ↦ k ])
-      go running = record { mode = refl; most = refl }
-      go listing = like-put close_line
-      go surveying = record { mode = refl; most = refl }
+      go : (m : Mode) → Like k (elim m [ Running ↦ k | Listing ↦ put close_line k | Surveying ↦ k ])
+      go Running = record { mode = refl; most = refl }
+      go Listing = like-put close_line
+      go Surveying = record { mode = refl; most = refl }
 
 pub like-fed : (s : ℕ) (p : Program) (k : Sink) → Like k (feed s p k)
 unfolding feed

@@ -8,6 +8,7 @@ use lib.ListN.{length, drop}
 use Rattle.snesl.specs.Streams.{Store}
 use Rattle.snesl.specs.Machine.{State}
 use Rattle.environment.specs.Words.{spelled}
+use Rattle.sink.specs.declared.state.Walk.{Walk}
 use Rattle.steps.specs.Holding.{Held}
 use Rattle.leaves.specs.Places.{places, Shaped}
 use Rattle.sink.specs.Sinks.{Sink}
@@ -16,7 +17,7 @@ use Rattle.leaves.specs.Scenes.{Scene}
 use Rattle.bodies.proofs.Feeding.{Like, wide-like}
 use Rattle.leaves.proofs.Places.{places-kept, shaped-kept}
 
-module _ {env : List ℕ} {sp : ℕ} {buf : List ℤ} {state text : List ℕ} (s : Scene env sp buf state text) (m : State) (τ : Store) (e : m.store ≡ s.machine.store ++ τ) where
+module _ {env : List ℕ} {sp : ℕ} {buf : List ℤ} {state : Walk} {text : List ℕ} (s : Scene env sp buf state text) (m : State) (τ : Store) (e : m.store ≡ s.machine.store ++ τ) where
   grown-places : places m.store s.trees ≡ places s.machine.store s.trees
   grown-places = ap (λ σ. places σ s.trees) e ∙ places-kept s.machine.store τ s.shaped
 
@@ -26,8 +27,8 @@ module _ {env : List ℕ} {sp : ℕ} {buf : List ℤ} {state text : List ℕ} (s
   pub grown-spells : (env' : List ℕ) → drop sp env' ≡ drop sp env → drop sp env' ≡ spelled s.names (places m.store s.trees) ++ s.rest
   grown-spells env' d = d ∙ (s.spells ∙ ap (λ δ. spelled s.names δ ++ s.rest) (sym grown-places))
 
-  abbrev pub later : {env' : List ℕ} {buf' : List ℤ} {state' text' : List ℕ} → Held m buf' state' → drop sp env' ≡ drop sp env → length env' ≡ length env
-      → (k : Sink) → Sunk k text' state' → Like s.sink k → Scene env' sp buf' state' text'
+  abbrev pub later : {env' : List ℕ} {buf' : List ℤ} {state' : Walk} {text' : List ℕ} → Held m buf' state'.machine → drop sp env' ≡ drop sp env → length env' ≡ length env
+      → (k : Sink) → Sunk k text' state'.sink → Like s.sink k → Scene env' sp buf' state' text'
   later {env'} h d l k u w =
       record {
         context = s.context;

@@ -8,22 +8,16 @@ ghost use Rattle.bodies.specs.Bodies.{Spreading, Spread, Distributing, Distribut
 
 use environment::{bind_tree, find, move_words, put_name};
 use leaves::{make, push};
+use sink::state::Walk;
 use snesl::code::{StreamId, Transducer, Variable};
 use snesl::refusal::Refusal;
-use steps::{Executed, Operands};
-
-// Whether every listed variable has its entry.
-#[derive(Clone, Copy)]
-pub enum Listed {
-    Bound,
-    Stopped(Refusal),
-}
+use steps::Operands;
 
 // Where the body's environment starts, and under how many units it is walked.
 #[derive(Clone, Copy)]
-pub enum Entered {
-    Body(usize, usize),
-    Stopped(Refusal),
+pub struct Entered {
+    pub inner: usize,
+    pub units: usize,
 }
 
 // The scalar u distributed over the flags whose place stands below sp, and its entry at `to`.
@@ -34,9 +28,9 @@ fn spread_one(
     sp: usize,
     env: &mut [u32],
     buf: &mut [i32],
-    state: &mut [usize],
+    state: &mut Walk,
     text: &mut [u8],
-) -> Executed
+) -> Result<usize, Refusal>
     requires { Spreading u to sp env.old buf.old state.old text.old }
     ensures { (g : Spreading u to sp env.old buf.old state.old text.old) → Spread g n env.new buf.new state.new text.new result }
 {
@@ -47,14 +41,10 @@ fn spread_one(
         first: b,
         second: p,
     };
-    match make(t, at, n, env, buf, state, text) {
-        Executed::Made(made) => {
-            put_name(env, to, u, 0);
-            push(made, to + 5, env, state);
-            Executed::Made(made)
-        }
-        Executed::Stopped(r) => Executed::Stopped(r),
-    }
+    let made = make(t, at, n, env, buf, state, text)?;
+    put_name(env, to, u, 0);
+    push(made, to + 5, env, &state.machine);
+    Ok(made)
 }
 
 // Each variable that the record at k lists, in the order listed.
@@ -65,28 +55,19 @@ fn distribute(
     sp: usize,
     env: &mut [u32],
     buf: &mut [i32],
-    state: &mut [usize],
+    state: &mut Walk,
     text: &mut [u8],
-) -> Listed
+) -> Result<(), Refusal>
     requires { Distributing bytes.now (k + 5) (count_at bytes.now k) (entries_at bytes.now k sp) sp env.old buf.old state.old text.old }
     ensures { (g : Distributing bytes.now (k + 5) (count_at bytes.now k) (entries_at bytes.now k sp) sp env.old buf.old state.old text.old) → Distributed g.scene g.flags g.list n (entries_at bytes.now k sp) env.new buf.new state.new text.new result }
 {
-    let mut left = bytes[k + 4] as usize;
-    let mut at = k + 5;
-    let mut to = sp - 3 - 5 * left;
-    while 0 < left {
-        match spread_one(Variable(bytes[at]), to, n, sp, env, buf, state, text) {
-            Executed::Made(_) => {
-                left -= 1;
-                at += 1;
-                to += 5;
-            }
-            Executed::Stopped(r) => {
-                return Listed::Stopped(r);
-            }
-        }
+    let count = bytes[k + 4] as usize;
+    let base = sp - 3 - 5 * count;
+    for i in 0..count {
+        let u = Variable(bytes[k + 5 + i]);
+        spread_one(u, base + 5 * i, n, sp, env, buf, state, text)?;
     }
-    Listed::Bound
+    Ok(())
 }
 
 // The words of x's tree, from an entry above, as x's binding just below `base`; where it starts.
@@ -108,9 +89,9 @@ pub fn enter(
     sp: usize,
     env: &mut [u32],
     buf: &mut [i32],
-    state: &mut [usize],
+    state: &mut Walk,
     text: &mut [u8],
-) -> Entered
+) -> Result<Entered, Refusal>
     requires { Each bytes.now k sp env.old buf.old state.old text.old }
     ensures { (g : Each bytes.now k sp env.old buf.old state.old text.old) → Enters g n env.new buf.new state.new text.new result }
 {
@@ -125,11 +106,8 @@ pub fn enter(
         first: b,
         second: b,
     };
-    match make(t, at, n, env, buf, state, text) {
-        Executed::Made(units) => match distribute(bytes, k, n, sp, env, buf, state, text) {
-            Listed::Bound => Entered::Body(bind_items(x, p + 2, depth, base, env), units),
-            Listed::Stopped(r) => Entered::Stopped(r),
-        },
-        Executed::Stopped(r) => Entered::Stopped(r),
-    }
+    let units = make(t, at, n, env, buf, state, text)?;
+    distribute(bytes, k, n, sp, env, buf, state, text)?;
+    let inner = bind_items(x, p + 2, depth, base, env);
+    Ok(Entered { inner, units })
 }

@@ -3,11 +3,12 @@ use Prim.Native.Nat.{ℕ, zero, suc, ◌+◌, ◌-◌, ◌≤◌, ◌<◌}
 use mathlib.Core.List.{List, [], ◌∷◌, ◌++◌}
 use mathlib.Core.Logic.{inr}
 use mathlib.Core.Option.{Option, some, none}
-use mathlib.Core.Path.{◌≡◌, refl, sym, ◌∙◌, ap, subst}
+use mathlib.Core.Path.{◌≡◌, refl, sym, ◌∙◌, ap, subst, transport}
 use native.Mathlib.Numerals.{add-one, sub-one}
 use native.Mathlib.Omega.{arith}
 use lib.IntN.{ℤ}
 use lib.ListN.{length, drop, length-append, length-drop}
+use Rattle.std.specs.Prelude.{Ok, Err, Result as Returned}
 use Rattle.laws.proofs.Never.{never}
 use Rattle.laws.specs.Parts.{written}
 use Rattle.snesl.specs.declared.code.Kind.TheVariants.{Bools}
@@ -28,6 +29,7 @@ use Rattle.environment.specs.Words.{tree_words, spelled}
 use Rattle.environment.specs.Needs.{binding_size, listed_size}
 use Rattle.environment.proofs.Stack.{drop-above, drop-written, written_then_lem}
 use Rattle.environment.proofs.Finding.{length-tree}
+use Rattle.sink.specs.declared.state.Walk.{Walk}
 use Rattle.sink.specs.Sinks.{feed}
 use Rattle.sink.specs.Sunk.{Sunk}
 use Rattle.steps.specs.Walking.{walked}
@@ -41,11 +43,7 @@ use Rattle.bodies.proofs.Feeding.{like-fed, fed_then}
 use Rattle.bodies.proofs.Scenes.{later}
 use Rattle.guards.specs.Packs.{pack_answer}
 use Rattle.guards.specs.Lists.{Guarded, Chosen, one_answer, Entered, Enters, Lists, AllBound, AllBinds}
-use Rattle.guards.specs.declared.Packed.{Packed}
-use Rattle.guards.specs.declared.Packed.TheVariants as packed
 use Rattle.guards.specs.declared.Guarding.{Guarding}
-use Rattle.guards.specs.declared.Bound.{Bound}
-use Rattle.guards.specs.declared.Bound.TheVariants as bound
 use Rattle.guards.proofs.Words.{written_from, beside}
 use Rattle.guards.proofs.Growth.{moved}
 
@@ -107,8 +105,8 @@ length-entries (p ∷ ls) σ δ s =
 
 -- ---- nothing listed
 
-module _ {q : Guarding} {env : List ℕ} {buf : List ℤ} {state text : List ℕ} (g : Guarded q env buf state text) (n to : ℕ) where
-  bound-none : AllBinds g [] n to env buf state text packed.Whole
+module _ {q : Guarding} {env : List ℕ} {buf : List ℤ} {state : Walk} {text : List ℕ} (g : Guarded q env buf state text) (n to : ℕ) where
+  bound-none : AllBinds g [] n to env buf state text (Ok tt)
   unfolding pack_codes pack_trees any_names places spelled feed
   bound-none =
       let m = g.scene.machine in
@@ -123,14 +121,14 @@ module _ {q : Guarding} {env : List ℕ} {buf : List ℤ} {state text : List ℕ
             (record { held = g.scene.held; sunk = g.scene.sunk; kept = refl; shaped = shaped-none; words = ap (drop q.base) (nothing_written to env) });
       }
 
-all-bound : {t : List ℕ} {at left to : ℕ} {q : Guarding} {env : List ℕ} {buf : List ℤ} {state text : List ℕ} (n : ℕ) (g : Lists t at left to q env buf state text) → left ≡ 0
-    → AllBinds g.guarded g.list n to env buf state text packed.Whole
+all-bound : {t : List ℕ} {at left to : ℕ} {q : Guarding} {env : List ℕ} {buf : List ℤ} {state : Walk} {text : List ℕ} (n : ℕ) (g : Lists t at left to q env buf state text) → left ≡ 0
+    → AllBinds g.guarded g.list n to env buf state text (Ok tt)
 all-bound {t} {at} {left} {to} {q} {env} {buf} {state} {text} n g z =
-    subst (λ l. AllBinds g.guarded l n to env buf state text packed.Whole) (none-listed g.guarded.scene.names t at left g.list g.lists z) (bound-none g.guarded n to)
+    subst (λ l. AllBinds g.guarded l n to env buf state text (Ok tt)) (none-listed g.guarded.scene.names t at left g.list g.lists z) (bound-none g.guarded n to)
 
 -- ---- one of them
 
-module _ {t : List ℕ} {at left to : ℕ} {q : Guarding} {env : List ℕ} {buf : List ℤ} {state text : List ℕ} (g : Lists t at left to q env buf state text) (some_left : 0 < left) where
+module _ {t : List ℕ} {at left to : ℕ} {q : Guarding} {env : List ℕ} {buf : List ℤ} {state : Walk} {text : List ℕ} (g : Lists t at left to q env buf state text) (some_left : 0 < left) where
   abbrev pub the-first : First g.guarded.scene.names t at left g.list
   the-first = first g.guarded.scene.names t at left g.list g.lists some_left
 
@@ -182,19 +180,19 @@ module _ {t : List ℕ} {at left to : ℕ} {q : Guarding} {env : List ℕ} {buf 
         ∙ (fed_then s code₁ (rest-code (s + pack_size d)) g.guarded.scene.sink
         ∙ ap (λ i. feed (s + i) (rest-code (s + pack_size d)) (feed s code₁ g.guarded.scene.sink)) (count-pack g.guarded.guard (lookup the-first.pointer g.guarded.scene.trees) s))
 
-    module _ {env₁ : List ℕ} {buf₁ : List ℤ} {state₁ text₁ : List ℕ} {r : Bound} (w : Enters chosen n env₁ buf₁ state₁ text₁ r) where
-      pub first-stopped : {env' : List ℕ} {x : Refusal} → r ≡ bound.Stopped x → AllBinds g.guarded g.list n to env' buf₁ state₁ text₁ (packed.Stopped x)
+    module _ {env₁ : List ℕ} {buf₁ : List ℤ} {state₁ : Walk} {text₁ : List ℕ} {r : Returned ℕ Refusal} (w : Enters chosen n env₁ buf₁ state₁ text₁ r) where
+      pub first-stopped : {env' : List ℕ} {x : Refusal} → r ≡ Err x → AllBinds g.guarded g.list n to env' buf₁ state₁ text₁ (Err x)
       first-stopped {env'} {x} h = go (walked (length buf) n code₁ g.guarded.scene.machine) refl
         where
-          go : (y : Result) → walked (length buf) n code₁ g.guarded.scene.machine ≡ y → AllBinds g.guarded g.list n to env' buf₁ state₁ text₁ (packed.Stopped x)
-          go (went m) f = let both : bound.Stopped x ≡ bound.Until (to + binding_size d) = sym h ∙ (w.says ∙ ap (one_answer (to + binding_size d)) f) in never (cc)
+          go : (y : Result) → walked (length buf) n code₁ g.guarded.scene.machine ≡ y → AllBinds g.guarded g.list n to env' buf₁ state₁ text₁ (Err x)
+          go (went m) f = let both : Err x ≡ Ok (to + binding_size d) = sym h ∙ (w.says ∙ ap (one_answer (to + binding_size d)) f) in never (cc)
           go (stopped why i) f =
-              let both : bound.Stopped x ≡ bound.Stopped (refusal_of why i) = sym h ∙ (w.says ∙ ap (one_answer (to + binding_size d)) f) in
+              let both : Err x ≡ Err (refusal_of why i) = sym h ∙ (w.says ∙ ap (one_answer (to + binding_size d)) f) in
               let same : x ≡ refusal_of why i = cc in
               let so : walked (length buf) n (pack_codes g.guarded.guard (any_pointers g.list) g.guarded.scene.trees s) g.guarded.scene.machine ≡ stopped why i =
               first_code ∙ ap (λ y. onward y (walked (length buf) n (rest-code (s + pack_size d)))) f in
               record {
-                says = ap packed.Stopped same ∙ ap pack_answer (sym so);
+                says = ap Err same ∙ ap pack_answer (sym so);
                 leaves = λ m j. let b : stopped why i ≡ went m = sym so ∙ j in never (cc);
               }
 
@@ -204,16 +202,16 @@ module _ {t : List ℕ} {at left to : ℕ} {q : Guarding} {env : List ℕ} {buf 
         pub next-is : next ≡ to + binding_size (depth_of (first g.guarded.scene.names t at left g.list g.lists some_left).type)
         pub left_behind : Entered chosen env₁ buf₁ state₁ text₁ after
 
-      gave : {next : ℕ} → r ≡ bound.Until next → Gave next
+      gave : {next : ℕ} → r ≡ Ok next → Gave next
       gave {next} h = go (walked (length buf) n code₁ g.guarded.scene.machine) refl
         where
           go : (y : Result) → walked (length buf) n code₁ g.guarded.scene.machine ≡ y → Gave next
           go (went m) f =
-              let both : bound.Until next ≡ bound.Until (to + binding_size d) = sym h ∙ (w.says ∙ ap (one_answer (to + binding_size d)) f) in
+              let both : Ok next ≡ Ok (to + binding_size d) = sym h ∙ (w.says ∙ ap (one_answer (to + binding_size d)) f) in
               record { after = m; went_to = f; next-is = cc; left_behind = w.leaves m f }
-          go (stopped why i) f = let both : bound.Until next ≡ bound.Stopped (refusal_of why i) = sym h ∙ (w.says ∙ ap (one_answer (to + binding_size d)) f) in never (cc)
+          go (stopped why i) f = let both : Ok next ≡ Err (refusal_of why i) = sym h ∙ (w.says ∙ ap (one_answer (to + binding_size d)) f) in never (cc)
 
-      module _ {next : ℕ} (h : r ≡ bound.Until next) (long : length env₁ ≡ length env) (long-buf : length buf₁ ≡ length buf) where
+      module _ {next : ℕ} (h : r ≡ Ok next) (long : length env₁ ≡ length env) (long-buf : length buf₁ ≡ length buf) where
         o : Gave next
         o = gave h
 
@@ -279,7 +277,7 @@ module _ {t : List ℕ} {at left to : ℕ} {q : Guarding} {env : List ℕ} {buf 
             ∙ (onward-as (walked (length buf) n (rest-code (s + pack_size d))) o.went_to
             ∙ (λ i. walked (sym long-buf i) n (rest-code (sym number i)) o.after))
 
-        module _ {env₃ : List ℕ} {buf₃ : List ℤ} {state₃ text₃ : List ℕ} {m : State} (τ : Store) (more : m.store ≡ o.after.store ++ τ)
+        module _ {env₃ : List ℕ} {buf₃ : List ℤ} {state₃ : Walk} {text₃ : List ℕ} {m : State} (τ : Store) (more : m.store ≡ o.after.store ++ τ)
             (b : AllBound guarded₁ the-first.others next env₃ buf₃ state₃ text₃ m) where
           abbrev others : List ℕ
           others = spelled (any_names the-first.others) (places m.store (pack_trees (any_pointers the-first.others) g.guarded.scene.trees (s + pack_size d)))
@@ -303,9 +301,9 @@ module _ {t : List ℕ} {at left to : ℕ} {q : Guarding} {env : List ℕ} {buf 
           all_words =
               words-then q.base to entry others env env₁ env₃ g.low (omega (arith, entry-long, others-long, size_is, g.space, g.guarded.scene.within)) long o.left_behind.words others-words
 
-          all-sunk : Sunk (feed s (pack_codes g.guarded.guard (any_pointers g.list) g.guarded.scene.trees s) g.guarded.scene.sink) text₃ state₃
+          all-sunk : Sunk (feed s (pack_codes g.guarded.guard (any_pointers g.list) g.guarded.scene.trees s) g.guarded.scene.sink) text₃ state₃.sink
           all-sunk =
-              subst (λ k. Sunk k text₃ state₃)
+              subst (λ k. Sunk k text₃ state₃.sink)
               ((λ i. feed (number i) (rest-code (number i)) (feed s code₁ g.guarded.scene.sink)) ∙ sym first-fed) b.sunk
 
           both-bound : AllBound g.guarded ((variable_at t at, (the-first.type, the-first.pointer)) ∷ the-first.others) to env₃ buf₃ state₃ text₃ m
@@ -314,7 +312,7 @@ module _ {t : List ℕ} {at left to : ℕ} {q : Guarding} {env : List ℕ} {buf 
               record {
                 held = b.held;
                 sunk =
-                    subst (λ l. Sunk (feed s (pack_codes g.guarded.guard (any_pointers l) g.guarded.scene.trees s) g.guarded.scene.sink) text₃ state₃) (sym the-first.is) all-sunk;
+                    subst (λ l. Sunk (feed s (pack_codes g.guarded.guard (any_pointers l) g.guarded.scene.trees s) g.guarded.scene.sink) text₃ state₃.sink) (sym the-first.is) all-sunk;
                 kept = keeps_then o.after.store τ m.store buf buf₁ buf₃ o.left_behind.kept b.kept more;
                 shaped =
                     shaped-more {τ = the-first.type}
@@ -323,7 +321,7 @@ module _ {t : List ℕ} {at left to : ℕ} {q : Guarding} {env : List ℕ} {buf 
                 words = all_words ∙ ap (λ x. drop q.base (written to ((variable_at t at).0 ∷ d ∷ (tree_words x ++ others)) env)) (sym tree-still);
               }
 
-        pub composed : {env₃ : List ℕ} {buf₃ : List ℤ} {state₃ text₃ : List ℕ} {x : Packed} → AllBinds others-ready.guarded others-ready.list n next env₃ buf₃ state₃ text₃ x
+        pub composed : {env₃ : List ℕ} {buf₃ : List ℤ} {state₃ : Walk} {text₃ : List ℕ} {x : Returned Unit Refusal} → AllBinds others-ready.guarded others-ready.list n next env₃ buf₃ state₃ text₃ x
             → AllBinds g.guarded g.list n to env₃ buf₃ state₃ text₃ x
         unfolding others-ready
         composed {env₃} {buf₃} {state₃} {text₃} v =
@@ -338,27 +336,34 @@ module _ {t : List ℕ} {at left to : ℕ} {q : Guarding} {env : List ℕ} {buf 
 -- ---- the loop
 
 -- What is left to pack, and that with it all is done.
-pub record Rest {t : List ℕ} {at₀ left₀ to₀ : ℕ} {q : Guarding} {env₀ : List ℕ} {buf₀ : List ℤ} {state₀ text₀ : List ℕ} (g : Lists t at₀ left₀ to₀ q env₀ buf₀ state₀ text₀) (n : ℕ)
-    (at left to : ℕ) (env : List ℕ) (buf : List ℤ) (state text : List ℕ) : Type 0 where
+pub record Rest {t : List ℕ} {at₀ left₀ to₀ : ℕ} {q : Guarding} {env₀ : List ℕ} {buf₀ : List ℤ} {state₀ : Walk} {text₀ : List ℕ} (g : Lists t at₀ left₀ to₀ q env₀ buf₀ state₀ text₀) (n : ℕ)
+    (at left to : ℕ) (env : List ℕ) (buf : List ℤ) (state : Walk) (text : List ℕ) : Type 0 where
   pub left_over : Lists t at left to q env buf state text
-  pub whole : {env' : List ℕ} {buf' : List ℤ} {state' text' : List ℕ} {x : Packed} → AllBinds left_over.guarded left_over.list n to env' buf' state' text' x
+  pub whole : {env' : List ℕ} {buf' : List ℤ} {state' : Walk} {text' : List ℕ} {x : Returned Unit Refusal} → AllBinds left_over.guarded left_over.list n to env' buf' state' text' x
       → AllBinds g.guarded g.list n to₀ env' buf' state' text' x
 
-module _ {t : List ℕ} {at₀ left₀ to₀ : ℕ} {q : Guarding} {env₀ : List ℕ} {buf₀ : List ℤ} {state₀ text₀ : List ℕ} (g : Lists t at₀ left₀ to₀ q env₀ buf₀ state₀ text₀) (n : ℕ) where
-  pub rest-start : Rest g n at₀ left₀ to₀ env₀ buf₀ state₀ text₀
-  rest-start = record { left_over = g; whole = λ x. x }
+module _ {t : List ℕ} {at₀ left₀ to₀ : ℕ} {q : Guarding} {env₀ : List ℕ} {buf₀ : List ℤ} {state₀ : Walk} {text₀ : List ℕ} (g : Lists t at₀ left₀ to₀ q env₀ buf₀ state₀ text₀) (n : ℕ) where
+  -- Rests whose numbers are the same.
+  rest-as : {at at' left left' to : ℕ} {env : List ℕ} {buf : List ℤ} {state : Walk} {text : List ℕ} → at ≡ at' → left ≡ left'
+      → Rest g n at left to env buf state text → Rest g n at' left' to env buf state text
+  rest-as {to = to} {env} {buf} {state} {text} p e h = transport (λ i. Rest g n (p i) (e i) to env buf state text) h
 
-  module _ {at left to : ℕ} {env : List ℕ} {buf : List ℤ} {state text : List ℕ} (h : Rest g n at left to env buf state text) where
-    pub rest-done : left ≤ 0 → AllBinds g.guarded g.list n to₀ env buf state text packed.Whole
+  pub rest-start : {at left : ℕ} → at ≡ at₀ → left ≡ left₀ → Rest g n at left to₀ env₀ buf₀ state₀ text₀
+  rest-start p e = rest-as (sym p) (sym e) (record { left_over = g; whole = λ x. x })
+
+  module _ {at left to : ℕ} {env : List ℕ} {buf : List ℤ} {state : Walk} {text : List ℕ} (h : Rest g n at left to env buf state text) where
+    pub rest-done : left ≤ 0 → AllBinds g.guarded g.list n to₀ env buf state text (Ok tt)
     rest-done z = h.whole (all-bound n h.left_over (omega arith))
 
-    module _ (some_left : 0 < left) {env₁ : List ℕ} {buf₁ : List ℤ} {state₁ text₁ : List ℕ} {r : Bound} (w : Enters (chosen h.left_over some_left) n env₁ buf₁ state₁ text₁ r) where
-      pub rest-stopped : {x : Refusal} → r ≡ bound.Stopped x → AllBinds g.guarded g.list n to₀ env₁ buf₁ state₁ text₁ (packed.Stopped x)
+    module _ (some_left : 0 < left) {env₁ : List ℕ} {buf₁ : List ℤ} {state₁ : Walk} {text₁ : List ℕ} {r : Returned ℕ Refusal} (w : Enters (chosen h.left_over some_left) n env₁ buf₁ state₁ text₁ r) where
+      pub rest-stopped : {x : Refusal} → r ≡ Err x → AllBinds g.guarded g.list n to₀ env₁ buf₁ state₁ text₁ (Err x)
       rest-stopped f = h.whole (first-stopped h.left_over some_left n w f)
 
-      pub rest-turn : {next : ℕ} → r ≡ bound.Until next → length env₁ ≡ length env → length buf₁ ≡ length buf → Rest g n (at + 1) (left - 1) next env₁ buf₁ state₁ text₁
-      rest-turn f l b =
-          record {
+      pub rest-turn : {next at' left' : ℕ} → r ≡ Ok next → length env₁ ≡ length env → length buf₁ ≡ length buf → at + 1 ≡ at' → left - 1 ≡ left'
+          → Rest g n at' left' next env₁ buf₁ state₁ text₁
+      rest-turn f l b p e =
+          rest-as p e
+          (record {
             left_over = others-ready h.left_over some_left n w f l b;
             whole = λ x. h.whole (composed h.left_over some_left n w f l b x);
-          }
+          })

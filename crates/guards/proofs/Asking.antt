@@ -7,6 +7,7 @@ use mathlib.Core.Path.{◌≡◌, sym, ◌∙◌, ap, subst}
 use native.Mathlib.Omega.{arith}
 use lib.IntN.{ℤ}
 use lib.ListN.{length, get_or, length-append}
+use Rattle.std.specs.Prelude.{Ok, Err, Result as Returned}
 use Rattle.laws.proofs.Never.{never}
 use Rattle.laws.specs.Parts.{part}
 use Rattle.snesl.specs.declared.code.Base.TheVariants as base
@@ -19,12 +20,11 @@ use Rattle.snesl.specs.Machine.{State, onward}
 use Rattle.snesl.specs.Translation.{id}
 use Rattle.environment.specs.Words.{place_words}
 use Rattle.environment.proofs.Stack.{at-written}
+use Rattle.sink.specs.declared.state.Walk.{Walk}
 use Rattle.sink.specs.Sinks.{Sink, defined}
 use Rattle.sink.specs.Sunk.{Sunk}
 use Rattle.steps.specs.Walking.{stepped, walked}
 use Rattle.steps.specs.Holding.{place, PlacedAt, Stopping}
-use Rattle.steps.specs.declared.Executed.{Executed}
-use Rattle.steps.specs.declared.Executed.TheVariants.{Made, Stopped}
 use Rattle.steps.proofs.Stores.{newest}
 use Rattle.steps.proofs.Walking.{walked-define}
 use Rattle.steps.proofs.Stepping.{flags_of, units_of_lem}
@@ -38,7 +38,7 @@ use Rattle.guards.specs.Entering.{Asks, asking, Asked, Answers}
 use Rattle.guards.proofs.Growth.{place-later}
 use Rattle.guards.proofs.Putting.{Stored, stored, halts}
 
-module _ {bools sp b : ℕ} {m : State} {k : Sink} {env : List ℕ} {buf : List ℤ} {state text : List ℕ} (g : Asks bools sp b m k env buf state text) where
+module _ {bools sp b : ℕ} {m : State} {k : Sink} {env : List ℕ} {buf : List ℤ} {state : Walk} {text : List ℕ} (g : Asks bools sp b m k env buf state text) where
   abbrev z : ℕ
   z = length m.store
 
@@ -62,12 +62,12 @@ module _ {bools sp b : ℕ} {m : State} {k : Sink} {env : List ℕ} {buf : List 
   start-code : (cap n : ℕ) (p : Program) → walked cap n (asking b z p) m ≡ onward (stepped cap n (B2u (id b)) m) (walked cap n (define (Usum (id z)) p))
   start-code cap n p = walked-define cap n (B2u (id b)) (define (Usum (id z)) p) m
 
-  module _ (n : ℕ) {env₁ : List ℕ} {buf₁ : List ℤ} {state₁ text₁ : List ℕ} {r₁ : Executed}
+  module _ (n : ℕ) {env₁ : List ℕ} {buf₁ : List ℤ} {state₁ : Walk} {text₁ : List ℕ} {r₁ : Returned ℕ Refusal}
       (w₁ : Placed (length buf) n (B2u (id (get_or env bools 0))) (sp - 3) m k env env₁ buf buf₁ state₁ text₁ r₁) where
     own₁ : Placed (length buf) n (B2u (id b)) (sp - 3) m k env env₁ buf buf₁ state₁ text₁ r₁
     own₁ = subst (λ i. Placed (length buf) n (B2u (id i)) (sp - 3) m k env env₁ buf buf₁ state₁ text₁ r₁) b2u-named w₁
 
-    pub flags-stopped : {q : Refusal} → r₁ ≡ Stopped q → Answers b sp m k n env env₁ buf buf₁ state₁ text₁ (Stopped q)
+    pub flags-stopped : {q : Refusal} → r₁ ≡ Err q → Answers b sp m k n env env₁ buf buf₁ state₁ text₁ (Err q)
     flags-stopped {q} e =
         record {
           made = λ i f. never (cc);
@@ -78,7 +78,7 @@ module _ {bools sp b : ℕ} {m : State} {k : Sink} {env : List ℕ} {buf : List 
               (stopping-as (start-code (length buf) n p) (onward-stop (walked (length buf) n (define (Usum (id z)) p)) (halts own₁ e)));
         }
 
-    module _ {l : ℕ} (e₁ : r₁ ≡ Made l) where
+    module _ {l : ℕ} (e₁ : r₁ ≡ Ok l) where
       pub so : Stored (length buf) n (B2u (id b)) (sp - 3) m k env env₁ buf buf₁ state₁ text₁
       so = stored own₁ e₁
 
@@ -105,7 +105,7 @@ module _ {bools sp b : ℕ} {m : State} {k : Sink} {env : List ℕ} {buf : List 
           subst (λ i. Makes (Usum (id i)) (record { first = sp - 3; second = sp - 3 }) env₁ buf₁ state₁ text₁ so.after (defined z (B2u (id b)) k)) (sym flags-named)
           (record { executable = record { held = so.held; base = base.Int; placed = (placed₁, tt); more = omega (arith, g.few, next₁) }; sunk = so.sunk })
 
-      module _ {buf₂ : List ℤ} {state₂ text₂ : List ℕ} {r₂ : Executed} (same₁ : length buf₁ ≡ length buf)
+      module _ {buf₂ : List ℤ} {state₂ : Walk} {text₂ : List ℕ} {r₂ : Returned ℕ Refusal} (same₁ : length buf₁ ≡ length buf)
           (w₂ : Instructed (stepped (length buf₁) n (Usum (id (get_or env₁ (sp - 3) 0))) so.after) (Usum (id (get_or env₁ (sp - 3) 0))) so.after (defined (length m.store) (B2u (id b)) k) buf₁ buf₂ state₂ text₂ r₂) where
         own₂ : Instructed (stepped (length buf₁) n (Usum (id z)) so.after) (Usum (id z)) so.after (defined z (B2u (id b)) k) buf₁ buf₂ state₂ text₂ r₂
         own₂ =
@@ -141,7 +141,7 @@ module _ {bools sp b : ℕ} {m : State} {k : Sink} {env : List ℕ} {buf : List 
                 quiet = λ q. u.long ∙ ap len (u.added-to.quiet q);
                 whole = λ p. second-code p ∙ onward-as (walked (length buf) n p) u.went_to;
                 held = u.held;
-                sunk = subst (λ s. Sunk (defined s (Usum (id z)) (defined z (B2u (id b)) k)) text₂ state₂) next₁ u.sunk;
+                sunk = subst (λ s. Sunk (defined s (Usum (id z)) (defined z (B2u (id b)) k)) text₂ state₂.sink) next₁ u.sunk;
                 kept = keeps_then so.after.store (units i ∷ []) u.after.store buf buf₁ buf₂ so.kept u.kept units-stored;
                 words = so.words ∙ ap (λ q. Rattle.laws.specs.Parts.written (sp - 3) (place_words q) env) (sym (place-later so.after.store (units i ∷ []) z there units-stored));
               }

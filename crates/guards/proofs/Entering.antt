@@ -6,6 +6,7 @@ use mathlib.Core.Path.{◌≡◌, refl, sym, ◌∙◌, ap, subst}
 use native.Mathlib.Omega.{arith}
 use lib.IntN.{ℤ}
 use lib.ListN.{length, drop, length-append}
+use Rattle.std.specs.Prelude.{Ok, Err, Result as Returned}
 use Rattle.laws.proofs.Never.{never}
 use Rattle.laws.specs.Parts.{written}
 use Rattle.snesl.specs.declared.code.Kind.TheVariants.{Bools}
@@ -25,11 +26,10 @@ use Rattle.environment.specs.Words.{place_words, spelled, Sought, Entry}
 use Rattle.environment.specs.Needs.{listed_size, spread_size, words}
 use Rattle.environment.proofs.Stack.{part-drop, drop-above, drop-written, length-written, from-written, lowered}
 use Rattle.records.proofs.Variables.{length-variables}
+use Rattle.sink.specs.declared.state.Walk.{Walk}
 use Rattle.sink.specs.Sinks.{Sink, defined, closed, feed}
 use Rattle.steps.specs.Walking.{walked}
 use Rattle.steps.specs.Holding.{place, PlacedAt, Stopping}
-use Rattle.steps.specs.declared.Executed.{Executed}
-use Rattle.steps.specs.declared.Executed.TheVariants.{Made, Stopped}
 use Rattle.steps.proofs.Stores.{kept, newest}
 use Rattle.steps.proofs.Walking.{walked_seq, walked-with, Grown, walked-grown}
 use Rattle.steps.proofs.Performing.{stopping-as}
@@ -41,12 +41,9 @@ use Rattle.leaves.proofs.Growing.{keeps_then, onward-as, onward-stop, onward-don
 use Rattle.leaves.proofs.Told.{define-fed}
 use Rattle.bodies.proofs.Feeding.{Like, like-defined, like-fed, wide-like, fed_then}
 use Rattle.bodies.proofs.Scenes.{later}
-use Rattle.bodies.specs.declared.Entered.TheVariants as entered
 use Rattle.guards.specs.Packs.{pack_answer}
 use Rattle.guards.specs.Lists.{Guarded, Lists, AllBound, AllBinds}
 use Rattle.guards.specs.Entering.{Naming, Asks, asking, Asked, Answers, Guard, whole_code, inner_trees, opens_guard, GuardInside, GuardEnters}
-use Rattle.guards.specs.declared.Packed.{Packed}
-use Rattle.guards.specs.declared.Packed.TheVariants as packed
 use Rattle.guards.specs.declared.Guarding.{Guarding}
 use Rattle.guards.proofs.Growth.{moved}
 use Rattle.guards.proofs.All.{length-entries}
@@ -54,8 +51,8 @@ use Rattle.guards.proofs.Naming.{packs-few, listed-shallow, length-any}
 
 -- ---- what `pack_listed` answered
 
-module _ {q : Guarding} {env : List ℕ} {buf : List ℤ} {state text : List ℕ} {g : Guarded q env buf state text} {ls : NamedListing g.scene.context} {n to : ℕ}
-    {env' : List ℕ} {buf' : List ℤ} {state' text' : List ℕ} {r : Packed} (d : AllBinds g ls n to env' buf' state' text' r) where
+module _ {q : Guarding} {env : List ℕ} {buf : List ℤ} {state : Walk} {text : List ℕ} {g : Guarded q env buf state text} {ls : NamedListing g.scene.context} {n to : ℕ}
+    {env' : List ℕ} {buf' : List ℤ} {state' : Walk} {text' : List ℕ} {r : Returned Unit Refusal} (d : AllBinds g ls n to env' buf' state' text' r) where
   abbrev run : Result
   run = walked (length buf) n (pack_codes g.guard (any_pointers ls) g.scene.trees (length g.scene.machine.store)) g.scene.machine
 
@@ -64,25 +61,25 @@ module _ {q : Guarding} {env : List ℕ} {buf : List ℤ} {state text : List ℕ
     pub went_to : walked (length buf) n (pack_codes g.guard (any_pointers ls) g.scene.trees (length g.scene.machine.store)) g.scene.machine ≡ went after
     pub left : AllBound g ls to env' buf' state' text' after
 
-  ended : r ≡ packed.Whole → Ended
+  ended : r ≡ (Ok tt) → Ended
   ended e = go run refl
     where
       go : (x : Result) → run ≡ x → Ended
       go (went m) f = record { after = m; went_to = f; left = d.leaves m f }
-      go (stopped why i) f = let both : packed.Whole ≡ packed.Stopped (refusal_of why i) = sym e ∙ (d.says ∙ ap pack_answer f) in never (cc)
+      go (stopped why i) f = let both : (Ok tt) ≡ Err (refusal_of why i) = sym e ∙ (d.says ∙ ap pack_answer f) in never (cc)
 
-  packs-stopping : (x : Refusal) → r ≡ packed.Stopped x → Stopping run x
+  packs-stopping : (x : Refusal) → r ≡ Err x → Stopping run x
   packs-stopping x e = go run refl
     where
       go : (y : Result) → run ≡ y → Stopping run x
-      go (went m) f = let both : packed.Stopped x ≡ packed.Whole = sym e ∙ (d.says ∙ ap pack_answer f) in never (cc)
+      go (went m) f = let both : Err x ≡ (Ok tt) = sym e ∙ (d.says ∙ ap pack_answer f) in never (cc)
       go (stopped why i) f =
-          let both : packed.Stopped x ≡ packed.Stopped (refusal_of why i) = sym e ∙ (d.says ∙ ap pack_answer f) in
+          let both : Err x ≡ Err (refusal_of why i) = sym e ∙ (d.says ∙ ap pack_answer f) in
           record { why = why; where-at = i; stops = f; refuses = cc }
 
 -- ---- the guard at k
 
-module _ {t : List ℕ} {k sp : ℕ} {env : List ℕ} {buf : List ℤ} {state text : List ℕ} (g : Guard t k sp env buf state text) where
+module _ {t : List ℕ} {k sp : ℕ} {env : List ℕ} {buf : List ℤ} {state : Walk} {text : List ℕ} (g : Guard t k sp env buf state text) where
   abbrev store : Store
   store = g.scene.machine.store
 
@@ -152,7 +149,7 @@ module _ {t : List ℕ} {k sp : ℕ} {env : List ℕ} {buf : List ℤ} {state te
           few = omega (arith, g.few, g.bytes);
         }
 
-    module _ (n : ℕ) {env₁ : List ℕ} {buf₁ : List ℤ} {state₁ text₁ : List ℕ} {r₁ : Executed}
+    module _ (n : ℕ) {env₁ : List ℕ} {buf₁ : List ℤ} {state₁ : Walk} {text₁ : List ℕ} {r₁ : Returned ℕ Refusal}
         (w₁ : Answers (root (lookup g.pointer g.scene.trees)) sp g.scene.machine g.scene.sink n env env₁ buf buf₁ state₁ text₁ r₁) where
       abbrev inside-at : ℕ
       inside-at = s + (2 + packs_size us)
@@ -167,18 +164,18 @@ module _ {t : List ℕ} {k sp : ℕ} {env : List ℕ} {buf : List ℤ} {state te
       unfolding code
       start-code = refl
 
-      enters-stopped : {env' : List ℕ} {buf' : List ℤ} {state' text' : List ℕ} {q : Refusal}
-          → Stopping (walked (length buf) n (asking guard s (packing ⨾ control)) g.scene.machine) q → GuardEnters g n env' buf' state' text' (entered.Stopped q)
+      enters-stopped : {env' : List ℕ} {buf' : List ℤ} {state' : Walk} {text' : List ℕ} {q : Refusal}
+          → Stopping (walked (length buf) n (asking guard s (packing ⨾ control)) g.scene.machine) q → GuardEnters g n env' buf' state' text' (Err q)
       enters-stopped {q = q} x =
           record {
-            goes_in = λ a b f. never (cc);
+            goes_in = λ e' f. never (cc);
             stops = λ q' f. let same : q ≡ q' = cc in subst (Stopping (walked (length buf) n (whole_code g) g.scene.machine)) same (stopping-as start-code x);
           }
 
-      pub flags-refused : {q : Refusal} → r₁ ≡ Stopped q → GuardEnters g n env₁ buf₁ state₁ text₁ (entered.Stopped q)
+      pub flags-refused : {q : Refusal} → r₁ ≡ Err q → GuardEnters g n env₁ buf₁ state₁ text₁ (Err q)
       flags-refused {q} f = enters-stopped (w₁.stops q f (packing ⨾ control))
 
-      module _ {i : ℕ} (e₁ : r₁ ≡ Made i) (long : length buf₁ ≡ length buf) where
+      module _ {i : ℕ} (e₁ : r₁ ≡ Ok i) (long : length buf₁ ≡ length buf) where
         pub a : Asked (root (lookup g.pointer g.scene.trees)) sp g.scene.machine g.scene.sink n i env env₁ buf buf₁ state₁ text₁
         a = w₁.made i e₁
 
@@ -251,11 +248,11 @@ module _ {t : List ℕ} {k sp : ℕ} {env : List ℕ} {buf : List ℤ} {state te
               ∙ (walked_seq (length buf) n packing control a.after
               ∙ (λ x. onward (walked (sym long x) n (pack_codes guard us g.scene.trees (sym next₁ x)) a.after) (walked (length buf) n control)))
 
-          module _ {env₂ : List ℕ} {buf₂ : List ℤ} {state₂ text₂ : List ℕ} {r₂ : Packed} (d : AllBinds lists.guarded g.list n (sp - 3 - wide) env₂ buf₂ state₂ text₂ r₂) where
-            pub packs-refused : {q : Refusal} → r₂ ≡ packed.Stopped q → GuardEnters g n env₂ buf₂ state₂ text₂ (entered.Stopped q)
+          module _ {env₂ : List ℕ} {buf₂ : List ℤ} {state₂ : Walk} {text₂ : List ℕ} {r₂ : Returned Unit Refusal} (d : AllBinds lists.guarded g.list n (sp - 3 - wide) env₂ buf₂ state₂ text₂ r₂) where
+            pub packs-refused : {q : Refusal} → r₂ ≡ Err q → GuardEnters g n env₂ buf₂ state₂ text₂ (Err q)
             packs-refused {q} f = enters-stopped (stopping-as packs-code (onward-stop (walked (length buf) n control) (packs-stopping d q f)))
 
-            module _ (f : r₂ ≡ packed.Whole) (long₂ : length env₂ ≡ length env₁) where
+            module _ (f : r₂ ≡ (Ok tt)) (long₂ : length env₂ ≡ length env₁) where
               end : Ended d
               end = ended d f
 
@@ -384,13 +381,12 @@ module _ {t : List ℕ} {k sp : ℕ} {env : List ℕ} {buf : List ℤ} {state te
                     few = omega (arith, number, packs-most, g.few, g.bytes);
                   }
 
-              pub guard-entered : GuardEnters g n env₂ buf₂ state₂ text₂ (entered.Body (sp - 3 - wide) i)
+              pub guard-entered : GuardEnters g n env₂ buf₂ state₂ text₂ (Ok (record { inner = sp - 3 - wide; units = i }))
               guard-entered =
                   record {
                     goes_in =
-                        λ x y q.
-                        let same : base ≡ x = cc in
-                        let too : i ≡ y = cc in
-                        subst (λ c. GuardInside g n c y env₂ buf₂ state₂ text₂) same (subst (λ c. GuardInside g n base c env₂ buf₂ state₂ text₂) too inside);
+                        λ e' q.
+                        let same : record { inner = sp - 3 - wide; units = i } ≡ e' = cc in
+                        subst (λ c. GuardInside g n c.inner c.units env₂ buf₂ state₂ text₂) same inside;
                     stops = λ q h. never (cc);
                   }

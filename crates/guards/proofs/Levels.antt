@@ -7,6 +7,7 @@ use mathlib.Core.Path.{◌≡◌, refl, sym, ◌∙◌, ap, ap₂, subst}
 use native.Mathlib.Omega.{arith}
 use lib.IntN.{ℤ}
 use lib.ListN.{length, get_or, drop, length-append}
+use Rattle.std.specs.Prelude.{Ok, Err, Result as Returned}
 use Rattle.laws.proofs.Never.{never}
 use Rattle.laws.specs.Parts.{part, written}
 use Rattle.snesl.specs.declared.code.Base.{Base}
@@ -22,11 +23,10 @@ use Rattle.snesl.specs.Translation.{id, pack_size, pack_tree, pack_code, control
 use Rattle.environment.specs.Words.{place_words, tree_words, tree_size}
 use Rattle.environment.proofs.Stack.{part-front, part-back, drop-written, length-written, at-written}
 use Rattle.environment.proofs.Finding.{length-tree}
+use Rattle.sink.specs.declared.state.Walk.{Walk}
 use Rattle.sink.specs.Sinks.{Sink, defined, opened, closed, feed}
 use Rattle.steps.specs.Walking.{stepped, walked}
 use Rattle.steps.specs.Holding.{Held, keeps, place, PlacedAt, Stopping}
-use Rattle.steps.specs.declared.Executed.{Executed}
-use Rattle.steps.specs.declared.Executed.TheVariants.{Made, Stopped}
 use Rattle.steps.proofs.Stores.{kept, newest}
 use Rattle.steps.proofs.Walking.{walked-define, walked-with}
 use Rattle.steps.proofs.Stepping.{units_of_lem}
@@ -38,7 +38,6 @@ use Rattle.leaves.proofs.Making.{Making, making, stopping}
 use Rattle.bodies.proofs.Feeding.{wide-like, like-defined}
 use Rattle.guards.specs.Packs.{Puts, Placed, Packs, pack_answer, deeper, opens, Level, Levels}
 use Rattle.guards.specs.declared.Packing.{Packing}
-use Rattle.guards.specs.declared.Packed.TheVariants as packed
 use Rattle.guards.proofs.Words.{beside-written}
 use Rattle.guards.proofs.Growth.{data-solid, base-is, kinds_kept, words-kept, kinds-outer, kinds-inner, moved, place-later}
 use Rattle.guards.proofs.Putting.{Stored, stored, halts}
@@ -46,7 +45,7 @@ use Rattle.guards.proofs.Putting.{Stored, stored, halts}
 grown-one : (σ ρ : Store) (a : Stream) → ρ ≡ σ ++ a ∷ [] → length ρ ≡ length σ + 1
 grown-one σ ρ a e = ap length e ∙ length-append σ (a ∷ [])
 
-module _ {p : Packing} {d : ℕ} {t : Tree ℕ d} {f b : ℕ} {c : Base} {m : State} {k : Sink} {env : List ℕ} {buf : List ℤ} {state text : List ℕ} (g : Packs p (node t f) b c m k env buf state text) where
+module _ {p : Packing} {d : ℕ} {t : Tree ℕ d} {f b : ℕ} {c : Base} {m : State} {k : Sink} {env : List ℕ} {buf : List ℤ} {state : Walk} {text : List ℕ} (g : Packs p (node t f) b c m k env buf state text) where
   abbrev z : ℕ
   z = length m.store
 
@@ -126,7 +125,7 @@ module _ {p : Packing} {d : ℕ} {t : Tree ℕ d} {f b : ℕ} {c : Base} {m : St
   abbrev sink₁ : Sink
   sink₁ = defined z (UPack (id b) (id f)) k
 
-  module _ (n : ℕ) {env₁ : List ℕ} {buf₁ : List ℤ} {state₁ text₁ : List ℕ} (o : Stored (length buf) n (UPack (id b) (id f)) (p.to + 3 * p.depth) m k env env₁ buf buf₁ state₁ text₁) where
+  module _ (n : ℕ) {env₁ : List ℕ} {buf₁ : List ℤ} {state₁ : Walk} {text₁ : List ℕ} (o : Stored (length buf) n (UPack (id b) (id f)) (p.to + 3 * p.depth) m k env env₁ buf buf₁ state₁ text₁) where
     next₁ : length o.after.store ≡ z + 1
     next₁ = grown-one m.store o.after.store o.stream o.store
 
@@ -169,7 +168,7 @@ module _ {p : Packing} {d : ℕ} {t : Tree ℕ d} {f b : ℕ} {c : Base} {m : St
     abbrev sink₂ : Sink
     sink₂ = defined (length o.after.store) (Distr (id f) (id b)) sink₁
 
-    module _ {env₂ : List ℕ} {buf₂ : List ℤ} {state₂ text₂ : List ℕ} (same₁ : length buf₁ ≡ length buf)
+    module _ {env₂ : List ℕ} {buf₂ : List ℤ} {state₂ : Walk} {text₂ : List ℕ} (same₁ : length buf₁ ≡ length buf)
         (o₂ : Stored (length buf₁) n (Distr (id f) (id b)) (p.low - 3) o.after (defined (length m.store) (UPack (id b) (id f)) k) env₁ env₂ buf₁ buf₂ state₂ text₂) where
       next₂ : length o₂.after.store ≡ z + 2
       next₂ = grown-one o.after.store o₂.after.store o₂.stream o₂.store ∙ omega (arith, next₁)
@@ -200,7 +199,7 @@ module _ {p : Packing} {d : ℕ} {t : Tree ℕ d} {f b : ℕ} {c : Base} {m : St
           ∙ (onward-as (walked (length buf) n last) (ap (λ l. stepped l n (Distr (id f) (id b)) o.after) (sym same₁) ∙ o₂.went_to)
           ∙ walked-define (length buf) n (Usum (id f)) (controlled (z + 2) (z + 3) (pack_code (z + 1) t (z + 3)) (pack_tree t (z + 3))) o₂.after)))
 
-      module _ {buf₃ : List ℤ} {state₃ text₃ : List ℕ} {i : ℕ} (same₂ : length buf₂ ≡ length buf)
+      module _ {buf₃ : List ℤ} {state₃ : Walk} {text₃ : List ℕ} {i : ℕ} (same₂ : length buf₂ ≡ length buf)
           (u : Making (length buf₂) n (Usum (id f)) o₂.after (defined (length o.after.store) (Distr (id f) (id b)) (defined (length m.store) (UPack (id b) (id f)) k)) buf₂ buf₃ state₃ text₃ i) where
         units-stored : u.after.store ≡ o₂.after.store ++ units i ∷ []
         units-stored =
@@ -340,7 +339,7 @@ module _ {p : Packing} {d : ℕ} {t : Tree ℕ d} {f b : ℕ} {c : Base} {m : St
 
 -- ---- the function's way, with the ids as they are read from the stack
 
-module _ {p : Packing} {d : ℕ} {t : Tree ℕ d} {f b : ℕ} {c : Base} {m : State} {k : Sink} {env : List ℕ} {buf : List ℤ} {state text : List ℕ} (g : Packs p (node t f) b c m k env buf state text) where
+module _ {p : Packing} {d : ℕ} {t : Tree ℕ d} {f b : ℕ} {c : Base} {m : State} {k : Sink} {env : List ℕ} {buf : List ℤ} {state : Walk} {text : List ℕ} (g : Packs p (node t f) b c m k env buf state text) where
   upack-is : UPack (id (get_or env p.bools 0)) (id (get_or env (p.from + 3 * p.depth) 0)) ≡ UPack (id b) (id f)
   upack-is = ap₂ (λ i j. UPack (id i) (id j)) (bools-named g) (flags-named g)
 
@@ -353,23 +352,23 @@ module _ {p : Packing} {d : ℕ} {t : Tree ℕ d} {f b : ℕ} {c : Base} {m : St
   pub first-ready : Puts (UPack (id (get_or env p.bools 0)) (id (get_or env (p.from + 3 * p.depth) 0))) (record { first = p.bools; second = p.from + 3 * p.depth }) (p.to + 3 * p.depth) env buf state text m k
   first-ready = subst (λ t. Puts t (record { first = p.bools; second = p.from + 3 * p.depth }) (p.to + 3 * p.depth) env buf state text m k) (sym upack-is) (upack-ready g)
 
-  stops_so : {n : ℕ} {env' : List ℕ} {buf' : List ℤ} {state' text' : List ℕ} {q : Refusal} → Stopping (walked (length buf) n (pack_code b (node t f) (length m.store)) m) q
-      → Levels p t f b c m k n env env' buf buf' state' text' (Stopped q)
+  stops_so : {n : ℕ} {env' : List ℕ} {buf' : List ℤ} {state' : Walk} {text' : List ℕ} {q : Refusal} → Stopping (walked (length buf) n (pack_code b (node t f) (length m.store)) m) q
+      → Levels p t f b c m k n env env' buf buf' state' text' (Err q)
   stops_so {q = q} s =
       record {
         goes_in = λ i e. never (cc);
-        stops = λ q' e. let same : q ≡ q' = cc in ap packed.Stopped (sym same) ∙ (ap packed.Stopped s.refuses ∙ ap pack_answer (sym s.stops));
+        stops = λ q' e. let same : q ≡ q' = cc in ap Err (sym same) ∙ (ap Err s.refuses ∙ ap pack_answer (sym s.stops));
       }
 
-  module _ (n : ℕ) {env₁ : List ℕ} {buf₁ : List ℤ} {state₁ text₁ : List ℕ} {r₁ : Executed}
+  module _ (n : ℕ) {env₁ : List ℕ} {buf₁ : List ℤ} {state₁ : Walk} {text₁ : List ℕ} {r₁ : Returned ℕ Refusal}
       (w₁ : Placed (length buf) n (UPack (id (get_or env p.bools 0)) (id (get_or env (p.from + 3 * p.depth) 0))) (p.to + 3 * p.depth) m k env env₁ buf buf₁ state₁ text₁ r₁) where
     own₁ : Placed (length buf) n (UPack (id b) (id f)) (p.to + 3 * p.depth) m k env env₁ buf buf₁ state₁ text₁ r₁
     own₁ = subst (λ t. Placed (length buf) n t (p.to + 3 * p.depth) m k env env₁ buf buf₁ state₁ text₁ r₁) upack-is w₁
 
-    pub first-stopped : {q : Refusal} → r₁ ≡ Stopped q → Levels p t f b c m k n env env₁ buf buf₁ state₁ text₁ (Stopped q)
+    pub first-stopped : {q : Refusal} → r₁ ≡ Err q → Levels p t f b c m k n env env₁ buf buf₁ state₁ text₁ (Err q)
     first-stopped e = stops_so (stopping-as (first_code g (length buf) n) (onward-stop (walked (length buf) n (rest g)) (halts own₁ e)))
 
-    module _ {l₁ : ℕ} (e₁ : r₁ ≡ Made l₁) where
+    module _ {l₁ : ℕ} (e₁ : r₁ ≡ Ok l₁) where
       pub so₁ : Stored (length buf) n (UPack (id b) (id f)) (p.to + 3 * p.depth) m k env env₁ buf buf₁ state₁ text₁
       so₁ = stored own₁ e₁
 
@@ -378,12 +377,12 @@ module _ {p : Packing} {d : ℕ} {t : Tree ℕ d} {f b : ℕ} {c : Base} {m : St
           subst (λ t. Puts t (record { first = p.from + 3 * p.depth; second = p.bools }) (p.low - 3) env₁ buf₁ state₁ text₁ so₁.after (defined (length m.store) (UPack (id b) (id f)) k)) (sym distr-is)
           (distr-ready g n so₁)
 
-      module _ {env₂ : List ℕ} {buf₂ : List ℤ} {state₂ text₂ : List ℕ} {r₂ : Executed} (same₁ : length buf₁ ≡ length buf)
+      module _ {env₂ : List ℕ} {buf₂ : List ℤ} {state₂ : Walk} {text₂ : List ℕ} {r₂ : Returned ℕ Refusal} (same₁ : length buf₁ ≡ length buf)
           (w₂ : Placed (length buf₁) n (Distr (id (get_or env (p.from + 3 * p.depth) 0)) (id (get_or env p.bools 0))) (p.low - 3) so₁.after (defined (length m.store) (UPack (id b) (id f)) k) env₁ env₂ buf₁ buf₂ state₂ text₂ r₂) where
         own₂ : Placed (length buf₁) n (Distr (id f) (id b)) (p.low - 3) so₁.after (defined (length m.store) (UPack (id b) (id f)) k) env₁ env₂ buf₁ buf₂ state₂ text₂ r₂
         own₂ = subst (λ t. Placed (length buf₁) n t (p.low - 3) so₁.after (defined (length m.store) (UPack (id b) (id f)) k) env₁ env₂ buf₁ buf₂ state₂ text₂ r₂) distr-is w₂
 
-        pub second-stopped : {q : Refusal} → r₂ ≡ Stopped q → Levels p t f b c m k n env env₂ buf buf₂ state₂ text₂ (Stopped q)
+        pub second-stopped : {q : Refusal} → r₂ ≡ Err q → Levels p t f b c m k n env env₂ buf buf₂ state₂ text₂ (Err q)
         second-stopped {q} e =
             let s = halts own₂ e in
             stops_so
@@ -392,7 +391,7 @@ module _ {p : Packing} {d : ℕ} {t : Tree ℕ d} {f b : ℕ} {c : Base} {m : St
             ∙ (onward-as (walked (length buf) n (rest g)) so₁.went_to ∙ (walked-define (length buf) n (Distr (id f) (id b)) (last g) so₁.after ∙ ap (λ l. onward (stepped l n (Distr (id f) (id b)) so₁.after) (walked (length buf) n (last g))) (sym same₁))))
             (onward-stop (walked (length buf) n (last g)) s))
 
-        module _ {l₂ : ℕ} (e₂ : r₂ ≡ Made l₂) where
+        module _ {l₂ : ℕ} (e₂ : r₂ ≡ Ok l₂) where
           pub so₂ : Stored (length buf₁) n (Distr (id f) (id b)) (p.low - 3) so₁.after (defined (length m.store) (UPack (id b) (id f)) k) env₁ env₂ buf₁ buf₂ state₂ text₂
           so₂ = stored own₂ e₂
 
@@ -401,7 +400,7 @@ module _ {p : Packing} {d : ℕ} {t : Tree ℕ d} {f b : ℕ} {c : Base} {m : St
               subst (λ t. Makes t (record { first = p.from + 3 * p.depth; second = p.bools }) env₂ buf₂ state₂ text₂ so₂.after (defined (length so₁.after.store) (Distr (id f) (id b)) (defined (length m.store) (UPack (id b) (id f)) k))) (sym usum-is)
               (usum-ready g n so₁ same₁ so₂ p.bools)
 
-          module _ {buf₃ : List ℤ} {state₃ text₃ : List ℕ} {r₃ : Executed} (same₂ : length buf₂ ≡ length buf)
+          module _ {buf₃ : List ℤ} {state₃ : Walk} {text₃ : List ℕ} {r₃ : Returned ℕ Refusal} (same₂ : length buf₂ ≡ length buf)
               (w₃ : Instructed (stepped (length buf₂) n (Usum (id (get_or env (p.from + 3 * p.depth) 0))) so₂.after) (Usum (id (get_or env (p.from + 3 * p.depth) 0))) so₂.after (defined (length so₁.after.store) (Distr (id f) (id b)) (defined (length m.store) (UPack (id b) (id f)) k)) buf₂ buf₃ state₃ text₃ r₃) where
             own₃ : Instructed (stepped (length buf₂) n (Usum (id f)) so₂.after) (Usum (id f)) so₂.after (defined (length so₁.after.store) (Distr (id f) (id b)) (defined (length m.store) (UPack (id b) (id f)) k)) buf₂ buf₃ state₃ text₃ r₃
             own₃ =
@@ -417,5 +416,5 @@ module _ {p : Packing} {d : ℕ} {t : Tree ℕ d} {f b : ℕ} {c : Base} {m : St
                       let s =
                       stopping-as (second-code g n so₁ same₁ so₂ ∙ ap (λ l. onward (stepped l n (Usum (id f)) so₂.after) (walked (length buf) n (under g))) (sym same₂))
                       (onward-stop (walked (length buf) n (under g)) (stopping (length buf₂) n (Usum (id f)) own₃ q e)) in
-                      ap packed.Stopped s.refuses ∙ ap pack_answer (sym s.stops);
+                      ap Err s.refuses ∙ ap pack_answer (sym s.stops);
                 }

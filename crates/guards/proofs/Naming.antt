@@ -2,7 +2,7 @@
 use Prim.Native.Nat.{ℕ, zero, suc, ◌+◌, ◌*◌, ◌-◌, ◌≤◌, ◌<◌}
 use mathlib.Core.List.{List, [], ◌∷◌}
 use mathlib.Core.Option.{some}
-use mathlib.Core.Path.{◌≡◌, refl, sym, ◌∙◌, ap}
+use mathlib.Core.Path.{◌≡◌, refl, sym, ◌∙◌, ap, transport}
 use native.Mathlib.Omega.{arith}
 use lib.ListN.{length, get_or}
 use Rattle.snesl.specs.declared.code.Variable.{Variable}
@@ -50,8 +50,12 @@ pub record Counting {t : List ℕ} {at₀ left₀ sp : ℕ} {env : List ℕ} (g 
   pub most : words + 29 * left ≤ 29 * left₀
 
 module _ {t : List ℕ} {at₀ left₀ sp : ℕ} {env : List ℕ} (g : Naming t at₀ left₀ sp env) where
-  pub counting-start : Counting g at₀ left₀ 0
-  counting-start = record { left_over = g; total = omega arith; most = omega arith }
+  -- The same count, with its numbers written in another way.
+  counting-as : {at at' left left' words : ℕ} → at ≡ at' → left ≡ left' → Counting g at left words → Counting g at' left' words
+  counting-as {words = words} p q h = transport (λ i. Counting g (p i) (q i) words) h
+
+  pub counting-start : {at left : ℕ} → at ≡ at₀ → left ≡ left₀ → Counting g at left 0
+  counting-start p q = counting-as (sym p) (sym q) (record { left_over = g; total = omega arith; most = omega arith })
 
   module _ {at left words : ℕ} (h : Counting g at left words) where
     pub counting-done : left ≤ 0 → words ≡ listed_size (any_pointers g.list)
@@ -89,9 +93,10 @@ module _ {t : List ℕ} {at₀ left₀ sp : ℕ} {env : List ℕ} (g : Naming t 
         pub depth-within : p + 2 ≤ length env
         depth-within = omega (arith, e.within)
 
-        pub counting-turn : Counting g (at + 1) (left - 1) (words + (5 + 3 * get_or env (p + 1) 0))
-        counting-turn =
-            record {
+        pub counting-turn : {at' left' : ℕ} → at + 1 ≡ at' → left - 1 ≡ left' → Counting g at' left' (words + (5 + 3 * get_or env (p + 1) 0))
+        counting-turn a l =
+            counting-as a l
+            (record {
               left_over =
                   record {
                     context = h.left_over.context;
@@ -106,4 +111,4 @@ module _ {t : List ℕ} {at₀ left₀ sp : ℕ} {env : List ℕ} (g : Naming t 
                   };
               total = omega (arith, e.depth, size_is, h.total);
               most = omega (arith, depth-few, h.most);
-            }
+            })

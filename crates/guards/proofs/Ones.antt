@@ -7,6 +7,7 @@ use mathlib.Core.Path.{◌≡◌, refl, sym, ◌∙◌, ap}
 use native.Mathlib.Omega.{arith}
 use lib.IntN.{ℤ}
 use lib.ListN.{length, get_or, drop}
+use Rattle.std.specs.Prelude.{Ok, Err, Result as Returned}
 use Rattle.laws.proofs.Never.{never}
 use Rattle.laws.specs.Parts.{part, written}
 use Rattle.snesl.specs.declared.code.Base.{Base}
@@ -24,6 +25,7 @@ use Rattle.environment.specs.Words.{tree_words, tree_size, Sought, Entry}
 use Rattle.environment.specs.Needs.{binding_size}
 use Rattle.environment.proofs.Stack.{length-written, written_then_lem}
 use Rattle.environment.proofs.Finding.{length-tree}
+use Rattle.sink.specs.declared.state.Walk.{Walk}
 use Rattle.steps.specs.Walking.{walked}
 use Rattle.steps.specs.Holding.{place}
 use Rattle.steps.proofs.Stepping.{flags_of}
@@ -33,10 +35,7 @@ use Rattle.leaves.proofs.Operands.{sought}
 use Rattle.guards.specs.Packs.{Kinds, kinds-leaf, kinds-node, Packs, pack_answer, Leaves, Ends}
 use Rattle.guards.specs.Lists.{Chosen, one_answer, Enters}
 use Rattle.guards.specs.declared.Packing.{Packing}
-use Rattle.guards.specs.declared.Packed.{Packed}
-use Rattle.guards.specs.declared.Packed.TheVariants as packed
 use Rattle.guards.specs.declared.Guarding.{Guarding}
-use Rattle.guards.specs.declared.Bound.TheVariants as bound
 use Rattle.guards.proofs.Words.{beside-written}
 
 -- ---- a type's tree is one of its base
@@ -61,7 +60,7 @@ shapely-of (braces τ) (kinds-node a k e h) = let d = flags_of a h in shapely-no
 
 -- ---- one variable
 
-module _ {u : Variable} {to : ℕ} {q : Guarding} {env : List ℕ} {buf : List ℤ} {state text : List ℕ} (g : Chosen u to q env buf state text) where
+module _ {u : Variable} {to : ℕ} {q : Guarding} {env : List ℕ} {buf : List ℤ} {state : Walk} {text : List ℕ} (g : Chosen u to q env buf state text) where
   abbrev pub one-sought : Sought env q.sp u
   one-sought = sought g.guarded.scene g.pointer g.finds
 
@@ -126,7 +125,7 @@ module _ {u : Variable} {to : ℕ} {q : Guarding} {env : List ℕ} {buf : List �
             few = g.few;
           }
 
-      module _ (n : ℕ) {env₂ : List ℕ} {buf₂ : List ℤ} {state₂ text₂ : List ℕ} {r : Packed}
+      module _ (n : ℕ) {env₂ : List ℕ} {buf₂ : List ℤ} {state₂ : Walk} {text₂ : List ℕ} {r : Returned Unit Refusal}
           (v : Ends (record { depth = get_or env (p + 1) 0; from = p + 2; to = to + 2; bools = q.bools; low = q.base }) (lookup g.pointer g.guarded.scene.trees) g.guarded.guard (base_of g.type)
           g.guarded.scene.machine g.guarded.scene.sink n env₁ env₂ buf buf₂ state₂ text₂ r) where
         abbrev s : ℕ
@@ -135,16 +134,16 @@ module _ {u : Variable} {to : ℕ} {q : Guarding} {env : List ℕ} {buf : List �
         abbrev run : Result
         run = walked (length buf) n (pack_code g.guarded.guard tree s) g.guarded.scene.machine
 
-        pub one-stopped : {x : Refusal} → r ≡ packed.Stopped x → Enters g n env₂ buf₂ state₂ text₂ (bound.Stopped x)
+        pub one-stopped : {x : Refusal} → r ≡ Err x → Enters g n env₂ buf₂ state₂ text₂ (Err x)
         one-stopped {x} h = go run refl
           where
-            go : (y : Result) → run ≡ y → Enters g n env₂ buf₂ state₂ text₂ (bound.Stopped x)
-            go (went m) f = let both : packed.Stopped x ≡ packed.Whole = sym h ∙ (v.says ∙ ap pack_answer f) in never (cc)
+            go : (y : Result) → run ≡ y → Enters g n env₂ buf₂ state₂ text₂ (Err x)
+            go (went m) f = let both : Err x ≡ (Ok tt) = sym h ∙ (v.says ∙ ap pack_answer f) in never (cc)
             go (stopped why i) f =
-                let both : packed.Stopped x ≡ packed.Stopped (refusal_of why i) = sym h ∙ (v.says ∙ ap pack_answer f) in
+                let both : Err x ≡ Err (refusal_of why i) = sym h ∙ (v.says ∙ ap pack_answer f) in
                 let same : x ≡ refusal_of why i = cc in
                 record {
-                  says = ap bound.Stopped same ∙ ap (one_answer (to + binding_size d)) (sym f);
+                  says = ap Err same ∙ ap (one_answer (to + binding_size d)) (sym f);
                   leaves = λ m j. let b : stopped why i ≡ went m = sym f ∙ j in never (cc);
                 }
 
@@ -158,15 +157,15 @@ module _ {u : Variable} {to : ℕ} {q : Guarding} {env : List ℕ} {buf : List �
             (ap (written (to + 2) t) (w ∙ ap (λ i. written to (u.0 ∷ i ∷ []) env) e.depth)
             ∙ written_then_lem env to (u.0 ∷ d ∷ []) t (to + 2) refl (omega (arith, long, g.space, g.guarded.scene.within)))
 
-        pub one-whole : r ≡ packed.Whole → Enters g n env₂ buf₂ state₂ text₂ (bound.Until (to + 5 + 3 * get_or env (p + 1) 0))
+        pub one-whole : r ≡ (Ok tt) → Enters g n env₂ buf₂ state₂ text₂ (Ok (to + 5 + 3 * get_or env (p + 1) 0))
         one-whole h = go run refl
           where
-            go : (y : Result) → run ≡ y → Enters g n env₂ buf₂ state₂ text₂ (bound.Until (to + 5 + 3 * get_or env (p + 1) 0))
-            go (stopped why i) f = let both : packed.Whole ≡ packed.Stopped (refusal_of why i) = sym h ∙ (v.says ∙ ap pack_answer f) in never (cc)
+            go : (y : Result) → run ≡ y → Enters g n env₂ buf₂ state₂ text₂ (Ok (to + 5 + 3 * get_or env (p + 1) 0))
+            go (stopped why i) f = let both : (Ok tt) ≡ Err (refusal_of why i) = sym h ∙ (v.says ∙ ap pack_answer f) in never (cc)
             go (went m) f =
                 let next : to + 5 + 3 * get_or env (p + 1) 0 ≡ to + binding_size d = omega (arith, e.depth) in
                 record {
-                  says = ap bound.Until next ∙ ap (one_answer (to + binding_size d)) (sym f);
+                  says = ap Ok next ∙ ap (one_answer (to + binding_size d)) (sym f);
                   leaves =
                       λ m' j.
                       let l = v.leaves m' j in

@@ -5,6 +5,7 @@ use mathlib.Core.Path.{◌≡◌, refl, sym, ◌∙◌, ap}
 use native.Mathlib.Omega.{arith}
 use lib.IntN.{ℤ}
 use lib.ListN.{length, get_or}
+use Rattle.std.specs.Prelude.{Ok, Err, Result as Returned}
 use Rattle.laws.proofs.Never.{never}
 use Rattle.laws.specs.Parts.{written}
 use Rattle.snesl.specs.declared.code.Transducer.{Transducer}
@@ -14,13 +15,12 @@ use Rattle.snesl.specs.Transducers.{signature, carried}
 use Rattle.snesl.specs.Machine.{State, Result, went, stopped}
 use Rattle.snesl.specs.Outcome.{refusal_of}
 use Rattle.environment.specs.Words.{place_words}
+use Rattle.sink.specs.declared.state.Walk.{Walk}
 use Rattle.sink.specs.Sinks.{Sink, defined}
 use Rattle.sink.specs.Sunk.{Sunk}
 use Rattle.steps.specs.Walking.{stepped}
 use Rattle.steps.specs.Holding.{Held, keeps, place, Stopping}
 use Rattle.steps.specs.declared.Operands.{Operands}
-use Rattle.steps.specs.declared.Executed.{Executed}
-use Rattle.steps.specs.declared.Executed.TheVariants.{Made, Stopped}
 use Rattle.steps.proofs.Stepping.{added}
 use Rattle.leaves.specs.Making.{Instructed}
 use Rattle.leaves.proofs.Making.{Making, making, stopping}
@@ -30,9 +30,9 @@ use Rattle.guards.proofs.Growth.{solid-full}
 
 -- ---- `put` meets its contract
 
-module _ {t : Transducer} {at : Operands} {to : ℕ} {env : List ℕ} {buf : List ℤ} {state text : List ℕ} {m : State} {k : Sink} (g : Puts t at to env buf state text m k) (n : ℕ)
-    {buf₁ : List ℤ} {state₁ text₁ : List ℕ} {r : Executed} (w : Instructed (stepped (length buf) n t m) t m k buf buf₁ state₁ text₁ r) where
-  pub put-stopped : {env' : List ℕ} {q : Refusal} → r ≡ Stopped q → Placed (length buf) n t to m k env env' buf buf₁ state₁ text₁ (Stopped q)
+module _ {t : Transducer} {at : Operands} {to : ℕ} {env : List ℕ} {buf : List ℤ} {state : Walk} {text : List ℕ} {m : State} {k : Sink} (g : Puts t at to env buf state text m k) (n : ℕ)
+    {buf₁ : List ℤ} {state₁ : Walk} {text₁ : List ℕ} {r : Returned ℕ Refusal} (w : Instructed (stepped (length buf) n t m) t m k buf buf₁ state₁ text₁ r) where
+  pub put-stopped : {env' : List ℕ} {q : Refusal} → r ≡ Err q → Placed (length buf) n t to m k env env' buf buf₁ state₁ text₁ (Err q)
   put-stopped {q = q} e =
       let s = stopping (length buf) n t w q e in
       record {
@@ -40,18 +40,18 @@ module _ {t : Transducer} {at : Operands} {to : ℕ} {env : List ℕ} {buf : Lis
         gave-up = λ why i f. sym e ∙ w.gave-up why i f;
       }
 
-  module _ {made : ℕ} (e : r ≡ Made made) where
+  module _ {made : ℕ} (e : r ≡ Ok made) where
     one : Making (length buf) n t m k buf buf₁ state₁ text₁ made
     one = making (length buf) n t w made e
 
     full : length (elements one.added-to.stream) ≡ len one.added-to.stream
     full = solid-full one.added-to.stream (λ h. g.solid (carried m.store t) (sym one.added-to.kind ∙ h))
 
-    pub put-push : (4 ≤ length state₁) × (1 ≤ get_or state₁ 0 0) × (get_or state₁ 0 0 < 4294967296) × (made ≤ get_or state₁ 1 0) × (get_or state₁ 1 0 < 4294967296)
+    pub put-push : (1 ≤ state₁.machine.streams) × (state₁.machine.streams < 4294967296) × (made ≤ state₁.machine.room) × (state₁.machine.room < 4294967296)
     put-push = pushable one.held m.store one.added-to.stream one.added-to.store full one.long
 
-    pub put-made : {env' : List ℕ} → env' ≡ written (to + 3 - 3) ((get_or state₁ 0 0 - 1) ∷ (get_or state₁ 1 0 - made) ∷ made ∷ []) env
-        → Placed (length buf) n t to m k env env' buf buf₁ state₁ text₁ (Made made)
+    pub put-made : {env' : List ℕ} → env' ≡ written (to + 3 - 3) ((state₁.machine.streams - 1) ∷ (state₁.machine.room - made) ∷ made ∷ []) env
+        → Placed (length buf) n t to m k env env' buf buf₁ state₁ text₁ (Ok made)
     put-made {env'} v =
         let there : to + 3 - 3 ≡ to = omega arith in
         let words : env' ≡ written to (place_words (place one.after.store (length m.store))) env =
@@ -75,20 +75,20 @@ module _ {t : Transducer} {at : Operands} {to : ℕ} {env : List ℕ} {buf : Lis
 
 -- ---- its caller
 
-pub record Stored (cap n : ℕ) (t : Transducer) (to : ℕ) (m : State) (k : Sink) (env env' : List ℕ) (old new : List ℤ) (state text : List ℕ) : Type 0 where
+pub record Stored (cap n : ℕ) (t : Transducer) (to : ℕ) (m : State) (k : Sink) (env env' : List ℕ) (old new : List ℤ) (state : Walk) (text : List ℕ) : Type 0 where
   pub after : State
   pub went_to : stepped cap n t m ≡ went after
   pub stream : Stream
   pub store : after.store ≡ m.store ++ stream ∷ []
   pub kind : kind_of stream ≡ (signature (carried m.store t) t).output
-  pub held : Held after new state
+  pub held : Held after new state.machine
   pub kept : keeps after.store old new
-  pub sunk : Sunk (defined (length m.store) t k) text state
+  pub sunk : Sunk (defined (length m.store) t k) text state.sink
   pub words : env' ≡ written to (place_words (place after.store (length m.store))) env
 
-module _ {cap n : ℕ} {t : Transducer} {to : ℕ} {m : State} {k : Sink} {env env' : List ℕ} {old new : List ℤ} {state text : List ℕ} {r : Executed}
+module _ {cap n : ℕ} {t : Transducer} {to : ℕ} {m : State} {k : Sink} {env env' : List ℕ} {old new : List ℤ} {state : Walk} {text : List ℕ} {r : Returned ℕ Refusal}
     (p : Placed cap n t to m k env env' old new state text r) where
-  pub stored : {made : ℕ} → r ≡ Made made → Stored cap n t to m k env env' old new state text
+  pub stored : {made : ℕ} → r ≡ Ok made → Stored cap n t to m k env env' old new state text
   stored {made} e = go (stepped cap n t m) refl
     where
       go : (x : Result) → stepped cap n t m ≡ x → Stored cap n t to m k env env' old new state text
@@ -96,16 +96,16 @@ module _ {cap n : ℕ} {t : Transducer} {to : ℕ} {m : State} {k : Sink} {env e
           let a = added cap n t m m' f in
           let o = p.went_on m' a.stream f a.store in
           record { after = m'; went_to = f; stream = a.stream; store = a.store; kind = a.kind; held = o.1; kept = o.2; sunk = o.3; words = o.4 }
-      go (stopped why s) f = let same : Made made ≡ Stopped (refusal_of why s) = sym e ∙ p.gave-up why s f in never (cc)
+      go (stopped why s) f = let same : Ok made ≡ Err (refusal_of why s) = sym e ∙ p.gave-up why s f in never (cc)
 
-  pub halts : {q : Refusal} → r ≡ Stopped q → Stopping (stepped cap n t m) q
+  pub halts : {q : Refusal} → r ≡ Err q → Stopping (stepped cap n t m) q
   halts {q} e = go (stepped cap n t m) refl
     where
       go : (x : Result) → stepped cap n t m ≡ x → Stopping (stepped cap n t m) q
       go (went m') f =
           let a = added cap n t m m' f in
-          let same : Stopped q ≡ Made (len a.stream) = sym e ∙ (p.went_on m' a.stream f a.store).0 in
+          let same : Err q ≡ Ok (len a.stream) = sym e ∙ (p.went_on m' a.stream f a.store).0 in
           never (cc)
       go (stopped why s) f =
-          let same : Stopped q ≡ Stopped (refusal_of why s) = sym e ∙ p.gave-up why s f in
+          let same : Err q ≡ Err (refusal_of why s) = sym e ∙ p.gave-up why s f in
           record { why = why; where-at = s; stops = f; refuses = cc }

@@ -8,6 +8,7 @@ use native.Mathlib.Omega.{arith}
 use lib.IntN.{ℤ}
 use lib.ListN.{length, get_or, take, drop, length-append}
 use lib.Seq.{get_or-drop}
+use Rattle.std.specs.Prelude.{false, is_ok, Result as Returned}
 use Rattle.laws.proofs.Never.{never}
 use Rattle.laws.proofs.Parts.{length_part}
 use Rattle.laws.specs.Parts.{part, written}
@@ -25,8 +26,12 @@ use Rattle.snesl.specs.Translation.{pack_tree, pack_code}
 use Rattle.environment.specs.Words.{tree_words, tree_size}
 use Rattle.environment.proofs.Stack.{part-drop, drop-above, at-written}
 use Rattle.environment.proofs.Finding.{length-tree}
-use Rattle.sink.specs.Sinks.{Mode, running, listing, surveying, Sink, opened, feed, surveyed}
-use Rattle.sink.specs.Sunk.{mode_word, Sunk, Tells, Opening, opening, Opens}
+use Rattle.sink.specs.declared.state.Walk.{Walk}
+use Rattle.sink.specs.declared.state.Mode.{Mode}
+use Rattle.sink.specs.declared.state.Mode.TheVariants.{Running, Listing, Surveying}
+use Rattle.sink.specs.declared.state.Sink as lent
+use Rattle.sink.specs.Sinks.{Sink, opened, feed, surveyed}
+use Rattle.sink.specs.Sunk.{Sunk, Tells, Opening, opening, back_to, Opens}
 use Rattle.sink.proofs.Feeding.{opened-by}
 use Rattle.sink.proofs.Tidy.{Surveyable}
 use Rattle.sink.proofs.Packs.{pack-surveyable}
@@ -36,11 +41,8 @@ use Rattle.steps.specs.Holding.{place, counters, Held}
 use Rattle.steps.proofs.Stores.{contents-append, named}
 use Rattle.steps.proofs.Walking.{walked-grown}
 use Rattle.steps.proofs.Executing.{next-id}
-use Rattle.leaves.proofs.Making.{held-told}
 use Rattle.guards.specs.Packs.{Packs, pack_answer, Leaves, Ends, opens, Opened}
 use Rattle.guards.specs.declared.Packing.{Packing}
-use Rattle.guards.specs.declared.Packed.{Packed}
-use Rattle.guards.specs.declared.Packed.TheVariants as packed
 use Rattle.guards.proofs.Words.{itself}
 use Rattle.guards.proofs.Growth.{kinds-below}
 
@@ -69,39 +71,24 @@ unfolding order
 length-order (leaf x) = refl
 length-order (node t f) = length-append (order t) (f ∷ []) ∙ omega (arith, length-order t)
 
--- ---- the words
+-- ---- the mode
 
-three-behind : (l : List ℕ) (a b c d : ℕ) → take 4 l ≡ a ∷ b ∷ c ∷ d ∷ [] → take 3 (drop 1 l) ≡ b ∷ c ∷ d ∷ []
-three-behind [] a b c d e = never (cc)
-three-behind (x ∷ l) a b c d e = ap (drop 1) e
-
-module _ {k : Sink} {text state : List ℕ} (s : Sunk k text state) where
-  mode-word : get_or state 4 0 ≡ mode_word k.mode
-  mode-word = sym (get_or-drop 4 state 0 0) ∙ ap (λ l. get_or l 0 0) s.words
-
-  pub five-words : 5 ≤ length state
-  five-words = omega (arith, s.whole)
-
+module _ {k : Sink} {text : List ℕ} {w : lent.Sink} (s : Sunk k text w) where
   -- a sink that doesn't list is left alone by an opening
-  not-told : (get_or state 4 0 ≡ 1 → ⊥) → (outs : List ℕ) (c : ℕ) (ins : List ℕ) → k ≡ opened outs c ins k
+  not-told : (w.mode ≡ Listing → ⊥) → (outs : List ℕ) (c : ℕ) (ins : List ℕ) → k ≡ opened outs c ins k
   not-told f outs c ins = go k.mode refl
     where
       go : (m : Mode) → k.mode ≡ m → k ≡ opened outs c ins k
-      go running e = sym (opened-by k e outs c ins)
-      go listing e = absurd (f (mode-word ∙ ap mode_word e))
-      go surveying e = sym (opened-by k e outs c ins)
+      go Running e = sym (opened-by k e outs c ins)
+      go Listing e = absurd (f (s.mode-is ∙ e))
+      go Surveying e = sym (opened-by k e outs c ins)
 
-  lists : get_or state 4 0 ≡ 1 → k.mode ≡ listing
-  lists f = go k.mode refl
-    where
-      go : (m : Mode) → k.mode ≡ m → k.mode ≡ listing
-      go running e = let z : ◌≡◌ {A = ℕ} 0 1 = sym (ap mode_word e) ∙ (sym mode-word ∙ f) in absurd (omega arith)
-      go listing e = e
-      go surveying e = let z : ◌≡◌ {A = ℕ} 2 1 = sym (ap mode_word e) ∙ (sym mode-word ∙ f) in absurd (omega arith)
+  lists : w.mode ≡ Listing → k.mode ≡ Listing
+  lists f = sym s.mode-is ∙ f
 
 -- ---- the survey
 
-module _ {p : Packing} {d : ℕ} {t : Tree ℕ d} {b : ℕ} {c : Base} {m : State} {k : Sink} {env : List ℕ} {buf : List ℤ} {state text : List ℕ} (g : Packs p t b c m k env buf state text) where
+module _ {p : Packing} {d : ℕ} {t : Tree ℕ d} {b : ℕ} {c : Base} {m : State} {k : Sink} {env : List ℕ} {buf : List ℤ} {state : Walk} {text : List ℕ} (g : Packs p t b c m k env buf state text) where
   abbrev start : ℕ
   start = length m.store
 
@@ -111,11 +98,11 @@ module _ {p : Packing} {d : ℕ} {t : Tree ℕ d} {b : ℕ} {c : Base} {m : Stat
   fits : p.to + tree_size d ≤ length env
   fits = omega (arith, g.apart, g.within)
 
-  pub no_line : (get_or state 4 0 ≡ 1 → ⊥) → Opened p t b m k env env buf buf state text
+  pub no_line : (state.sink.mode ≡ Listing → ⊥) → Opened p t b m k env env buf buf state text
   no_line f =
       record {
         held = g.held;
-        sunk = subst (λ j. Sunk j text state) (not-told g.sunk f (ascending (among (order (pack_tree t start)) (dv start body))) (start - 1) (ascending (fv start body))) g.sunk;
+        sunk = subst (λ j. Sunk j text state.sink) (not-told g.sunk f (ascending (among (order (pack_tree t start)) (dv start body))) (start - 1) (ascending (fv start body))) g.sunk;
         kept = refl;
         scratch = part p.to (tree_size d) env;
         scratch-long = length_part p.to (tree_size d) env fits;
@@ -123,15 +110,15 @@ module _ {p : Packing} {d : ℕ} {t : Tree ℕ d} {b : ℕ} {c : Base} {m : Stat
       }
 
   -- the control is the stream made last
-  pub some-streams : 1 ≤ get_or state 0 0
+  pub some-streams : 1 ≤ state.machine.streams
   some-streams = omega (arith, named m.store b g.placed.stream g.placed.there, next-id g.held)
 
-  module _ (list : get_or state 4 0 ≡ 1) {state₁ : List ℕ} (bg : (text : List ℕ) (j : Sink) → Sunk j text state → Tells (surveyed (get_or state 0 0) j) text state₁ state) where
-    begun-held : Held m buf state₁
-    begun-held = held-told g.held (bg text k g.sunk).machine
+  module _ (list : state.sink.mode ≡ Listing) {state₁ : Walk} (bg : (text : List ℕ) (j : Sink) → Sunk j text state.sink → Tells (surveyed (state.machine.streams) j) text state₁ state) where
+    begun-held : Held m buf state₁.machine
+    begun-held = subst (Held m buf) (sym (bg text k g.sunk).machine) g.held
 
-    begun-sunk : Sunk (surveyed start k) text state₁
-    begun-sunk = subst (λ i. Sunk (surveyed i k) text state₁) (next-id g.held) (bg text k g.sunk).sunk
+    begun-sunk : Sunk (surveyed start k) text state₁.sink
+    begun-sunk = subst (λ i. Sunk (surveyed i k) text state₁.sink) (next-id g.held) (bg text k g.sunk).sunk
 
     pub survey-ready : Packs p t b c m (surveyed (length m.store) k) env buf state₁ text
     survey-ready =
@@ -153,10 +140,10 @@ module _ {p : Packing} {d : ℕ} {t : Tree ℕ d} {b : ℕ} {c : Base} {m : Stat
           few = g.few;
         }
 
-    module _ {env₁ : List ℕ} {buf₁ : List ℤ} {state₂ text₂ : List ℕ} {r : Packed} (w : Ends p t b c m (surveyed (length m.store) k) 0 env env₁ buf buf₁ state₂ text₂ r) where
-      pub never-stops : {X : Type 0} {q : Refusal} → r ≡ packed.Stopped q → X
+    module _ {env₁ : List ℕ} {buf₁ : List ℤ} {state₂ : Walk} {text₂ : List ℕ} {r : Returned Unit Refusal} (w : Ends p t b c m (surveyed (length m.store) k) 0 env env₁ buf buf₁ state₂ text₂ r) where
+      pub never-stops : {X : Type 0} → false ≡ is_ok r → X
       unfolding walked
-      never-stops {q = q} e = let both : packed.Stopped q ≡ pack_answer (went (skip body m)) = sym e ∙ w.says in never (cc)
+      never-stops e = let both : false ≡ is_ok (pack_answer (went (skip body m))) = e ∙ ap is_ok w.says in never (cc)
 
       abbrev after : State
       after = skip body m
@@ -188,7 +175,7 @@ module _ {p : Packing} {d : ℕ} {t : Tree ℕ d} {b : ℕ} {c : Base} {m : Stat
           part-drop env₁ (written p.to words_w env) p.to (tree_size d) (drop-above env₁ (written p.to words_w env) p.low p.to left.words g.low)
           ∙ (ap (λ n. part p.to n (written p.to words_w env)) (sym long-words) ∙ at-written env p.to words_w (omega (arith, long-words, fits)))
 
-      abbrev opening-here : length env₁ ≡ length env → Opening env₁ p.to d after-survey text₂ state₂
+      abbrev opening-here : length env₁ ≡ length env → Opening env₁ p.to d after-survey text₂ state₂.sink
       opening-here l =
           record {
             sunk = left.sunk;
@@ -200,15 +187,15 @@ module _ {p : Packing} {d : ℕ} {t : Tree ℕ d} {b : ℕ} {c : Base} {m : Stat
             shallow = omega (arith, g.shallow);
           }
 
-      pub open-ready : length env₁ ≡ length env → (j : Sink) × Opening env₁ p.to p.depth j text₂ state₂
-      open-ready l = (after-survey, subst (λ i. Opening env₁ p.to i after-survey text₂ state₂) (sym g.deep) (opening-here l))
+      pub open-ready : length env₁ ≡ length env → (j : Sink) × Opening env₁ p.to p.depth j text₂ state₂.sink
+      open-ready l = (after-survey, subst (λ i. Opening env₁ p.to i after-survey text₂ state₂.sink) (sym g.deep) (opening-here l))
 
-      module _ (l : length env₁ ≡ length env) {a : ℕ} (a-is : a ≡ get_or state 0 0 - 1) {state₃ text₃ : List ℕ}
-          (o : (j : Sink) (h : Opening env₁ p.to p.depth j text₂ state₂) → Opens j h.tree a text₃ state₃ state₂) where
+      module _ (l : length env₁ ≡ length env) {a : ℕ} (a-is : a ≡ state.machine.streams - 1) {state₃ : Walk} {text₃ : List ℕ}
+          (o : (j : Sink) (h : Opening env₁ p.to p.depth j text₂ state₂.sink) → Opens j h.tree a text₃ state₃ state₂) where
         room-same : room after.store ≡ room m.store
         room-same = ap length (skipped-contents body m.store)
 
-        next-is : get_or state₂ 0 0 ≡ start + count body
+        next-is : state₂.machine.streams ≡ start + count body
         unfolding walked
         next-is =
             let gr = walked-grown (length buf) 0 body m after refl in
@@ -217,19 +204,19 @@ module _ {p : Packing} {d : ℕ} {t : Tree ℕ d} {b : ℕ} {c : Base} {m : Stat
         opens-so : Opens after-survey (pack_tree t start) a text₃ state₃ state₂
         opens-so = go p.depth g.deep o
           where
-            go : (i : ℕ) → i ≡ d → ((j : Sink) (h : Opening env₁ p.to i j text₂ state₂) → Opens j h.tree a text₃ state₃ state₂)
+            go : (i : ℕ) → i ≡ d → ((j : Sink) (h : Opening env₁ p.to i j text₂ state₂.sink) → Opens j h.tree a text₃ state₃ state₂)
                 → Opens after-survey (pack_tree t start) a text₃ state₃ state₂
             go i q f =
-                subst (λ x. ((j : Sink) (h : Opening env₁ p.to x j text₂ state₂) → Opens j h.tree a text₃ state₃ state₂) → Opens after-survey (pack_tree t start) a text₃ state₃ state₂)
+                subst (λ x. ((j : Sink) (h : Opening env₁ p.to x j text₂ state₂.sink) → Opens j h.tree a text₃ state₃ state₂) → Opens after-survey (pack_tree t start) a text₃ state₃ state₂)
                 (sym q) (λ f'. f' after-survey (opening-here l)) f
 
-        machine-words : take 4 state₃ ≡ counters m
-        machine-words =
+        counts-same : state₃.machine ≡ counters m
+        counts-same =
             opens-so.machine
-            ∙ ((λ i. surveyed-own known k roomy i ∷ three-behind state₂ (length after.store) (room after.store) m.work m.steps left.held.words i)
-            ∙ ap (λ q. length m.store ∷ q ∷ m.work ∷ m.steps ∷ []) room-same)
+            ∙ (ap (λ i. back_to i state₂.machine) (surveyed-own known k roomy)
+            ∙ (ap (back_to start) left.held.counts-are ∙ ap (λ q. back_to start (record { streams = start; room = q; work = m.work; steps = m.steps })) room-same))
 
-        sink-is : opening after-survey (pack_tree t start) a (get_or state₂ 0 0) ≡ opens b t start k
+        sink-is : opening after-survey (pack_tree t start) a (state₂.machine.streams) ≡ opens b t start k
         sink-is =
             ap (λ n. opening after-survey (pack_tree t start) a n) next-is
             ∙ (opening_of known k roomy a (lists g.sunk list) (g.sunk.plain (lists g.sunk list))
@@ -240,7 +227,7 @@ module _ {p : Packing} {d : ℕ} {t : Tree ℕ d} {b : ℕ} {c : Base} {m : Stat
             record {
               held =
                   record {
-                    words = machine-words;
+                    counts-are = counts-same;
                     contents-are = ap (λ q. take q buf₁) (sym room-same) ∙ (left.held.contents-are ∙ skipped-contents body m.store);
                     fits = omega (arith, room-same, left.held.fits);
                     short = left.held.short;
@@ -248,7 +235,7 @@ module _ {p : Packing} {d : ℕ} {t : Tree ℕ d} {b : ℕ} {c : Base} {m : Stat
                     slow = g.held.slow;
                     cheap = g.held.cheap;
                   };
-              sunk = subst (λ j. Sunk j text₃ state₃) sink-is opens-so.sunk;
+              sunk = subst (λ j. Sunk j text₃ state₃.sink) sink-is opens-so.sunk;
               kept = subst (λ q. drop q buf₁ ≡ drop q buf) room-same left.kept;
               scratch = words_w;
               scratch-long = long-words;

@@ -1,7 +1,8 @@
 -- One variable's value packed by bools: what stands on the stack before, and what the packing answers and leaves.
-use Rattle.std.specs.Prelude.{ℕ, suc, ◌+◌, ◌*◌, ◌-◌, ◌≤◌, List, [], ◌∷◌, ◌++◌, ◌⊎◌, ◌≡◌, ℤ, length, drop}
+use Rattle.std.specs.Prelude.{ℕ, suc, ◌+◌, ◌*◌, ◌-◌, ◌≤◌, List, [], ◌∷◌, ◌++◌, ◌⊎◌, ◌≡◌, ℤ, length, drop, Ok, Err, Result as Returned}
 use Rattle.std.proofs.Math.Option.{some}
 use Rattle.laws.specs.Parts.{part, written}
+use Rattle.snesl.specs.declared.refusal.Refusal.{Refusal}
 use Rattle.snesl.specs.declared.code.Base.{Base}
 use Rattle.snesl.specs.declared.code.Kind.TheVariants.{Bools, Flags, Units}
 use Rattle.snesl.specs.declared.code.Transducer.{Transducer}
@@ -14,31 +15,28 @@ use Rattle.snesl.specs.Machine.{State, Stop, Result, went, stopped}
 use Rattle.snesl.specs.Outcome.{refusal_of}
 use Rattle.snesl.specs.Translation.{pack_size, pack_tree, pack_code}
 use Rattle.environment.specs.Words.{place_words, tree_words, tree_size}
+use Rattle.sink.specs.declared.state.Walk.{Walk}
 use Rattle.sink.specs.Sinks.{Sink, defined, opened, closed, feed}
 use Rattle.sink.specs.Sunk.{Sunk}
 use Rattle.steps.specs.Walking.{stepped, walked}
 use Rattle.steps.specs.Holding.{Held, keeps, place, PlacedAt, most_streams}
 use Rattle.steps.specs.declared.Operands.{Operands}
-use Rattle.steps.specs.declared.Executed.{Executed}
-use Rattle.steps.specs.declared.Executed.TheVariants as executed
 use Rattle.leaves.specs.Making.{Makes}
 use Rattle.leaves.specs.Scenes.{Wide}
 use Rattle.guards.specs.declared.Packing.{Packing}
-use Rattle.guards.specs.declared.Packed.{Packed}
-use Rattle.guards.specs.declared.Packed.TheVariants as packed
 
 -- ---- one stream, with its place at `to`
 
-pub record Puts (t : Transducer) (at : Operands) (to : ℕ) (env : List ℕ) (buf : List ℤ) (state text : List ℕ) (m : State) (k : Sink) : Type 0 where
+pub record Puts (t : Transducer) (at : Operands) (to : ℕ) (env : List ℕ) (buf : List ℤ) (state : Walk) (text : List ℕ) (m : State) (k : Sink) : Type 0 where
   pub makes : Makes t at env buf state text m k
   pub solid : (b : Base) → (signature b t).output ≡ Units → ⊥
   pub fits : to + 3 ≤ length env
 
-pub record Placed (cap n : ℕ) (t : Transducer) (to : ℕ) (m : State) (k : Sink) (env env' : List ℕ) (old new : List ℤ) (state text : List ℕ) (r : Executed) : Type 0 where
+pub record Placed (cap n : ℕ) (t : Transducer) (to : ℕ) (m : State) (k : Sink) (env env' : List ℕ) (old new : List ℤ) (state : Walk) (text : List ℕ) (r : Returned ℕ Refusal) : Type 0 where
   pub went_on : (m' : State) (a : Stream) → stepped cap n t m ≡ went m' → m'.store ≡ m.store ++ a ∷ []
-      → (r ≡ executed.Made (len a)) × Held m' new state × keeps m'.store old new × Sunk (defined (length m.store) t k) text state
+      → (r ≡ Ok (len a)) × Held m' new state.machine × keeps m'.store old new × Sunk (defined (length m.store) t k) text state.sink
       × (env' ≡ written to (place_words (place m'.store (length m.store))) env)
-  pub gave-up : (why : Stop) (s : ℕ) → stepped cap n t m ≡ stopped why s → r ≡ executed.Stopped (refusal_of why s)
+  pub gave-up : (why : Stop) (s : ℕ) → stepped cap n t m ≡ stopped why s → r ≡ Err (refusal_of why s)
 
 -- ---- a tree
 
@@ -48,10 +46,10 @@ pub data Kinds (σ : Store) (c : Base) : (d : ℕ) → Tree ℕ d → Type 0 whe
   kinds-node : {d s : ℕ} {t : Tree ℕ d} → (a : Stream) → Kinds σ c d t → σ ! s ≡ some a → kind_of a ≡ Flags → Kinds σ c (suc d) (node t s)
 
 -- Its words stand at `from` and those of the bools' place at `bools`; its packed words are to stand at `to`; below `low` is room for the bools spread over each level.
-pub record Packs (p : Packing) {d : ℕ} (t : Tree ℕ d) (b : ℕ) (c : Base) (m : State) (k : Sink) (env : List ℕ) (buf : List ℤ) (state text : List ℕ) : Type 0 where
+pub record Packs (p : Packing) {d : ℕ} (t : Tree ℕ d) (b : ℕ) (c : Base) (m : State) (k : Sink) (env : List ℕ) (buf : List ℤ) (state : Walk) (text : List ℕ) : Type 0 where
   pub deep : p.depth ≡ d
-  pub held : Held m buf state
-  pub sunk : Sunk k text state
+  pub held : Held m buf state.machine
+  pub sunk : Sunk k text state.sink
   pub wide : Wide k
   pub kinds : Kinds m.store c d t
   pub words : part p.from (tree_size d) env ≡ tree_words (map_tree (place m.store) t)
@@ -65,19 +63,19 @@ pub record Packs (p : Packing) {d : ℕ} (t : Tree ℕ d) (b : ℕ) (c : Base) (
   pub inside : p.bools + 3 ≤ length env
   pub few : length m.store + pack_size d ≤ most_streams
 
-abbrev pub pack_answer : Result → Packed
-pack_answer (went m) = packed.Whole
-pack_answer (stopped why s) = packed.Stopped (refusal_of why s)
+abbrev pub pack_answer : Result → Returned Unit Refusal
+pack_answer (went m) = Ok tt
+pack_answer (stopped why s) = Err (refusal_of why s)
 
 -- After it went through to m': the packed tree's words stand at `to`, and all else from `low` on is as it was.
-pub record Leaves (p : Packing) {d : ℕ} (t : Tree ℕ d) (b : ℕ) (c : Base) (m : State) (k : Sink) (env env' : List ℕ) (buf buf' : List ℤ) (state' text' : List ℕ) (m' : State) : Type 0 where
-  pub held : Held m' buf' state'
-  pub sunk : Sunk (feed (length m.store) (pack_code b t (length m.store)) k) text' state'
+pub record Leaves (p : Packing) {d : ℕ} (t : Tree ℕ d) (b : ℕ) (c : Base) (m : State) (k : Sink) (env env' : List ℕ) (buf buf' : List ℤ) (state' : Walk) (text' : List ℕ) (m' : State) : Type 0 where
+  pub held : Held m' buf' state'.machine
+  pub sunk : Sunk (feed (length m.store) (pack_code b t (length m.store)) k) text' state'.sink
   pub kept : keeps m'.store buf buf'
   pub kinds : Kinds m'.store c d (pack_tree t (length m.store))
   pub words : drop p.low env' ≡ drop p.low (written p.to (tree_words (map_tree (place m'.store) (pack_tree t (length m.store)))) env)
 
-pub record Ends (p : Packing) {d : ℕ} (t : Tree ℕ d) (b : ℕ) (c : Base) (m : State) (k : Sink) (n : ℕ) (env env' : List ℕ) (buf buf' : List ℤ) (state' text' : List ℕ) (r : Packed) : Type 0 where
+pub record Ends (p : Packing) {d : ℕ} (t : Tree ℕ d) (b : ℕ) (c : Base) (m : State) (k : Sink) (n : ℕ) (env env' : List ℕ) (buf buf' : List ℤ) (state' : Walk) (text' : List ℕ) (r : Returned Unit Refusal) : Type 0 where
   pub says : r ≡ pack_answer (walked (length buf) n (pack_code b t (length m.store)) m)
   pub leaves : (m' : State) → walked (length buf) n (pack_code b t (length m.store)) m ≡ went m' → Leaves p t b c m k env env' buf buf' state' text' m'
 
@@ -92,7 +90,7 @@ abbrev pub opens : {d : ℕ} → (b : ℕ) → Tree ℕ d → (s : ℕ) → Sink
 opens b t s = opened (ascending (among (order (pack_tree t s)) (dv s (pack_code b t s)))) (s - 1) (ascending (fv s (pack_code b t s)))
 
 -- Before the items: the rest of the run is theirs, under so many units, from the machine m'; what is told of the rest is their WithCtrl.
-pub record Level (p : Packing) {d : ℕ} (t : Tree ℕ d) (f b : ℕ) (c : Base) (m : State) (k : Sink) (n units : ℕ) (env env' : List ℕ) (buf buf' : List ℤ) (state' text' : List ℕ) (m' : State) (k' : Sink) : Type 0 where
+pub record Level (p : Packing) {d : ℕ} (t : Tree ℕ d) (f b : ℕ) (c : Base) (m : State) (k : Sink) (n units : ℕ) (env env' : List ℕ) (buf buf' : List ℤ) (state' : Walk) (text' : List ℕ) (m' : State) (k' : Sink) : Type 0 where
   pub streams : Store
   pub store : m'.store ≡ m.store ++ streams
   pub number : length m'.store ≡ length m.store + 3
@@ -108,16 +106,16 @@ pub record Level (p : Packing) {d : ℕ} (t : Tree ℕ d) (f b : ℕ) (c : Base)
   pub long : length env' ≡ length env
   pub words : drop p.low env' ≡ drop p.low (written (p.to + tree_size d) (place_words (place m'.store (length m.store))) env)
 
-pub record Levels (p : Packing) {d : ℕ} (t : Tree ℕ d) (f b : ℕ) (c : Base) (m : State) (k : Sink) (n : ℕ) (env env' : List ℕ) (buf buf' : List ℤ) (state' text' : List ℕ) (r : Executed) : Type 0 where
-  pub goes_in : (units : ℕ) → r ≡ executed.Made units → (m' : State) × (k' : Sink) × Level p t f b c m k n units env env' buf buf' state' text' m' k'
-  pub stops : (q : _) → r ≡ executed.Stopped q → packed.Stopped q ≡ pack_answer (walked (length buf) n (pack_code b (node t f) (length m.store)) m)
+pub record Levels (p : Packing) {d : ℕ} (t : Tree ℕ d) (f b : ℕ) (c : Base) (m : State) (k : Sink) (n : ℕ) (env env' : List ℕ) (buf buf' : List ℤ) (state' : Walk) (text' : List ℕ) (r : Returned ℕ Refusal) : Type 0 where
+  pub goes_in : (units : ℕ) → r ≡ Ok units → (m' : State) × (k' : Sink) × Level p t f b c m k n units env env' buf buf' state' text' m' k'
+  pub stops : (q : Refusal) → r ≡ Err q → Err q ≡ pack_answer (walked (length buf) n (pack_code b (node t f) (length m.store)) m)
 
 -- ---- their survey
 
 -- The opening of the WithCtrl over a packing was told: the machine is as it was, and so is every word from `low` on but those at `to`.
-pub record Opened (p : Packing) {d : ℕ} (t : Tree ℕ d) (b : ℕ) (m : State) (k : Sink) (env env' : List ℕ) (buf buf' : List ℤ) (state' text' : List ℕ) : Type 0 where
-  pub held : Held m buf' state'
-  pub sunk : Sunk (opens b t (length m.store) k) text' state'
+pub record Opened (p : Packing) {d : ℕ} (t : Tree ℕ d) (b : ℕ) (m : State) (k : Sink) (env env' : List ℕ) (buf buf' : List ℤ) (state' : Walk) (text' : List ℕ) : Type 0 where
+  pub held : Held m buf' state'.machine
+  pub sunk : Sunk (opens b t (length m.store) k) text' state'.sink
   pub kept : keeps m.store buf buf'
   pub scratch : List ℕ
   pub scratch-long : length scratch ≡ tree_size d

@@ -17,11 +17,11 @@ use bodies::Entered;
 use environment::{find, put_name};
 use leaves::{make, push};
 use sink::openings::{begin_survey, open_body};
+use sink::state::{Mode, Walk};
 use sink::tell;
-use sink::words::{LISTING, MODE};
 use snesl::code::{Instruction, StreamId, Transducer, Variable};
 use snesl::refusal::Refusal;
-use steps::{Executed, Operands};
+use steps::Operands;
 
 // A tree whose words stand at `from`, to be packed by the bools whose place stands at `bools`, with its packed words at `to`. Below `low` the stack is free.
 #[derive(Clone, Copy)]
@@ -33,25 +33,12 @@ pub struct Packing {
     pub low: usize,
 }
 
-#[derive(Clone, Copy)]
-pub enum Packed {
-    Whole,
-    Stopped(Refusal),
-}
-
 // Where the environment starts that lists are looked up in, where the place of the guard's bools stands, and where the lowest entry is to stand.
 #[derive(Clone, Copy)]
 pub struct Guarding {
     pub sp: usize,
     pub bools: usize,
     pub base: usize,
-}
-
-// Where the entry of a listed variable ends.
-#[derive(Clone, Copy)]
-pub enum Bound {
-    Until(usize),
-    Stopped(Refusal),
 }
 
 // One instruction, with its output's place at `to`.
@@ -62,19 +49,15 @@ fn put(
     n: usize,
     env: &mut [u32],
     buf: &mut [i32],
-    state: &mut [usize],
+    state: &mut Walk,
     text: &mut [u8],
-) -> Executed
+) -> Result<usize, Refusal>
     requires { (m : State) × (k : Sink) × Puts t at to env.old buf.old state.old text.old m k }
     ensures { (m : State) (k : Sink) → Puts t at to env.old buf.old state.old text.old m k → Placed (length buf.old) n t to m k env.old env.new buf.old buf.new state.new text.new result }
 {
-    match make(t, at, n, env, buf, state, text) {
-        Executed::Made(made) => {
-            push(made, to + 3, env, state);
-            Executed::Made(made)
-        }
-        Executed::Stopped(r) => Executed::Stopped(r),
-    }
+    let made = make(t, at, n, env, buf, state, text)?;
+    push(made, to + 3, env, &state.machine);
+    Ok(made)
 }
 
 // The outermost level: its flags packed, the bools spread over its items, and these counted.
@@ -83,9 +66,9 @@ fn pack_level(
     n: usize,
     env: &mut [u32],
     buf: &mut [i32],
-    state: &mut [usize],
+    state: &mut Walk,
     text: &mut [u8],
-) -> Executed
+) -> Result<usize, Refusal>
     requires { (d : ℕ) × (t : Tree ℕ d) × (f : ℕ) × (b : ℕ) × (c : Base) × (m : State) × (k : Sink) × Packs p (node t f) b c m k env.old buf.old state.old text.old }
     ensures { (d : ℕ) (t : Tree ℕ d) (f : ℕ) (b : ℕ) (c : Base) (m : State) (k : Sink) → Packs p (node t f) b c m k env.old buf.old state.old text.old → Levels p t f b c m k n env.old env.new buf.old buf.new state.new text.new result }
 {
@@ -97,8 +80,9 @@ fn pack_level(
         first: b,
         second: f,
     };
-    match put(
-        Transducer::UPack(bools, flags),
+    let unpacking = Transducer::UPack(bools, flags);
+    put(
+        unpacking,
         packing,
         p.to + 3 * p.depth,
         n,
@@ -106,52 +90,37 @@ fn pack_level(
         buf,
         state,
         text,
-    ) {
-        Executed::Made(_) => {
-            let spreading = Operands {
-                first: f,
-                second: b,
-            };
-            match put(
-                Transducer::Distr(flags, bools),
-                spreading,
-                p.low - 3,
-                n,
-                env,
-                buf,
-                state,
-                text,
-            ) {
-                Executed::Made(_) => make(
-                    Transducer::Usum(flags),
-                    spreading,
-                    n,
-                    env,
-                    buf,
-                    state,
-                    text,
-                ),
-                Executed::Stopped(r) => Executed::Stopped(r),
-            }
-        }
-        Executed::Stopped(r) => Executed::Stopped(r),
-    }
+    )?;
+    let spreading = Operands {
+        first: f,
+        second: b,
+    };
+    put(
+        Transducer::Distr(flags, bools),
+        spreading,
+        p.low - 3,
+        n,
+        env,
+        buf,
+        state,
+        text,
+    )?;
+    make(Transducer::Usum(flags), spreading, n, env, buf, state, text)
 }
 
 // Where a listing is wanted, the line that opens the WithCtrl over a packing: it is surveyed first, under no units, so that nothing is executed.
 #[cycle(pack_survey_items)]
-fn survey_items(p: Packing, env: &mut [u32], buf: &mut [i32], state: &mut [usize], text: &mut [u8])
+fn survey_items(p: Packing, env: &mut [u32], buf: &mut [i32], state: &mut Walk, text: &mut [u8])
     requires { (d : ℕ) × (t : Tree ℕ d) × (b : ℕ) × (c : Base) × (m : State) × (k : Sink) × Packs p t b c m k env.old buf.old state.old text.old }
     ensures { (d : ℕ) (t : Tree ℕ d) (b : ℕ) (c : Base) (m : State) (k : Sink) → Packs p t b c m k env.old buf.old state.old text.old → Opened p t b m k env.old env.new buf.old buf.new state.new text.new }
 {
-    if state[MODE] != LISTING {
+    if state.sink.mode != Mode::Listing {
         return;
     }
-    let control = StreamId(state[0] - 1);
+    let control = StreamId(state.machine.streams - 1);
     begin_survey(state);
-    match pack(p, 0, env, buf, state, text) {
-        Packed::Whole => open_body(env, p.to, p.depth, control, text, state),
-        Packed::Stopped(_) => {}
+    if pack(p, 0, env, buf, state, text).is_ok() {
+        open_body(env, p.to, p.depth, control, text, state);
     }
 }
 
@@ -161,9 +130,9 @@ fn pack_data(
     n: usize,
     env: &mut [u32],
     buf: &mut [i32],
-    state: &mut [usize],
+    state: &mut Walk,
     text: &mut [u8],
-) -> Packed
+) -> Result<(), Refusal>
     requires { (s : ℕ) × (b : ℕ) × (c : Base) × (m : State) × (k : Sink) × Packs p (leaf s) b c m k env.old buf.old state.old text.old }
     ensures { (s : ℕ) (b : ℕ) (c : Base) (m : State) (k : Sink) → Packs p (leaf s) b c m k env.old buf.old state.old text.old → Ends p (leaf s) b c m k n env.old env.new buf.old buf.new state.new text.new result }
 {
@@ -174,10 +143,8 @@ fn pack_data(
         first: b,
         second: q,
     };
-    match put(t, at, p.to, n, env, buf, state, text) {
-        Executed::Made(_) => Packed::Whole,
-        Executed::Stopped(r) => Packed::Stopped(r),
-    }
+    put(t, at, p.to, n, env, buf, state, text)?;
+    Ok(())
 }
 
 // A tree, level by level from the outermost.
@@ -187,9 +154,9 @@ fn pack(
     n: usize,
     env: &mut [u32],
     buf: &mut [i32],
-    state: &mut [usize],
+    state: &mut Walk,
     text: &mut [u8],
-) -> Packed
+) -> Result<(), Refusal>
     requires { (d : ℕ) × (t : Tree ℕ d) × (b : ℕ) × (c : Base) × (m : State) × (k : Sink) × Packs p t b c m k env.old buf.old state.old text.old }
     ensures { (d : ℕ) (t : Tree ℕ d) (b : ℕ) (c : Base) (m : State) (k : Sink) → Packs p t b c m k env.old buf.old state.old text.old → Ends p t b c m k n env.old env.new buf.old buf.new state.new text.new result }
 {
@@ -203,22 +170,14 @@ fn pack(
         bools: p.low - 3,
         low: p.low - 3,
     };
-    match pack_level(p, n, env, buf, state, text) {
-        Executed::Made(units) => {
-            survey_items(items, env, buf, state, text);
-            match pack(items, units, env, buf, state, text) {
-                Packed::Whole => {
-                    tell(Instruction::Close, text, state);
-                    Packed::Whole
-                }
-                Packed::Stopped(r) => Packed::Stopped(r),
-            }
-        }
-        Executed::Stopped(r) => Packed::Stopped(r),
-    }
+    let units = pack_level(p, n, env, buf, state, text)?;
+    survey_items(items, env, buf, state, text);
+    pack(items, units, env, buf, state, text)?;
+    tell(Instruction::Close, text, &mut state.sink);
+    Ok(())
 }
 
-// The listed variable u packed, with its entry at `to`.
+// The listed variable u packed, with its entry at `to`; where the entry ends.
 fn pack_one(
     u: Variable,
     to: usize,
@@ -226,9 +185,9 @@ fn pack_one(
     n: usize,
     env: &mut [u32],
     buf: &mut [i32],
-    state: &mut [usize],
+    state: &mut Walk,
     text: &mut [u8],
-) -> Bound
+) -> Result<usize, Refusal>
     requires { Chosen u to q env.old buf.old state.old text.old }
     ensures { (g : Chosen u to q env.old buf.old state.old text.old) → Enters g n env.new buf.new state.new text.new result }
 {
@@ -236,16 +195,14 @@ fn pack_one(
     let depth = env[p + 1] as usize;
     put_name(env, to, u, depth);
     let tree = Packing {
-        depth: depth,
+        depth,
         from: p + 2,
         to: to + 2,
         bools: q.bools,
         low: q.base,
     };
-    match pack(tree, n, env, buf, state, text) {
-        Packed::Whole => Bound::Until(to + 5 + 3 * depth),
-        Packed::Stopped(r) => Bound::Stopped(r),
-    }
+    pack(tree, n, env, buf, state, text)?;
+    Ok(to + 5 + 3 * depth)
 }
 
 // Each of the `count` variables listed from byte `at` on, in the order listed: the first has the lowest entry.
@@ -256,28 +213,17 @@ fn pack_listed(
     n: usize,
     env: &mut [u32],
     buf: &mut [i32],
-    state: &mut [usize],
+    state: &mut Walk,
     text: &mut [u8],
-) -> Packed
+) -> Result<(), Refusal>
     requires { Lists bytes.now (at + 1) (byte_at bytes.now at) q.base q env.old buf.old state.old text.old }
     ensures { (g : Lists bytes.now (at + 1) (byte_at bytes.now at) q.base q env.old buf.old state.old text.old) → AllBinds g.guarded g.list n q.base env.new buf.new state.new text.new result }
 {
-    let mut left = bytes[at] as usize;
-    let mut k = at + 1;
     let mut to = q.base;
-    while 0 < left {
-        match pack_one(Variable(bytes[k]), to, q, n, env, buf, state, text) {
-            Bound::Until(next) => {
-                left -= 1;
-                k += 1;
-                to = next;
-            }
-            Bound::Stopped(r) => {
-                return Packed::Stopped(r);
-            }
-        }
+    for i in 0..bytes[at] as usize {
+        to = pack_one(Variable(bytes[at + 1 + i]), to, q, n, env, buf, state, text)?;
     }
-    Packed::Whole
+    Ok(())
 }
 
 // How many words the entries of the variables take that are listed behind byte `at`, where their count stands.
@@ -285,14 +231,10 @@ fn listed_words(bytes: &[u8], at: usize, sp: usize, env: &[u32]) -> usize
     requires { Naming bytes.now (at + 1) (byte_at bytes.now at) sp env.now }
     ensures { (g : Naming bytes.now (at + 1) (byte_at bytes.now at) sp env.now) → result ≡ listed_size (any_pointers g.list) }
 {
-    let mut left = bytes[at] as usize;
-    let mut k = at + 1;
     let mut words = 0;
-    while 0 < left {
-        let p = find(env, sp, Variable(bytes[k]));
+    for i in 0..bytes[at] as usize {
+        let p = find(env, sp, Variable(bytes[at + 1 + i]));
         words += 5 + 3 * env[p + 1] as usize;
-        left -= 1;
-        k += 1;
     }
     words
 }
@@ -304,9 +246,9 @@ fn count_true(
     sp: usize,
     env: &mut [u32],
     buf: &mut [i32],
-    state: &mut [usize],
+    state: &mut Walk,
     text: &mut [u8],
-) -> Executed
+) -> Result<usize, Refusal>
     requires { (b : ℕ) × (m : State) × (k : Sink) × Asks bools sp b m k env.old buf.old state.old text.old }
     ensures { (b : ℕ) (m : State) (k : Sink) → Asks bools sp b m k env.old buf.old state.old text.old → Answers b sp m k n env.old env.new buf.old buf.new state.new text.new result }
 {
@@ -316,17 +258,13 @@ fn count_true(
         second: bools,
     };
     let t = Transducer::B2u(StreamId(env[bools] as usize));
-    match put(t, asked, f, n, env, buf, state, text) {
-        Executed::Made(_) => {
-            let flags = Operands {
-                first: f,
-                second: f,
-            };
-            let u = Transducer::Usum(StreamId(env[f] as usize));
-            make(u, flags, n, env, buf, state, text)
-        }
-        Executed::Stopped(r) => Executed::Stopped(r),
-    }
+    put(t, asked, f, n, env, buf, state, text)?;
+    let flags = Operands {
+        first: f,
+        second: f,
+    };
+    let u = Transducer::Usum(StreamId(env[f] as usize));
+    make(u, flags, n, env, buf, state, text)
 }
 
 // All that stands before the body of the guard at k: its flags, which are the outermost of the result, their units counted, and each listed variable packed.
@@ -337,26 +275,16 @@ pub fn enter_guard(
     sp: usize,
     env: &mut [u32],
     buf: &mut [i32],
-    state: &mut [usize],
+    state: &mut Walk,
     text: &mut [u8],
-) -> Entered
+) -> Result<Entered, Refusal>
     requires { Guard bytes.now k sp env.old buf.old state.old text.old }
     ensures { (g : Guard bytes.now k sp env.old buf.old state.old text.old) → GuardEnters g n env.new buf.new state.new text.new result }
 {
     let bools = find(env, sp, Variable(bytes[k + 2])) + 2;
     let base = sp - 3 - listed_words(bytes, k + 3, sp, env);
-    match count_true(bools, n, sp, env, buf, state, text) {
-        Executed::Made(units) => {
-            let q = Guarding {
-                sp: sp,
-                bools: bools,
-                base: base,
-            };
-            match pack_listed(bytes, k + 3, q, n, env, buf, state, text) {
-                Packed::Whole => Entered::Body(base, units),
-                Packed::Stopped(r) => Entered::Stopped(r),
-            }
-        }
-        Executed::Stopped(r) => Entered::Stopped(r),
-    }
+    let units = count_true(bools, n, sp, env, buf, state, text)?;
+    let q = Guarding { sp, bools, base };
+    pack_listed(bytes, k + 3, q, n, env, buf, state, text)?;
+    Ok(Entered { inner: base, units })
 }

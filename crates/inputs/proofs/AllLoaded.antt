@@ -8,6 +8,7 @@ use borrow.Author.Tests.{le-leb, lt-leb}
 use lib.IntN.{ℤ}
 use lib.ListN.{length, take, drop, length-append}
 use lib.Seq.{drop-length, drop-drop}
+use Rattle.environment.specs.declared.machine.Machine.{Machine}
 use Rattle.environment.specs.Words.{spelled}
 use Rattle.environment.proofs.Stack.{drop-above}
 use Rattle.snesl.specs.declared.code.Variable.{Variable}
@@ -32,10 +33,11 @@ use Rattle.formula.specs.Declarations.{input_place, base_at, declaration_of}
 use Rattle.formula.specs.declared.inputs.Declaration.{Declaration}
 use Rattle.valuetext.specs.Storing.{value_store}
 use Rattle.valuetext.proofs.Represented.{order-length}
-use Rattle.inputs.specs.declared.loading.Loaded.{Loaded}
-use Rattle.inputs.specs.declared.loading.Loaded.TheVariants.{At, Full}
+use Rattle.snesl.specs.declared.refusal.Refusal.{Refusal}
+use Rattle.snesl.specs.declared.refusal.Refusal.TheVariants.{NoRoom}
+use Rattle.std.specs.Prelude.{Result, Ok, Err}
 use Rattle.inputs.specs.Supply.{Valued, per_input, Tallies, Counted}
-use Rattle.inputs.specs.Loading.{idle, binding_words, Bound, bind_one, Stands, Next, Takes, takes, passes, inputs_bound, Loads, loads, fills}
+use Rattle.inputs.specs.Loading.{fresh, binding_words, Bound, bind_one, Stands, Next, Takes, takes, passes, inputs_bound, Loads, loads, fills}
 use Rattle.inputs.proofs.Supplying.{type_at, Supplied, supplied-none, supplied-more, inputs-supplied}
 use Rattle.inputs.proofs.Checking.{text_from, text-span, Bounds, counts_from}
 
@@ -114,8 +116,8 @@ given-of g c =
     }
 
 -- some are loaded, `left` are not, and there is space for them
-pub record Partly (n : ℕ) (env₀ : List ℕ) (buf₀ : List ℤ) (b : Bound) (σ : Store) (left sp : ℕ) (env : List ℕ) (buf : List ℤ) (state : List ℕ) : Type 0 where
-  pub stands : Stands b σ env sp buf state
+pub record Partly (n : ℕ) (env₀ : List ℕ) (buf₀ : List ℤ) (b : Bound) (σ : Store) (left sp : ℕ) (env : List ℕ) (buf : List ℤ) (machine : Machine) : Type 0 where
+  pub stands : Stands b σ env sp buf machine
   pub kept : keeps σ buf₀ buf
   pub space : length env₀ + binding_words * left ≤ sp + binding_words * n
   pub few : length σ + 9 * left ≤ 9 * n
@@ -126,7 +128,7 @@ pub record Partly (n : ℕ) (env₀ : List ℕ) (buf₀ : List ℤ) (b : Bound) 
   pub long-buf : length buf ≡ length buf₀
 
 module _ {t : List ℕ} {n k₀ : ℕ} {counts : List ℕ} (g : Given t n k₀ counts) (env₀ : List ℕ) (buf₀ : List ℤ) where
-  pub record Loading (i k sp : ℕ) (env : List ℕ) (buf : List ℤ) (state : List ℕ) : Type 0 where
+  pub record Loading (i k sp : ℕ) (env : List ℕ) (buf : List ℤ) (machine : Machine) : Type 0 where
     pub inputs : List Input
     pub spans : List Span
     pub given : All Val (input_types inputs)
@@ -138,12 +140,12 @@ module _ {t : List ℕ} {n k₀ : ℕ} {counts : List ℕ} (g : Given t n k₀ c
     pub binds : bind_all bound (length store) inputs ≡ bind_all unbound 0 g.inputs
     pub streams : store ++ input_streams given ≡ input_streams g.given
     pub over : input_over (length buf₀) (room store) (length store) given ≡ input_over (length buf₀) 0 0 g.given
-    pub partly : Partly n env₀ buf₀ bound store (n - i) sp env buf state
+    pub partly : Partly n env₀ buf₀ bound store (n - i) sp env buf machine
 
-  pub loading-start : n ≤ most_inputs → binding_words * most_inputs ≤ length env₀ → length buf₀ ≤ most_elements → (state : List ℕ) → state ≡ 0 ∷ 0 ∷ 0 ∷ 0 ∷ idle
-      → Loading 0 k₀ (length env₀) env₀ buf₀ state
+  pub loading-start : n ≤ most_inputs → binding_words * most_inputs ≤ length env₀ → length buf₀ ≤ most_elements → (machine : Machine) → machine ≡ fresh
+      → Loading 0 k₀ (length env₀) env₀ buf₀ machine
   unfolding contents spelled places
-  loading-start few wide small state z =
+  loading-start few wide small machine z =
       let all : n ≡ n - 0 = omega arith in
       record {
         inputs = g.inputs;
@@ -166,7 +168,7 @@ module _ {t : List ℕ} {n k₀ : ℕ} {counts : List ℕ} (g : Given t n k₀ c
                     shallow = shallow-none;
                     held =
                         record {
-                          words = ap (take 4) z;
+                          counts-are = z;
                           contents-are = refl;
                           fits = omega arith;
                           short = omega arith;
@@ -174,7 +176,6 @@ module _ {t : List ℕ} {n k₀ : ℕ} {counts : List ℕ} (g : Given t n k₀ c
                           slow = omega arith;
                           cheap = omega arith;
                         };
-                    behind = ap (drop 4) z;
                     within = omega arith;
                   };
               kept = refl;
@@ -189,17 +190,17 @@ module _ {t : List ℕ} {n k₀ : ℕ} {counts : List ℕ} (g : Given t n k₀ c
       }
 
   -- after one more, or where the room is passed
-  abbrev pub After : (i k : ℕ) → List ℕ → List ℤ → List ℕ → Loaded → Type 0
-  After i k env buf state (At top) = Loading i k top env buf state
-  After i k env buf state (Full s) = input_over (length buf₀) 0 0 g.given ≡ some s
+  abbrev pub After : (i k : ℕ) → List ℕ → List ℤ → Machine → Result ℕ Refusal → Type 0
+  After i k env buf machine (Ok top) = Loading i k top env buf machine
+  After i k env buf machine (Err why) = (s : ℕ) × (why ≡ NoRoom s) × (input_over (length buf₀) 0 0 g.given ≡ some s)
 
-  pub record Step (i k next : ℕ) (x : Variable) (β : Base) (d sp : ℕ) (env : List ℕ) (buf : List ℤ) (state : List ℕ) : Type 0 where
-    pub first : Next (text_from t k next) x β d (counts_from counts i) sp env buf state
+  pub record Step (i k next : ℕ) (x : Variable) (β : Base) (d sp : ℕ) (env : List ℕ) (buf : List ℤ) (machine : Machine) : Type 0 where
+    pub first : Next (text_from t k next) x β d (counts_from counts i) sp env buf machine
     pub bounds : Bounds t (input_place i) k
-    pub on : {env' : List ℕ} {buf' : List ℤ} {state' : List ℕ} (r : Loaded) → Takes first env' buf' state' r → length env' ≡ length env → length buf' ≡ length buf
-        → After (i + 1) next env' buf' state' r
+    pub on : {env' : List ℕ} {buf' : List ℤ} {machine' : Machine} (r : Result ℕ Refusal) → Takes first env' buf' machine' r → length env' ≡ length env → length buf' ≡ length buf
+        → After (i + 1) next env' buf' machine' r
 
-  module _ {i k next sp : ℕ} (l : i < n) {env : List ℕ} {buf : List ℤ} {state : List ℕ} {is : List Input} {ss : List Span} (b : Bound) (σ : Store)
+  module _ {i k next sp : ℕ} (l : i < n) {env : List ℕ} {buf : List ℤ} {machine : Machine} {is : List Input} {ss : List Span} (b : Bound) (σ : Store)
       (others : Supplied t (n - (i + 1)) (input_place (i + 1)) next is ss)
       (bounds : Bounds t (input_place i) k)
       (v : Val (type_at t (input_place i))) (vs : All Val (input_types is))
@@ -210,8 +211,8 @@ module _ {t : List ℕ} {n k₀ : ℕ} {counts : List ℕ} (g : Given t n k₀ c
       (binds : bind_all b (length σ) (input_at t (input_place i) (base_at t (input_place i)) ∷ is) ≡ bind_all unbound 0 g.inputs)
       (streams : σ ++ (value_store (type_at t (input_place i)) v ++ input_streams vs) ≡ input_streams g.given)
       (over : input_over (length buf₀) (room σ) (length σ) (◌▹◌ {τ = type_at t (input_place i)} v vs) ≡ input_over (length buf₀) 0 0 g.given)
-      (p : Partly n env₀ buf₀ b σ (n - i) sp env buf state) where
-    abbrev here : Next (text_from t k next) (variable_at t (input_place i + 2)) (base_at t (input_place i)) (byte_at t (input_place i + 3)) (counts_from counts i) sp env buf state
+      (p : Partly n env₀ buf₀ b σ (n - i) sp env buf machine) where
+    abbrev here : Next (text_from t k next) (variable_at t (input_place i + 2)) (base_at t (input_place i)) (byte_at t (input_place i + 3)) (counts_from counts i) sp env buf machine
     here =
         record {
           bound = b;
@@ -234,14 +235,14 @@ module _ {t : List ℕ} {n k₀ : ℕ} {counts : List ℕ} (g : Given t n k₀ c
     grown : length (σ ++ τ) ≡ length σ + suc (depth_of (type_at t (input_place i)))
     grown = length-append σ τ ∙ ap (λ (j : ℕ). length σ + j) (order-length (represent (type_at t (input_place i)) (v ∷ [])))
 
-    more : {env' : List ℕ} {buf' : List ℤ} {state' : List ℕ} {top : ℕ}
+    more : {env' : List ℕ} {buf' : List ℤ} {machine' : Machine} {top : ℕ}
         → room σ + room τ ≤ length buf
-        → Stands (bind_one b (variable_at t (input_place i + 2)) (length σ) (type_at t (input_place i))) (σ ++ τ) env' top buf' state'
+        → Stands (bind_one b (variable_at t (input_place i + 2)) (length σ) (type_at t (input_place i))) (σ ++ τ) env' top buf' machine'
         → keeps (σ ++ τ) buf buf'
         → sp ≤ top + binding_words
         → length env' ≡ length env
         → length buf' ≡ length buf
-        → Loading (i + 1) next top env' buf' state'
+        → Loading (i + 1) next top env' buf' machine'
     unfolding bind_all
     more fits stands kept low le lb =
         let more-counts : per_input * (i + 1) ≡ per_input * i + per_input = omega arith in
@@ -273,16 +274,16 @@ module _ {t : List ℕ} {n k₀ : ℕ} {counts : List ℕ} (g : Given t n k₀ c
               };
         }
 
-    on : {env' : List ℕ} {buf' : List ℤ} {state' : List ℕ} (r : Loaded) → Takes here env' buf' state' r → length env' ≡ length env → length buf' ≡ length buf
-        → After (i + 1) next env' buf' state' r
+    on : {env' : List ℕ} {buf' : List ℤ} {machine' : Machine} (r : Result ℕ Refusal) → Takes here env' buf' machine' r → length env' ≡ length env → length buf' ≡ length buf
+        → After (i + 1) next env' buf' machine' r
     on r (takes fits stands kept low) le lb = more fits stands kept low le lb
-    on r (passes past) le lb = sym over ∙ over-past (type_at t (input_place i)) (length buf₀) (room σ) (length σ) v vs (omega (arith, p.long-buf))
+    on r (passes past) le lb = (length σ, refl, sym over ∙ over-past (type_at t (input_place i)) (length buf₀) (room σ) (length σ) v vs (omega (arith, p.long-buf)))
 
-    stepped : Step i k next (variable_at t (input_place i + 2)) (base_at t (input_place i)) (byte_at t (input_place i + 3)) sp env buf state
+    stepped : Step i k next (variable_at t (input_place i + 2)) (base_at t (input_place i)) (byte_at t (input_place i + 3)) sp env buf machine
     stepped = record { first = here; bounds = bounds; on = on }
 
-  module _ {i k sp : ℕ} {env : List ℕ} {buf : List ℤ} {state : List ℕ} (l : Loading i k sp env buf state) where
-    pub step : (next : ℕ) → next ≡ k + 4 + (span_at t k).bytes → i < n → Step i k next (variable_at t (input_place i + 2)) (base_at t (input_place i)) (byte_at t (input_place i + 3)) sp env buf state
+  module _ {i k sp : ℕ} {env : List ℕ} {buf : List ℤ} {machine : Machine} (l : Loading i k sp env buf machine) where
+    pub step : (next : ℕ) → next ≡ k + 4 + (span_at t k).bytes → i < n → Step i k next (variable_at t (input_place i + 2)) (base_at t (input_place i)) (byte_at t (input_place i + 3)) sp env buf machine
     unfolding input_values input_streams Tallies
     step next same h = go l.bound l.store l.supplied refl l.given l.values l.tallies l.binds l.streams l.over l.partly
       where
@@ -292,8 +293,8 @@ module _ {t : List ℕ} {n k₀ : ℕ} {counts : List ℕ} (g : Given t n k₀ c
             → bind_all b (length σ) js ≡ bind_all unbound 0 g.inputs
             → σ ++ input_streams vs ≡ input_streams g.given
             → input_over (length buf₀) (room σ) (length σ) vs ≡ input_over (length buf₀) 0 0 g.given
-            → Partly n env₀ buf₀ b σ (n - i) sp env buf state
-            → Step i k next (variable_at t (input_place i + 2)) (base_at t (input_place i)) (byte_at t (input_place i + 3)) sp env buf state
+            → Partly n env₀ buf₀ b σ (n - i) sp env buf machine
+            → Step i k next (variable_at t (input_place i + 2)) (base_at t (input_place i)) (byte_at t (input_place i + 3)) sp env buf machine
         go b σ supplied-none z vs e c q s o p = absurd (omega arith)
         go b σ (supplied-more {n = m} {is = is} {ss = ss} f x y r) z (v ▹ vs) e c q s o p =
             let both = values-apart (type_at t (input_place i)) (k + 4 - 4) (value_of (type_at t (input_place i)) (span_of t (span_at t k))) (input_values t is ss) v vs e in
@@ -316,14 +317,14 @@ module _ {t : List ℕ} {n k₀ : ℕ} {counts : List ℕ} (g : Given t n k₀ c
 
     -- as the declaration says
     pub step-at : {r : Declaration} → r ≡ declaration_of (input_at t (input_place i) (base_at t (input_place i))) → (next : ℕ) → next ≡ k + 4 + (span_at t k).bytes → i < n
-        → Step i k next r.name r.base r.depth sp env buf state
+        → Step i k next r.name r.base r.depth sp env buf machine
     step-at e next same h =
-        subst (λ (x : Declaration). Step i k next x.name x.base x.depth sp env buf state) (sym e) (step next same h)
+        subst (λ (x : Declaration). Step i k next x.name x.base x.depth sp env buf machine) (sym e) (step next same h)
 
     pub bounds : i < n → Bounds t (input_place i) k
     bounds h = (step (k + 4 + (span_at t k).bytes) refl h).bounds
 
-    pub finish : n ≤ i → Stands (inputs_bound g.inputs) (input_streams g.given) env sp buf state
+    pub finish : n ≤ i → Stands (inputs_bound g.inputs) (input_streams g.given) env sp buf machine
         × keeps (input_streams g.given) buf₀ buf
         × (length env₀ ≤ sp + binding_words * most_inputs)
         × (length (input_streams g.given) ≤ suc most_depth * most_inputs)
@@ -335,9 +336,9 @@ module _ {t : List ℕ} {n k₀ : ℕ} {counts : List ℕ} (g : Given t n k₀ c
             → bind_all b (length σ) js ≡ bind_all unbound 0 g.inputs
             → σ ++ input_streams vs ≡ input_streams g.given
             → input_over (length buf₀) (room σ) (length σ) vs ≡ input_over (length buf₀) 0 0 g.given
-            → Partly n env₀ buf₀ b σ (n - i) sp env buf state
+            → Partly n env₀ buf₀ b σ (n - i) sp env buf machine
             → m ≤ 0
-            → Stands (inputs_bound g.inputs) (input_streams g.given) env sp buf state
+            → Stands (inputs_bound g.inputs) (input_streams g.given) env sp buf machine
             × keeps (input_streams g.given) buf₀ buf
             × (length env₀ ≤ sp + binding_words * most_inputs)
             × (length (input_streams g.given) ≤ suc most_depth * most_inputs)
@@ -345,8 +346,8 @@ module _ {t : List ℕ} {n k₀ : ℕ} {counts : List ℕ} (g : Given t n k₀ c
         go b σ supplied-none ∅ q s o p h =
             let same : σ ≡ input_streams g.given = sym (append-nil σ) ∙ s in
             let whole : b ≡ inputs_bound g.inputs = q ∙ all-bound unbound 0 g.inputs in (
-              subst (λ (z : Bound). Stands z (input_streams g.given) env sp buf state) whole
-                  (subst (λ (ρ : Store). Stands b ρ env sp buf state) same p.stands),
+              subst (λ (z : Bound). Stands z (input_streams g.given) env sp buf machine) whole
+                  (subst (λ (ρ : Store). Stands b ρ env sp buf machine) same p.stands),
               subst (λ (ρ : Store). keeps ρ buf₀ buf) same p.kept,
               omega (arith, p.space, p.inputs),
               omega (arith, p.few, p.inputs, ap length same),
@@ -354,13 +355,13 @@ module _ {t : List ℕ} {n k₀ : ℕ} {counts : List ℕ} (g : Given t n k₀ c
             )
         go b σ (supplied-more f x y r) vs q s o p h = absurd (omega arith)
 
-module _ {t : List ℕ} {f : Formula} (g : Valued t f) {env₀ : List ℕ} {buf₀ : List ℤ} {env : List ℕ} {buf : List ℤ} {state : List ℕ} where
-  pub loaded-all : {counts : List ℕ} (c : Counted t counts) {i k sp : ℕ} → Loading (given-of g c) env₀ buf₀ i k sp env buf state → f.inputs ≤ i
-      → Loads g env₀ env buf₀ buf state (input_over (length buf₀) 0 0 g.given) (At sp)
+module _ {t : List ℕ} {f : Formula} (g : Valued t f) {env₀ : List ℕ} {buf₀ : List ℤ} {env : List ℕ} {buf : List ℤ} {machine : Machine} where
+  pub loaded-all : {counts : List ℕ} (c : Counted t counts) {i k sp : ℕ} → Loading (given-of g c) env₀ buf₀ i k sp env buf machine → f.inputs ≤ i
+      → Loads g env₀ env buf₀ buf machine (input_over (length buf₀) 0 0 g.given) (Ok sp)
   loaded-all c {sp = sp} l h =
       let e = finish (given-of g c) env₀ buf₀ l h in
-      subst (λ (o : Option ℕ). Loads g env₀ env buf₀ buf state o (At sp)) (sym e.4) (loads e.0 e.1 e.2 e.3)
+      subst (λ (o : Option ℕ). Loads g env₀ env buf₀ buf machine o (Ok sp)) (sym e.4) (loads e.0 e.1 e.2 e.3)
 
-  pub loaded-full : (s : ℕ) → input_over (length buf₀) 0 0 g.given ≡ some s
-      → Loads g env₀ env buf₀ buf state (input_over (length buf₀) 0 0 g.given) (Full s)
-  loaded-full s e = subst (λ (o : Option ℕ). Loads g env₀ env buf₀ buf state o (Full s)) (sym e) fills
+  pub loaded-full : {answer : Result ℕ Refusal} {why : Refusal} → answer ≡ Err why → (s : ℕ) × (why ≡ NoRoom s) × (input_over (length buf₀) 0 0 g.given ≡ some s)
+      → Loads g env₀ env buf₀ buf machine (input_over (length buf₀) 0 0 g.given) answer
+  loaded-full a (s, r, e) = rw (a, r, e) fills

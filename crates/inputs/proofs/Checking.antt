@@ -20,9 +20,10 @@ use Rattle.decimals.specs.Numbers.{pick}
 use Rattle.decimals.proofs.Parts.{rest_of}
 use Rattle.formula.specs.Declarations.{input_place, base_at}
 use Rattle.valuetext.specs.Storing.{value_store, measured, measured_if, counts_after}
-use Rattle.valuetext.specs.declared.storing.Measured.{Measured}
-use Rattle.valuetext.specs.declared.storing.Measured.TheVariants.{Elements, Over, No}
-use Rattle.inputs.specs.declared.texts.Texts.TheVariants.{Good, Bad}
+use Rattle.valuetext.specs.declared.storing.Unmeasured.{Unmeasured}
+use Rattle.valuetext.specs.declared.storing.Unmeasured.TheVariants.{NoValue, Over}
+use Rattle.snesl.specs.declared.refusal.Refusal.TheVariants.{NoValueText}
+use Rattle.std.specs.Prelude.{Result, Ok, Err}
 use Rattle.inputs.specs.Supply.{texts_of, per_input, tally_first, tallied}
 use Rattle.inputs.proofs.Supplying.{type_at, Supplied, supplied-none, supplied-more}
 
@@ -57,31 +58,31 @@ text-span t k next e =
     ap (λ (m : ℕ). take m (drop (k + 4) t)) n
 
 -- what measuring a text says of its value
-none-measured : (τ : ValueType) (t : List ℕ) → No ≡ measured τ t → value_of τ t ≡ none
+none-measured : (τ : ValueType) (t : List ℕ) → Err NoValue ≡ measured τ t → value_of τ t ≡ none
 none-measured τ t = go (value_of τ t)
   where
-    pick_some : (b : Bool) (n : ℕ) → No ≡ pick b (Elements n) Over → ◌≡◌ {A = ℕ} 0 1
+    pick_some : (b : Bool) (n : ℕ) → Err NoValue ≡ pick b (Ok n) (Err Over) → ◌≡◌ {A = ℕ} 0 1
     pick_some true n e = cc
     pick_some false n e = cc
 
-    go : (o : Option (Val τ)) → No ≡ measured_if τ o → o ≡ none
+    go : (o : Option (Val τ)) → Err NoValue ≡ measured_if τ o → o ≡ none
     go none e = refl
     go (some v) e = absurd (let z : ◌≡◌ {A = ℕ} 0 1 = pick_some (leb (room (value_store τ v)) most_elements) (room (value_store τ v)) e in omega arith)
 
-pub some-measured : (τ : ValueType) (t : List ℕ) (m : Measured) → m ≡ measured τ t → (m ≡ No → ⊥) → (v : Val τ) × (value_of τ t ≡ some v)
+pub some-measured : (τ : ValueType) (t : List ℕ) (m : Result ℕ Unmeasured) → m ≡ measured τ t → (m ≡ Err NoValue → ⊥) → (v : Val τ) × (value_of τ t ≡ some v)
 some-measured τ t m = go (value_of τ t) refl
   where
-    go : (o : Option (Val τ)) → value_of τ t ≡ o → m ≡ measured_if τ o → (m ≡ No → ⊥) → (v : Val τ) × (value_of τ t ≡ some v)
+    go : (o : Option (Val τ)) → value_of τ t ≡ o → m ≡ measured_if τ o → (m ≡ Err NoValue → ⊥) → (v : Val τ) × (value_of τ t ≡ some v)
     go none p e f = absurd (f e)
     go (some v) p e f = (v, p)
 
 -- the first input's value, and the others'
 first-none : (t : List ℕ) (at k : ℕ) (is : List Input) (ss : List Span) → value_of (type_at t at) (span_of t (span_at t k)) ≡ none
-    → texts_of (input_values t (input_at t at (base_at t at) ∷ is) (span_at t k ∷ ss)) ≡ Bad k
+    → texts_of (input_values t (input_at t at (base_at t at) ∷ is) (span_at t k ∷ ss)) ≡ Err (NoValueText k)
 unfolding input_values
 first-none t at k is ss e =
     let p : k + 4 - 4 ≡ k = omega arith in
-    rw e (ap Bad p)
+    rw e (ap (λ (q : ℕ). Err (NoValueText q)) p)
 
 others-tell : (τ : ValueType) {τs : List ValueType} (p : ℕ) (v : Val τ) (vs : Values τs) → texts_of (value_first {τ = τ} p (some v) vs) ≡ texts_of vs
 others-tell τ p v (wrong q) = refl
@@ -170,7 +171,7 @@ module _ {t : List ℕ} {is : List Input} {ss : List Span} {cs₀ : List ℕ} {n
     as-typed : type_of β d ≡ type_at t (input_place i)
     as-typed = ap₂ type_of as-based as-declared
 
-    pub told-bad : No ≡ measured (type_of β d) (text_from t k next) → (Bad k ≡ texts_of (input_values t is ss)) × (cs' ≡ tallied t is ss cs₀)
+    pub told-bad : Err NoValue ≡ measured (type_of β d) (text_from t k next) → (Err (NoValueText k) ≡ texts_of (input_values t is ss)) × (cs' ≡ tallied t is ss cs₀)
     told-bad m = go h.supplied h.same h.tally refl
       where
         nothing : value_of (type_at t (input_place i)) (span_of t (span_at t k)) ≡ none
@@ -182,7 +183,7 @@ module _ {t : List ℕ} {is : List Input} {ss : List Span} {cs₀ : List ℕ} {n
             → texts_of (input_values t is ss) ≡ texts_of (input_values t js us)
             → tallied t is ss cs₀ ≡ take (per_input * i) cs ++ tallied t js us (drop (per_input * i) cs)
             → m ≡ n - i
-            → (Bad k ≡ texts_of (input_values t is ss)) × (cs' ≡ tallied t is ss cs₀)
+            → (Err (NoValueText k) ≡ texts_of (input_values t is ss)) × (cs' ≡ tallied t is ss cs₀)
         go supplied-none q u z = absurd (omega arith)
         go (supplied-more {is = js} {ss = us} f s g r) q u z = (
           sym (q ∙ first-none t (input_place i) k js us nothing),
@@ -191,7 +192,7 @@ module _ {t : List ℕ} {is : List Input} {ss : List Span} {cs₀ : List ℕ} {n
               ∙ sym u,
         )
 
-    pub told-on : (m : Measured) → m ≡ measured (type_of β d) (text_from t k next) → (m ≡ No → ⊥) → length cs' ≡ length cs
+    pub told-on : (m : Result ℕ Unmeasured) → m ≡ measured (type_of β d) (text_from t k next) → (m ≡ Err NoValue → ⊥) → length cs' ≡ length cs
         → Telling t is ss cs₀ (n - (i + 1)) (i + 1) next cs'
     told-on m p f long = go h.supplied h.same h.tally refl
       where
@@ -231,7 +232,7 @@ module _ {t : List ℕ} {is : List Input} {ss : List Span} {cs₀ : List ℕ} {n
             }
 
 pub told-all : {t : List ℕ} {is : List Input} {ss : List Span} {cs₀ : List ℕ} {left i k : ℕ} {cs : List ℕ} → Telling t is ss cs₀ left i k cs → left ≤ 0
-    → (Good ≡ texts_of (input_values t is ss)) × (cs ≡ tallied t is ss cs₀)
+    → (Ok tt ≡ texts_of (input_values t is ss)) × (cs ≡ tallied t is ss cs₀)
 unfolding input_values tallied
 told-all {t} {is} {ss} {cs₀} {left} {i} {k} {cs} h l = go h.supplied h.same h.tally l
   where
@@ -239,6 +240,6 @@ told-all {t} {is} {ss} {cs₀} {left} {i} {k} {cs} h l = go h.supplied h.same h.
         → texts_of (input_values t is ss) ≡ texts_of (input_values t js us)
         → tallied t is ss cs₀ ≡ take (per_input * i) cs ++ tallied t js us (drop (per_input * i) cs)
         → n ≤ 0
-        → (Good ≡ texts_of (input_values t is ss)) × (cs ≡ tallied t is ss cs₀)
+        → (Ok tt ≡ texts_of (input_values t is ss)) × (cs ≡ tallied t is ss cs₀)
     go supplied-none q u l = (sym q, sym (u ∙ take-append-drop (per_input * i) cs))
     go (supplied-more f s g r) q u l = absurd (omega arith)

@@ -13,6 +13,7 @@ use lib.IntN.{ℤ}
 use lib.ListN.{length, get_or, set, take, drop, length-append, length-take}
 use lib.Seq.{sets, sets-eq, length-sets, take_at, drop_at, length-take-le}
 use Rattle.laws.specs.Parts.{written}
+use Rattle.environment.specs.declared.machine.Machine.{Machine}
 use Rattle.environment.specs.Words.{Place, place_words, tree_words, spelled}
 use Rattle.environment.proofs.Stack.{from-written, length-written}
 use Rattle.snesl.specs.declared.code.Variable.{Variable}
@@ -26,16 +27,17 @@ use Rattle.snesl.specs.Representation.{concat, segments, represent}
 use Rattle.snesl.specs.Inputs.{input_tree}
 use Rattle.snesl.proofs.Types.{depth-of-type}
 use Rattle.steps.specs.Holding.{counters, Held, place, keeps}
-use Rattle.steps.proofs.Executing.{next-id, next-element, spent-is, counted_is, four-words}
+use Rattle.steps.proofs.Executing.{next-id, next-element, spent-is, counted_is}
 use Rattle.steps.proofs.Stores.{contents-append, room-append, newest}
 use Rattle.leaves.specs.Places.{places, Shapely, shapely-leaf, shapely-node, shaped-more, shallow-more}
 use Rattle.leaves.proofs.Places.{tree-kept, places-kept, shapely-kept, shaped-kept, place-newest}
 use Rattle.decimals.specs.Numbers.{pick}
 use Rattle.valuetext.specs.Storing.{value_store, value_store_if, text_elements, Fillable}
 use Rattle.levels.specs.Counts.{total_of}
-use Rattle.levels.specs.declared.counts.Total.TheVariants.{Of, Over}
 use Rattle.valuetext.proofs.Represented.{lens-length, lens-total, order-length}
-use Rattle.inputs.specs.declared.loading.Loaded.TheVariants.{At, Full}
+use Rattle.snesl.specs.declared.refusal.Refusal.TheVariants.{NoRoom}
+use Rattle.snesl.specs.declared.refusal.Refusal.{Refusal}
+use Rattle.std.specs.Prelude.{Result, Ok, Err, Some, None}
 use Rattle.inputs.specs.Places.{row_words}
 use Rattle.inputs.specs.Loading.{unspent, bind_one, Next, Takes, takes, passes}
 
@@ -91,7 +93,7 @@ module _ (σ : Store) where
 
 -- ---- streams stored behind those of a machine
 
-module _ {σ : Store} {buf : List ℤ} {state : List ℕ} (h : Held (unspent σ) buf state) (τ : Store) (few : length (σ ++ τ) ≤ most_elements)
+module _ {σ : Store} {buf : List ℤ} {machine : Machine} (h : Held (unspent σ) buf machine) (τ : Store) (few : length (σ ++ τ) ≤ most_elements)
     (fits : room σ + room τ ≤ length buf) where
   apart : sets buf (room σ) (contents τ) ≡ take (room σ) buf ++ contents τ ++ drop (room σ + room τ) buf
   apart = sets-eq (contents τ) buf (room σ) fits
@@ -101,11 +103,11 @@ module _ {σ : Store} {buf : List ℤ} {state : List ℕ} (h : Held (unspent σ)
       length-append (take (room σ) buf) (contents τ)
       ∙ (ap (λ (n : ℕ). n + room τ) (length-take-le (room σ) buf (omega arith)) ∙ sym (room-append σ τ))
 
-  behind-held : (state' : List ℕ) → take 4 state' ≡ counters (unspent (σ ++ τ)) → Held (unspent (σ ++ τ)) (sets buf (room σ) (contents τ)) state'
-  behind-held state' w =
+  behind-held : (machine' : Machine) → machine' ≡ counters (unspent (σ ++ τ)) → Held (unspent (σ ++ τ)) (sets buf (room σ) (contents τ)) machine'
+  behind-held machine' w =
       let long : length (sets buf (room σ) (contents τ)) ≡ length buf = length-sets buf (room σ) (contents τ) in
       record {
-        words = w;
+        counts-are = w;
         contents-are =
             ap (take (room (σ ++ τ))) apart
             ∙ (take_at (take (room σ) buf ++ contents τ) (drop (room σ + room τ) buf) (room (σ ++ τ)) front_long
@@ -123,37 +125,20 @@ module _ {σ : Store} {buf : List ℤ} {state : List ℕ} (h : Held (unspent σ)
       ∙ (drop_at (take (room σ) buf ++ contents τ) (drop (room σ + room τ) buf) (room (σ ++ τ)) front_long
       ∙ ap (λ (n : ℕ). drop n buf) (sym (room-append σ τ)))
 
--- ---- two words written
-
-front-set : (l : List ℕ) (a b : ℕ) → 4 ≤ length l → take 4 (set (set l 0 a) 1 b) ≡ a ∷ b ∷ get_or l 2 0 ∷ get_or l 3 0 ∷ []
-front-set [] a b e = absurd (omega arith)
-front-set (p ∷ []) a b e = absurd (omega arith)
-front-set (p ∷ q ∷ []) a b e = absurd (omega arith)
-front-set (p ∷ q ∷ r ∷ []) a b e = absurd (omega arith)
-front-set (p ∷ q ∷ r ∷ s ∷ l) a b e = refl
-
-behind-set : (l : List ℕ) (a b : ℕ) → drop 4 (set (set l 0 a) 1 b) ≡ drop 4 l
-behind-set [] a b = refl
-behind-set (p ∷ []) a b = refl
-behind-set (p ∷ q ∷ l) a b = refl
-
 -- ---- the input
 
-module _ {text : List ℕ} {x : Variable} {β : Base} {d : ℕ} {counts : List ℕ} {sp : ℕ} {env : List ℕ} {buf : List ℤ} {state : List ℕ}
-    (g : Next text x β d counts sp env buf state) where
+module _ {text : List ℕ} {x : Variable} {β : Base} {d : ℕ} {counts : List ℕ} {sp : ℕ} {env : List ℕ} {buf : List ℤ} {machine : Machine}
+    (g : Next text x β d counts sp env buf machine) where
   abbrev σ : Store
   σ = g.store
 
   abbrev τ : Store
   τ = value_store (type_of β d) g.value
 
-  pub four : 4 ≤ length state
-  four = four-words g.stands.held
-
-  pub first-free : get_or state 0 0 ≡ length σ
+  pub first-free : machine.streams ≡ length σ
   first-free = next-id g.stands.held
 
-  pub first-room : get_or state 1 0 ≡ room σ
+  pub first-room : machine.room ≡ room σ
   first-room = next-element g.stands.held
 
   -- its counts add up to its room
@@ -169,26 +154,26 @@ module _ {text : List ℕ} {x : Variable} {β : Base} {d : ℕ} {counts : List �
   lengths-room : sum_of (take (d + 1) counts) ≡ room τ
   lengths-room = ap sum_of lengths-counted ∙ lens-total β d (g.value ∷ [])
 
-  pub full-now : Over ≡ total_of (take (d + 1) counts) (length buf - get_or state 1 0) → {env' : List ℕ} {buf' : List ℤ} {state' : List ℕ}
-      → Takes g env' buf' state' (Full (get_or state 0 0))
-  full-now o {env'} {buf'} {state'} =
-      subst (λ (s : ℕ). Takes g env' buf' state' (Full s)) (sym first-free)
-      (passes (omega (arith, go (leb (sum_of (take (d + 1) counts)) (length buf - get_or state 1 0)) refl o, lengths-room, first-room, g.stands.held.fits)))
+  pub full-now : None ≡ total_of (take (d + 1) counts) (length buf - machine.room) → {answer : Result ℕ Refusal} → answer ≡ Err (NoRoom (machine.streams))
+      → {env' : List ℕ} {buf' : List ℤ} {machine' : Machine} → Takes g env' buf' machine' answer
+  full-now o {answer} a {env'} {buf'} {machine'} =
+      subst (λ r. Takes g env' buf' machine' r) (ap (λ s. Err (NoRoom s)) (sym first-free) ∙ sym a)
+      (passes (omega (arith, go (leb (sum_of (take (d + 1) counts)) (length buf - machine.room)) refl o, lengths-room, first-room, g.stands.held.fits)))
     where
-      go : (b : Bool) → leb (sum_of (take (d + 1) counts)) (length buf - get_or state 1 0) ≡ b → Over ≡ pick b (Of (sum_of (take (d + 1) counts))) Over
-          → length buf - get_or state 1 0 < sum_of (take (d + 1) counts)
+      go : (b : Bool) → leb (sum_of (take (d + 1) counts)) (length buf - machine.room) ≡ b → None ≡ pick b (Some (sum_of (take (d + 1) counts))) None
+          → length buf - machine.room < sum_of (take (d + 1) counts)
       go true p q = let z : ◌≡◌ {A = ℕ} 0 1 = cc in absurd (omega arith)
-      go false p q = leb-false (sum_of (take (d + 1) counts)) (length buf - get_or state 1 0) p
+      go false p q = leb-false (sum_of (take (d + 1) counts)) (length buf - machine.room) p
 
-  module _ (n : ℕ) (o : Of n ≡ total_of (take (d + 1) counts) (length buf - get_or state 1 0)) where
-    pub added : (n ≡ sum_of (take (d + 1) counts)) × (n ≤ length buf - get_or state 1 0)
-    added = go (leb (sum_of (take (d + 1) counts)) (length buf - get_or state 1 0)) refl o
+  module _ (n : ℕ) (o : Some n ≡ total_of (take (d + 1) counts) (length buf - machine.room)) where
+    pub added : (n ≡ sum_of (take (d + 1) counts)) × (n ≤ length buf - machine.room)
+    added = go (leb (sum_of (take (d + 1) counts)) (length buf - machine.room)) refl o
       where
-        go : (b : Bool) → leb (sum_of (take (d + 1) counts)) (length buf - get_or state 1 0) ≡ b → Of n ≡ pick b (Of (sum_of (take (d + 1) counts))) Over
-            → (n ≡ sum_of (take (d + 1) counts)) × (n ≤ length buf - get_or state 1 0)
+        go : (b : Bool) → leb (sum_of (take (d + 1) counts)) (length buf - machine.room) ≡ b → Some n ≡ pick b (Some (sum_of (take (d + 1) counts))) None
+            → (n ≡ sum_of (take (d + 1) counts)) × (n ≤ length buf - machine.room)
         go true p q =
             let e : n ≡ sum_of (take (d + 1) counts) = cc in
-            (e, omega (arith, leb-true (sum_of (take (d + 1) counts)) (length buf - get_or state 1 0) p))
+            (e, omega (arith, leb-true (sum_of (take (d + 1) counts)) (length buf - machine.room) p))
         go false p q = let z : ◌≡◌ {A = ℕ} 0 1 = cc in absurd (omega arith)
 
     total : n ≡ room τ
@@ -197,28 +182,27 @@ module _ {text : List ℕ} {x : Variable} {β : Base} {d : ℕ} {counts : List �
     fits : room σ + room τ ≤ length buf
     fits = omega (arith, total, added.1, first-room, g.stands.held.fits)
 
-    pub fills : Fillable β d text counts (get_or state 1 0) (length buf)
+    pub fills : Fillable β d text counts (machine.room) (length buf)
     fills =
         record { value = g.value; reads = g.reads; shallow = g.shallow; counted = g.counted; room_for = omega (arith, fits, first-room) }
 
-    pub room_small : get_or state 1 0 + n ≤ most_elements
+    pub room_small : machine.room + n ≤ most_elements
     room_small = omega (arith, fits, first-room, total, g.small)
 
-    pub id-small : get_or state 0 0 + suc most_depth ≤ most_elements
+    pub id-small : machine.streams + suc most_depth ≤ most_elements
     id-small = omega (arith, first-free, g.few)
 
-    -- the machine and the words afterwards
+    -- the machine afterwards
     grown : length (σ ++ τ) ≡ length σ + suc d
     grown = length-append σ τ ∙ ap (λ (k : ℕ). length σ + k) (order-length (represent (type_of β d) (g.value ∷ [])) ∙ ap suc (depth-of-type β d))
 
-    new-state : take 4 (set (set state 0 (get_or state 0 0 + (d + 1))) 1 (get_or state 1 0 + n)) ≡ counters (unspent (σ ++ τ))
+    new-state : record { streams = machine.streams + (d + 1); room = machine.room + n; work = machine.work; steps = machine.steps } ≡ counters (unspent (σ ++ τ))
     new-state =
-        let i : get_or state 0 0 + (d + 1) ≡ length (σ ++ τ) = omega (arith, grown, first-free) in
-        let r : get_or state 1 0 + n ≡ room (σ ++ τ) = omega (arith, first-room, total, room-append σ τ) in
-        front-set state (get_or state 0 0 + (d + 1)) (get_or state 1 0 + n) four
-        ∙ (λ j. i j ∷ r j ∷ spent-is g.stands.held j ∷ counted_is g.stands.held j ∷ [])
+        let i : machine.streams + (d + 1) ≡ length (σ ++ τ) = omega (arith, grown, first-free) in
+        let r : machine.room + n ≡ room (σ ++ τ) = omega (arith, first-room, total, room-append σ τ) in
+        λ j. record { streams = i j; room = r j; work = spent-is g.stands.held j; steps = counted_is g.stands.held j }
 
-    module _ (buf' : List ℤ) (b : buf' ≡ sets buf (get_or state 1 0) (text_elements (type_of β d) text)) where
+    module _ (buf' : List ℤ) (b : buf' ≡ sets buf (machine.room) (text_elements (type_of β d) text)) where
       stored : buf' ≡ sets buf (room σ) (contents τ)
       stored =
           b
@@ -226,11 +210,11 @@ module _ {text : List ℕ} {x : Variable} {β : Base} {d : ℕ} {counts : List �
 
       module _ (env₁ : List ℕ) (top : ℕ) (long : length env₁ ≡ length env) (p : top + 3 * length (take (d + 1) counts) ≡ sp)
           (w : drop top env₁
-          ≡ row_words (get_or state 0 0) ((get_or state 1 0 + n) - sum_of (take (d + 1) counts)) (take (d + 1) counts) ++ drop sp env) where
-        place-words : row_words (get_or state 0 0) ((get_or state 1 0 + n) - sum_of (take (d + 1) counts)) (take (d + 1) counts)
+          ≡ row_words (machine.streams) ((machine.room + n) - sum_of (take (d + 1) counts)) (take (d + 1) counts) ++ drop sp env) where
+        place-words : row_words (machine.streams) ((machine.room + n) - sum_of (take (d + 1) counts)) (take (d + 1) counts)
             ≡ tree_words (map_tree (place (σ ++ τ)) (input_tree (length σ) (depth_of (type_of β d))))
         place-words =
-            let start : (get_or state 1 0 + n) - sum_of (take (d + 1) counts) ≡ room σ = omega (arith, added.0, first-room) in
+            let start : (machine.room + n) - sum_of (take (d + 1) counts) ≡ room σ = omega (arith, added.0, first-room) in
             ap₂ (λ (i s : ℕ). row_words i s (take (d + 1) counts)) first-free start
             ∙ (ap (row_words (length σ) (room σ)) lengths-counted ∙ sym (rowed σ β d (g.value ∷ [])).words)
 
@@ -255,12 +239,12 @@ module _ {text : List ℕ} {x : Variable} {β : Base} {d : ℕ} {counts : List �
             ∙ ap₂ (λ (n : ℕ) (l : List ℕ). x.0 ∷ n ∷ l) (sym (depth-of-type β d))
             (ap (λ (k : ℕ). drop k env₁) back ∙ (w ∙ ap₂ ◌++◌ place-words others))
 
-        pub taken : {env' : List ℕ} {state' : List ℕ} → env' ≡ written (top - 2) (x.0 ∷ d ∷ []) env₁
-            → state' ≡ set (set state 0 (get_or state 0 0 + (d + 1))) 1 (get_or state 1 0 + n)
-            → Takes g env' buf' state' (At (top - 2))
-        taken {env'} {state'} v s =
+        pub taken : {env' : List ℕ} {machine' : Machine} → env' ≡ written (top - 2) (x.0 ∷ d ∷ []) env₁
+            → machine' ≡ record { streams = machine.streams + (d + 1); room = machine.room + n; work = machine.work; steps = machine.steps }
+            → Takes g env' buf' machine' (Ok (top - 2))
+        taken {env'} {machine'} v s =
             let few : length (σ ++ τ) ≤ most_elements = omega (arith, grown, g.few, g.shallow) in
-            let h = behind-held g.stands.held τ few fits state' (ap (take 4) s ∙ new-state) in
+            let h = behind-held g.stands.held τ few fits machine' (s ∙ new-state) in
             let k = behind-kept g.stands.held τ few fits in
             let r = rowed σ β d (g.value ∷ []) in
             takes {top = top - 2}
@@ -269,8 +253,7 @@ module _ {text : List ℕ} {x : Variable} {β : Base} {d : ℕ} {counts : List �
               spells = ap (drop (top - 2)) v ∙ spelt;
               shaped = shaped-more r.shapely (shaped-kept σ τ g.stands.shaped);
               shallow = shallow-more {τ = type_of β d} (omega (arith, depth-of-type β d, g.shallow)) g.stands.shallow;
-              held = subst (λ (l : List ℤ). Held (unspent (σ ++ τ)) l state') (sym stored) h;
-              behind = ap (drop 4) s ∙ (behind-set state (get_or state 0 0 + (d + 1)) (get_or state 1 0 + n) ∙ g.stands.behind);
+              held = subst (λ (l : List ℤ). Held (unspent (σ ++ τ)) l machine') (sym stored) h;
               within = omega (arith, ap length v, length-written env₁ (top - 2) (x.0 ∷ d ∷ []) before-named, top-room.1);
             })
             (ap (drop (room (σ ++ τ))) stored ∙ k)

@@ -1,6 +1,6 @@
 -- Loading a job's inputs (01, "Translation" and refusal 9): their streams into the stream buffer in id order, and a binding for each on the stack of words, the
 -- newest first.
-use Rattle.std.specs.Prelude.{ℕ, suc, ◌+◌, ◌*◌, ◌≤◌, ◌<◌, List, [], ◌∷◌, ◌++◌, map, ◌≡◌, ℤ, length, take, drop}
+use Rattle.std.specs.Prelude.{Result, Ok, Err, ℕ, suc, ◌+◌, ◌*◌, ◌≤◌, ◌<◌, List, [], ◌∷◌, ◌++◌, map, ◌≡◌, ℤ, length, take, drop}
 use Rattle.std.proofs.Math.Option.{Option, some, none}
 use Rattle.snesl.specs.declared.code.Variable.{Variable}
 use Rattle.snesl.specs.declared.limits.Formula.{Formula}
@@ -15,17 +15,22 @@ use Rattle.snesl.specs.Text.{value_of}
 use Rattle.snesl.specs.Records.{Input}
 use Rattle.snesl.specs.Checking.{Name, context, input_types, turned, input_names}
 use Rattle.snesl.specs.Inputs.{input_tree, input_trees, input_streams}
+use Rattle.environment.specs.declared.machine.Machine.{Machine}
 use Rattle.environment.specs.Words.{spelled}
 use Rattle.steps.specs.Holding.{Held, keeps}
 use Rattle.leaves.specs.Places.{places, Shaped, Shallow}
 use Rattle.valuetext.specs.Storing.{value_store}
 use Rattle.inputs.specs.Supply.{Valued}
-use Rattle.inputs.specs.declared.loading.Loaded.{Loaded}
-use Rattle.inputs.specs.declared.loading.Loaded.TheVariants.{At, Full}
+use Rattle.snesl.specs.declared.refusal.Refusal.{Refusal}
+use Rattle.snesl.specs.declared.refusal.Refusal.TheVariants.{NoRoom}
 
 -- the most words that an input's binding takes: its name, its depth, and three for each of nine streams
 abbrev pub binding_words : ℕ
 binding_words = 29
+
+-- nothing counted yet
+abbrev pub fresh : Machine
+fresh = record { streams = 0; room = 0; work = 0; steps = 0 }
 
 -- nothing spent on this store
 abbrev pub unspent : Store → State
@@ -41,27 +46,22 @@ pub record Bound : Type 0 where
 abbrev pub bind_one : Bound → Variable → (s : ℕ) → ValueType → Bound
 bind_one b x s τ = record { context = τ ∷ b.context; names = x ▹ b.names; trees = input_tree s (depth_of τ) ▹ b.trees }
 
--- the words behind the machine's four, of a walk that only runs
-abbrev pub idle : List ℕ
-idle = 0 ∷ 0 ∷ 0 ∷ 0 ∷ []
-
 -- the inputs' words from sp on, and their streams in the buffer
-pub record Stands (b : Bound) (σ : Store) (env : List ℕ) (sp : ℕ) (buf : List ℤ) (state : List ℕ) : Type 0 where
+pub record Stands (b : Bound) (σ : Store) (env : List ℕ) (sp : ℕ) (buf : List ℤ) (machine : Machine) : Type 0 where
   pub spells : drop sp env ≡ spelled b.names (places σ b.trees)
   pub shaped : Shaped σ b.context b.trees
   pub shallow : Shallow b.context
-  pub held : Held (unspent σ) buf state
-  pub behind : drop 4 state ≡ idle
+  pub held : Held (unspent σ) buf machine
   pub within : sp ≤ length env
 
 -- ---- one input
 
 -- a text that is the value of an input x of base β and depth d, with its counts, behind inputs that are loaded
-pub record Next (text : List ℕ) (x : Variable) (β : Base) (d : ℕ) (counts : List ℕ) (sp : ℕ) (env : List ℕ) (buf : List ℤ) (state : List ℕ) : Type 0 where
+pub record Next (text : List ℕ) (x : Variable) (β : Base) (d : ℕ) (counts : List ℕ) (sp : ℕ) (env : List ℕ) (buf : List ℤ) (machine : Machine) : Type 0 where
   pub bound : Bound
   pub store : Store
   pub value : Val (type_of β d)
-  pub stands : Stands bound store env sp buf state
+  pub stands : Stands bound store env sp buf machine
   pub reads : value_of (type_of β d) text ≡ some value
   pub counted : take (suc d) counts ≡ map len (value_store (type_of β d) value)
   pub shallow : d ≤ most_depth
@@ -70,16 +70,16 @@ pub record Next (text : List ℕ) (x : Variable) (β : Base) (d : ℕ) (counts :
   pub small : length buf ≤ most_elements
 
 -- its streams fit behind the others, and it is bound to them; or they don't
-pub data Takes {text : List ℕ} {x : Variable} {β : Base} {d : ℕ} {counts : List ℕ} {sp : ℕ} {env : List ℕ} {buf : List ℤ} {state : List ℕ}
-    (g : Next text x β d counts sp env buf state)
-    (env' : List ℕ) (buf' : List ℤ) (state' : List ℕ) : Loaded → Type 0 where
+pub data Takes {text : List ℕ} {x : Variable} {β : Base} {d : ℕ} {counts : List ℕ} {sp : ℕ} {env : List ℕ} {buf : List ℤ} {machine : Machine}
+    (g : Next text x β d counts sp env buf machine)
+    (env' : List ℕ) (buf' : List ℤ) (machine' : Machine) : Result ℕ Refusal → Type 0 where
   takes : {top : ℕ}
       → room g.store + room (value_store (type_of β d) g.value) ≤ length buf
-      → Stands (bind_one g.bound x (length g.store) (type_of β d)) (g.store ++ value_store (type_of β d) g.value) env' top buf' state'
+      → Stands (bind_one g.bound x (length g.store) (type_of β d)) (g.store ++ value_store (type_of β d) g.value) env' top buf' machine'
       → keeps (g.store ++ value_store (type_of β d) g.value) buf buf'
       → sp ≤ top + binding_words
-      → Takes g env' buf' state' (At top)
-  passes : length buf < room g.store + room (value_store (type_of β d) g.value) → Takes g env' buf' state' (Full (length g.store))
+      → Takes g env' buf' machine' (Ok top)
+  passes : length buf < room g.store + room (value_store (type_of β d) g.value) → Takes g env' buf' machine' (Err (NoRoom (length g.store)))
 
 -- ---- all of them
 
@@ -87,11 +87,11 @@ abbrev pub inputs_bound : (is : List Input) → Bound
 inputs_bound is = record { context = context is; names = turned ∅ (input_names is); trees = turned ∅ (input_trees 0 (input_types is)) }
 
 -- What is answered and left where the room is passed by the input with this first id, or by none. Behind the streams the buffer is as it was.
-pub data Loads {t : List ℕ} {f : Formula} (g : Valued t f) (env env' : List ℕ) (buf buf' : List ℤ) (state' : List ℕ) : Option ℕ → Loaded → Type 0 where
+pub data Loads {t : List ℕ} {f : Formula} (g : Valued t f) (env env' : List ℕ) (buf buf' : List ℤ) (machine' : Machine) : Option ℕ → Result ℕ Refusal → Type 0 where
   loads : {top : ℕ}
-      → Stands (inputs_bound g.job.inputs) (input_streams g.given) env' top buf' state'
+      → Stands (inputs_bound g.job.inputs) (input_streams g.given) env' top buf' machine'
       → keeps (input_streams g.given) buf buf'
       → length env ≤ top + binding_words * most_inputs
       → length (input_streams g.given) ≤ suc most_depth * most_inputs
-      → Loads g env env' buf buf' state' none (At top)
-  fills : {s : ℕ} → Loads g env env' buf buf' state' (some s) (Full s)
+      → Loads g env env' buf buf' machine' none (Ok top)
+  fills : {s : ℕ} → Loads g env env' buf buf' machine' (some s) (Err (NoRoom s))

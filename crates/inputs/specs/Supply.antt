@@ -1,5 +1,5 @@
 -- The inputs of a job that was read: what each input's record and its VA record say, and whether all texts are values.
-use Rattle.std.specs.Prelude.{ℕ, suc, ◌*◌, ◌≤◌, List, [], ◌∷◌, ◌++◌, map, ◌≡◌, length, take, drop}
+use Rattle.std.specs.Prelude.{Result, Ok, Err, ℕ, suc, ◌*◌, ◌≤◌, List, [], ◌∷◌, ◌++◌, map, ◌≡◌, length, take, drop}
 use Rattle.std.proofs.Math.Option.{Option, some, none}
 use Rattle.snesl.specs.declared.limits.Formula.{Formula}
 use Rattle.snesl.specs.Limits.{most_inputs, most_depth}
@@ -12,8 +12,8 @@ use Rattle.snesl.specs.Records.{Raw, Input, Span, job, read_job}
 use Rattle.snesl.specs.Checking.{input_type, input_types}
 use Rattle.snesl.specs.Inputs.{Values, wrong, right, input_values}
 use Rattle.valuetext.specs.Storing.{value_store, counts_after}
-use Rattle.inputs.specs.declared.texts.Texts.{Texts}
-use Rattle.inputs.specs.declared.texts.Texts.TheVariants.{Good, Bad}
+use Rattle.snesl.specs.declared.refusal.Refusal.{Refusal}
+use Rattle.snesl.specs.declared.refusal.Refusal.TheVariants.{NoValueText}
 
 -- these bytes are a job's, and its formula is this one
 pub record Read (t : List ℕ) (f : Formula) : Type 0 where
@@ -26,9 +26,9 @@ pub record Read (t : List ℕ) (f : Formula) : Type 0 where
   pub formula : f ≡ record { inputs = length inputs; expression = expression; end = next }
 
 -- 7 over all inputs
-abbrev pub texts_of : {τs : List ValueType} → Values τs → Texts
-texts_of (wrong p) = Bad p
-texts_of (right vs) = Good
+abbrev pub texts_of : {τs : List ValueType} → Values τs → Result Unit Refusal
+texts_of (wrong p) = Err (NoValueText p)
+texts_of (right vs) = Ok tt
 
 -- how many counts are kept for an input: one for each level of the deepest value
 abbrev pub per_input : ℕ

@@ -10,11 +10,9 @@ pub fn push_places(lengths: &[usize], id: usize, end: usize, sp: usize, env: &mu
     requires { (3 * length lengths.now ≤ sp) × (sp ≤ length env.old) × (id + length lengths.now ≤ 4294967296) × (sum_of lengths.now ≤ end) × (end < 4294967296) }
     ensures { (result + 3 * length lengths.now ≡ sp) × (drop result env.new ≡ row_words id (end - sum_of lengths.now) lengths.now ++ drop sp env.old) }
 {
-    let mut i = lengths.len();
     let mut start = end;
     let mut top = sp;
-    while 0 < i {
-        i -= 1;
+    for i in (0..lengths.len()).rev() {
         let n = lengths[i];
         start -= n;
         top -= 3;

@@ -22,13 +22,14 @@ use Rattle.snesl.specs.Outcome.{refusal_of}
 use Rattle.snesl.specs.Translation.{id}
 use Rattle.environment.specs.Words.{place_words}
 use Rattle.environment.proofs.Stack.{part-drop, drop-written, at-written}
+use Rattle.sink.specs.declared.state.Sink as lent
+use Rattle.sink.specs.declared.state.Walk.{Walk}
 use Rattle.sink.specs.Sinks.{Sink, defined, opened, feed, told}
-use Rattle.sink.specs.Sunk.{Sunk, Tells}
+use Rattle.sink.specs.Sunk.{Sunk}
 use Rattle.steps.specs.Walking.{stepped, walked}
 use Rattle.steps.specs.Holding.{Held, keeps, place, PlacedAt, Stopping}
 use Rattle.steps.specs.declared.Operands.{Operands}
-use Rattle.steps.specs.declared.Executed.{Executed}
-use Rattle.steps.specs.declared.Executed.TheVariants.{Made, Stopped}
+use Rattle.std.specs.Prelude.{Ok, Err, Result as Returned}
 use Rattle.steps.proofs.Stores.{kept, newest}
 use Rattle.steps.proofs.Stepping.{added, units_of_lem, ints_of}
 use Rattle.steps.proofs.Walking.{walked-define, walked-with, walked_one}
@@ -39,7 +40,7 @@ use Rattle.leaves.specs.Arms.{Bare, filling, Filled, Flagged, counting_up, Count
 use Rattle.leaves.proofs.Told.{counting-fed}
 use Rattle.leaves.proofs.Places.{place_kept}
 use Rattle.leaves.proofs.Growing.{keeps_then, onward-as, onward-stop}
-use Rattle.leaves.proofs.Making.{held-told, Making, making, stopping}
+use Rattle.leaves.proofs.Making.{Making, making, stopping}
 use Rattle.leaves.proofs.Singles.{pushable, pushed-words, items, items-stored, items-long}
 
 abbrev ones : Transducer
@@ -50,25 +51,25 @@ scan a = ScanPlus (pos 0) (id a) (id (a + 2))
 
 -- ---- the ones
 
-module _ {sp : ℕ} {env : List ℕ} {buf : List ℤ} {state text : List ℕ} {m : State} {k : Sink} (g : Bare sp env buf state text m k) where
-  pub some-streams : 1 ≤ get_or state 0 0
+module _ {sp : ℕ} {env : List ℕ} {buf : List ℤ} {state : Walk} {text : List ℕ} {m : State} {k : Sink} (g : Bare sp env buf state text m k) where
+  pub some-streams : 1 ≤ state.machine.streams
   some-streams = omega (arith, next-id g.held, g.some)
 
-  module _ {state₁ text₁ : List ℕ} (o : Tells (opened (get_or state 0 0 ∷ []) (get_or state 0 0 - 1) [] k) text₁ state₁ state) where
+  module _ {sink₁ : lent.Sink} {text₁ : List ℕ} (o : Sunk (opened (state.machine.streams ∷ []) (state.machine.streams - 1) [] k) text₁ sink₁) where
     abbrev after-opening : Sink
     after-opening = opened (length m.store ∷ []) (length m.store - 1) [] k
 
-    open-sunk : Sunk after-opening text₁ state₁
-    open-sunk = subst (λ s. Sunk (opened (s ∷ []) (s - 1) [] k) text₁ state₁) (next-id g.held) o.sunk
+    open-sunk : Sunk after-opening text₁ sink₁
+    open-sunk = subst (λ s. Sunk (opened (s ∷ []) (s - 1) [] k) text₁ sink₁) (next-id g.held) o
 
-    pub ones-ready : (at : Operands) → Makes (Const (pos 1)) at env buf state₁ text₁ m (opened (length m.store ∷ []) (length m.store - 1) [] k)
+    pub ones-ready : (at : Operands) → Makes (Const (pos 1)) at env buf (record { machine = state.machine; sink = sink₁ }) text₁ m (opened (length m.store ∷ []) (length m.store - 1) [] k)
     ones-ready at =
-        record { executable = record { held = held-told g.held o.machine; base = base.Int; placed = tt; more = omega (arith, g.few) }; sunk = open-sunk }
+        record { executable = record { held = g.held; base = base.Int; placed = tt; more = omega (arith, g.few) }; sunk = open-sunk }
 
-    module _ (units : ℕ) {new : List ℤ} {state₂ text₂ : List ℕ} {r : Executed}
+    module _ (units : ℕ) {new : List ℤ} {state₂ : Walk} {text₂ : List ℕ} {r : Returned ℕ Refusal}
         (p : Instructed (stepped (length buf) units (Const (pos 1)) m) (Const (pos 1)) m (opened (length m.store ∷ []) (length m.store - 1) [] k) buf new state₂ text₂ r) where
-      pub fill-stopped : {env' : List ℕ} {q : Refusal} → r ≡ Stopped q
-          → Filled (stepped (length buf) units (Const (pos 1)) m) m k sp env env' buf new state₂ text₂ (Stopped q)
+      pub fill-stopped : {env' : List ℕ} {q : Refusal} → r ≡ Err q
+          → Filled (stepped (length buf) units (Const (pos 1)) m) m k sp env env' buf new state₂ text₂ (Err q)
       fill-stopped {q = q} e =
           let s = stopping (length buf) units ones p q e in
           record {
@@ -76,22 +77,19 @@ module _ {sp : ℕ} {env : List ℕ} {buf : List ℤ} {state text : List ℕ} {m
             gave-up = λ why i f. sym e ∙ p.gave-up why i f;
           }
 
-      module _ {made : ℕ} (e : r ≡ Made made) where
+      module _ {made : ℕ} (e : r ≡ Ok made) where
         one : Making (length buf) units ones m after-opening buf new state₂ text₂ made
         one = making (length buf) units ones p made e
 
-        pub close-sunk : (j : Sink) × Sunk j text₂ state₂
+        pub close-sunk : (j : Sink) × Sunk j text₂ state₂.sink
         close-sunk = (_, one.sunk)
 
-        module _ {state₃ text₃ : List ℕ} (c : (j : Sink) → Sunk j text₂ state₂ → Tells (told Close j) text₃ state₃ state₂) where
-          held₃ : Held one.after new state₃
-          held₃ = held-told one.held (c _ one.sunk).machine
+        module _ {sink₃ : lent.Sink} {text₃ : List ℕ} (c : (j : Sink) → Sunk j text₂ state₂.sink → Sunk (told Close j) text₃ sink₃) where
+          pub fill-push : (1 ≤ state₂.machine.streams) × (state₂.machine.streams < 4294967296) × (made ≤ state₂.machine.room) × (state₂.machine.room < 4294967296)
+          fill-push = pushable one.held m.store (ints (items one base.Int refl)) (items-stored one base.Int refl) refl (items-long one base.Int refl)
 
-          pub fill-push : (4 ≤ length state₃) × (1 ≤ get_or state₃ 0 0) × (get_or state₃ 0 0 < 4294967296) × (made ≤ get_or state₃ 1 0) × (get_or state₃ 1 0 < 4294967296)
-          fill-push = pushable held₃ m.store (ints (items one base.Int refl)) (items-stored one base.Int refl) refl (items-long one base.Int refl)
-
-          pub fill-made : {env' : List ℕ} → env' ≡ written (sp - 3) ((get_or state₃ 0 0 - 1) ∷ (get_or state₃ 1 0 - made) ∷ made ∷ []) env
-              → Filled (stepped (length buf) units (Const (pos 1)) m) m k sp env env' buf new state₃ text₃ (Made made)
+          pub fill-made : {env' : List ℕ} → env' ≡ written (sp - 3) ((state₂.machine.streams - 1) ∷ (state₂.machine.room - made) ∷ made ∷ []) env
+              → Filled (stepped (length buf) units (Const (pos 1)) m) m k sp env env' buf new (record { machine = state₂.machine; sink = sink₃ }) text₃ (Ok made)
           fill-made {env'} w =
               record {
                 went_on =
@@ -100,16 +98,16 @@ module _ {sp : ℕ} {env : List ℕ} {buf : List ℤ} {state text : List ℕ} {m
                     let same : one.after ≡ m' = cc in
                     subst
                     (λ q.
-                    (zs : List ℤ) × (q.store ≡ m.store ++ ints zs ∷ []) × (Made made ≡ Made (length zs)) × Held q new state₃ × keeps q.store buf new
-                    × Sunk (filling (length m.store) k) text₃ state₃ × (env' ≡ written (sp - 3) (place_words (place q.store (length m.store))) env))
+                    (zs : List ℤ) × (q.store ≡ m.store ++ ints zs ∷ []) × ◌≡◌ {A = Returned ℕ Refusal} (Ok made) (Ok (length zs)) × Held q new state₂.machine × keeps q.store buf new
+                    × Sunk (filling (length m.store) k) text₃ sink₃ × (env' ≡ written (sp - 3) (place_words (place q.store (length m.store))) env))
                     same (
                       items one base.Int refl,
                       items-stored one base.Int refl,
-                      ap Made (items-long one base.Int refl),
-                      held₃,
+                      ap Ok (items-long one base.Int refl),
+                      one.held,
                       one.kept,
-                      (c _ one.sunk).sunk,
-                      w ∙ ap (λ l. written (sp - 3) l env) (pushed-words held₃ m.store (ints (items one base.Int refl)) (items-stored one base.Int refl) refl (items-long one base.Int refl)),
+                      c _ one.sunk,
+                      w ∙ ap (λ l. written (sp - 3) l env) (pushed-words one.held m.store (ints (items one base.Int refl)) (items-stored one base.Int refl) refl (items-long one base.Int refl)),
                     );
                 gave-up = λ why i f. sym e ∙ p.gave-up why i f;
               }
@@ -142,8 +140,8 @@ placed-later {σ} τ {ρ} {env} {env'} {c} {s} {p} o e d =
     }
 
 -- a stop on the way
-counted_stop : {res : Result} {k : Sink} {m : State} {sp : ℕ} {env env' : List ℕ} {old new : List ℤ} {state text : List ℕ} {q : Refusal} → Stopping res q
-    → Counted res k m sp env env' old new state text (Stopped q)
+counted_stop : {res : Result} {k : Sink} {m : State} {sp : ℕ} {env env' : List ℕ} {old new : List ℤ} {state : Walk} {text : List ℕ} {q : Refusal} → Stopping res q
+    → Counted res k m sp env env' old new state text (Err q)
 counted_stop s =
     record {
       went_on = λ m' e. let both : stopped s.why s.where-at ≡ went m' = sym s.stops ∙ e in never (cc);
@@ -152,14 +150,14 @@ counted_stop s =
           let both : stopped s.why s.where-at ≡ stopped why i = sym s.stops ∙ e in
           let w : s.why ≡ why = cc in
           let j : s.where-at ≡ i = cc in
-          ap Stopped (s.refuses ∙ ap₂ refusal_of w j);
+          ap Err (s.refuses ∙ ap₂ refusal_of w j);
     }
 
-module _ (n : ℕ) {a sp : ℕ} {env : List ℕ} {buf : List ℤ} {state text : List ℕ} {m : State} {k : Sink} (g : Flagged a sp env buf state text m k) where
-  pub flags-id : get_or state 0 0 - 1 ≡ a
+module _ (n : ℕ) {a sp : ℕ} {env : List ℕ} {buf : List ℤ} {state : Walk} {text : List ℕ} {m : State} {k : Sink} (g : Flagged a sp env buf state text m k) where
+  pub flags-id : state.machine.streams - 1 ≡ a
   flags-id = omega (arith, next-id g.held, g.newest)
 
-  pub some_id : 1 ≤ get_or state 0 0
+  pub some_id : 1 ≤ state.machine.streams
   some_id = omega (arith, next-id g.held, g.newest)
 
   pub units-ready : (q : ℕ) {i : ℕ} → i ≡ a → Makes (Usum (id i)) (record { first = sp - 3; second = q }) env buf state text m k
@@ -167,19 +165,19 @@ module _ (n : ℕ) {a sp : ℕ} {env : List ℕ} {buf : List ℤ} {state text : 
       subst (λ i. Makes (Usum (id i)) (record { first = sp - 3; second = q }) env buf state text m k) (sym e)
       (record { executable = record { held = g.held; base = base.Int; placed = (g.flagged, tt); more = omega (arith, g.few) }; sunk = g.sunk })
 
-  module _ {b : ℕ} (b-is : b ≡ a) {buf₁ : List ℤ} {state₁ text₁ : List ℕ} {r₁ : Executed}
+  module _ {b : ℕ} (b-is : b ≡ a) {buf₁ : List ℤ} {state₁ : Walk} {text₁ : List ℕ} {r₁ : Returned ℕ Refusal}
       (p₁ : Instructed (stepped (length buf) n (Usum (id b)) m) (Usum (id b)) m k buf buf₁ state₁ text₁ r₁) (long : length buf₁ ≡ length buf) where
     abbrev pub units-so : Instructed (stepped (length buf) n (Usum (id a)) m) (Usum (id a)) m k buf buf₁ state₁ text₁ r₁
     units-so = subst (λ i. Instructed (stepped (length buf) n (Usum (id i)) m) (Usum (id i)) m k buf buf₁ state₁ text₁ r₁) b-is p₁
 
-    pub units-stopped : {env' : List ℕ} {q : Refusal} → r₁ ≡ Stopped q
-        → Counted (walked (length buf) n (counting_up a) m) (feed (a + 1) (counting_up a) k) m sp env env' buf buf₁ state₁ text₁ (Stopped q)
+    pub units-stopped : {env' : List ℕ} {q : Refusal} → r₁ ≡ Err q
+        → Counted (walked (length buf) n (counting_up a) m) (feed (a + 1) (counting_up a) k) m sp env env' buf buf₁ state₁ text₁ (Err q)
     units-stopped {q = q} e =
         counted_stop
         (stopping-as (walked-define (length buf) n (Usum (id a)) _ m)
         (onward-stop (walked (length buf) n _) (stopping (length buf) n (Usum (id a)) units-so q e)))
 
-    module _ {i : ℕ} (e₁ : r₁ ≡ Made i) where
+    module _ {i : ℕ} (e₁ : r₁ ≡ Ok i) where
       abbrev pub counted : Making (length buf) n (Usum (id a)) m k buf buf₁ state₁ text₁ i
       counted = making (length buf) n (Usum (id a)) units-so i e₁
 
@@ -214,16 +212,16 @@ module _ (n : ℕ) {a sp : ℕ} {env : List ℕ} {buf : List ℤ} {state text : 
           after-units (length buf) n a m counted.after counted.went_to i units-there units-quiet
           ∙ ap (λ c. onward (stepped c i ones counted.after) (stepped (length buf) n (scan a))) (sym long)
 
-      module _ {env₂ : List ℕ} {buf₂ : List ℤ} {state₂ text₂ : List ℕ} {r₂ : Executed}
+      module _ {env₂ : List ℕ} {buf₂ : List ℤ} {state₂ : Walk} {text₂ : List ℕ} {r₂ : Returned ℕ Refusal}
           (p₂ : Filled (stepped (length buf₁) i (Const (pos 1)) counted.after) counted.after (defined (length m.store) (Usum (id a)) k) (sp - 3) env env₂ buf₁ buf₂ state₂ text₂ r₂) where
-        pub ones-stopped : {env' : List ℕ} {q : Refusal} → r₂ ≡ Stopped q
-            → Counted (walked (length buf) n (counting_up a) m) (feed (a + 1) (counting_up a) k) m sp env env' buf buf₂ state₂ text₂ (Stopped q)
+        pub ones-stopped : {env' : List ℕ} {q : Refusal} → r₂ ≡ Err q
+            → Counted (walked (length buf) n (counting_up a) m) (feed (a + 1) (counting_up a) k) m sp env env' buf buf₂ state₂ text₂ (Err q)
         ones-stopped {q = q} e = counted_stop (stopping-as then-ones (onward-stop (stepped (length buf) n (scan a)) (go (stepped (length buf₁) i ones counted.after) refl)))
           where
             go : (x : Result) → stepped (length buf₁) i ones counted.after ≡ x → Stopping (stepped (length buf₁) i ones counted.after) q
-            go (went m') f = let same : Stopped q ≡ Made (length (p₂.went_on m' f).0) = sym e ∙ (p₂.went_on m' f).2 in never (cc)
+            go (went m') f = let same : Err q ≡ Ok (length (p₂.went_on m' f).0) = sym e ∙ (p₂.went_on m' f).2 in never (cc)
             go (stopped why s) f =
-                let same : Stopped q ≡ Stopped (refusal_of why s) = sym e ∙ p₂.gave-up why s f in
+                let same : Err q ≡ Err (refusal_of why s) = sym e ∙ p₂.gave-up why s f in
                 record { why = why; where-at = s; stops = f; refuses = cc }
 
         pub record Ones : Type 0 where
@@ -231,12 +229,12 @@ module _ (n : ℕ) {a sp : ℕ} {env : List ℕ} {buf : List ℤ} {state text : 
           pub went_to : stepped (length buf₁) i ones counted.after ≡ went after
           pub zs : List ℤ
           pub store : after.store ≡ counted.after.store ++ ints zs ∷ []
-          pub held : Held after buf₂ state₂
+          pub held : Held after buf₂ state₂.machine
           pub behind : keeps after.store buf₁ buf₂
-          pub sunk : Sunk (filling (length counted.after.store) (defined (length m.store) (Usum (id a)) k)) text₂ state₂
+          pub sunk : Sunk (filling (length counted.after.store) (defined (length m.store) (Usum (id a)) k)) text₂ state₂.sink
           pub words : env₂ ≡ written (sp - 3 - 3) (place_words (place after.store (length counted.after.store))) env
 
-        module _ {l : ℕ} (e₂ : r₂ ≡ Made l) where
+        module _ {l : ℕ} (e₂ : r₂ ≡ Ok l) where
           abbrev pub o : Ones
           o = go (stepped (length buf₁) i ones counted.after) refl
             where
@@ -244,7 +242,7 @@ module _ (n : ℕ) {a sp : ℕ} {env : List ℕ} {buf : List ℤ} {state text : 
               go (went m') f =
                   let w = p₂.went_on m' f in
                   record { after = m'; went_to = f; zs = w.0; store = w.1; held = w.3; behind = w.4; sunk = w.5; words = w.6 }
-              go (stopped why s) f = let same : Made l ≡ Stopped (refusal_of why s) = sym e₂ ∙ p₂.gave-up why s f in never (cc)
+              go (stopped why s) f = let same : Ok l ≡ Err (refusal_of why s) = sym e₂ ∙ p₂.gave-up why s f in never (cc)
 
           all-stored : o.after.store ≡ m.store ++ (units i ∷ ints o.zs ∷ [])
           all-stored =
@@ -302,7 +300,7 @@ module _ (n : ℕ) {a sp : ℕ} {env : List ℕ} {buf : List ℤ} {state text : 
           sink-is =
               (λ x. defined (next-two x) (scan a) (filling (next_one x) (defined (g.newest x) (Usum (id a)) k))) ∙ sym (counting-fed a k)
 
-          pub scanned : {c d : ℕ} → c ≡ a → d ≡ a + 2 → {buf₃ : List ℤ} {state₃ text₃ : List ℕ} {r : Executed} → length buf₂ ≡ length buf₁
+          pub scanned : {c d : ℕ} → c ≡ a → d ≡ a + 2 → {buf₃ : List ℤ} {state₃ : Walk} {text₃ : List ℕ} {r : Returned ℕ Refusal} → length buf₂ ≡ length buf₁
               → Instructed (stepped (length buf₂) n (ScanPlus (pos 0) (id c) (id d)) o.after) (ScanPlus (pos 0) (id c) (id d)) o.after
               (filling (length counted.after.store) (defined (length m.store) (Usum (id a)) k)) buf₂ buf₃ state₃ text₃ r
               → Counted (walked (length buf) n (counting_up a) m) (feed (a + 1) (counting_up a) k) m sp env env₂ buf buf₃ state₃ text₃ r
@@ -330,7 +328,7 @@ module _ (n : ℕ) {a sp : ℕ} {env : List ℕ} {buf : List ℤ} {state text : 
                       b.0,
                       b.1,
                       since-units,
-                      subst (λ x. Sunk x text₃ state₃) sink-is b.3,
+                      subst (λ x. Sunk x text₃ state₃.sink) sink-is b.3,
                       flags-behind,
                     );
                 gave-up = λ why x e. p.gave-up why x (sym (then-scan long₂) ∙ e);

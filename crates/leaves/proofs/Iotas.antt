@@ -24,19 +24,18 @@ use Rattle.snesl.specs.Outcome.{refusal_of}
 use Rattle.snesl.specs.Translation.{id, code, tree}
 use Rattle.environment.specs.Words.{place_words, tree_words, Entry}
 use Rattle.environment.proofs.Stack.{front-is, lowered, length-written}
+use Rattle.sink.specs.declared.state.Walk.{Walk}
 use Rattle.sink.specs.Sinks.{Sink, defined, feed}
 use Rattle.sink.specs.Sunk.{Sunk}
 use Rattle.steps.specs.Walking.{stepped, walked}
 use Rattle.steps.specs.Holding.{Held, keeps, place, Stopping}
-use Rattle.steps.specs.declared.Executed.{Executed}
-use Rattle.steps.specs.declared.Executed.TheVariants.{Made, Stopped}
+use Rattle.std.specs.Prelude.{Ok, Err, Result as Returned}
 use Rattle.steps.proofs.Stores.{newest, kept}
 use Rattle.steps.proofs.Stepping.{flags_of}
 use Rattle.steps.proofs.Walking.{walked-define}
 use Rattle.steps.proofs.Performing.{stopping-as}
 use Rattle.leaves.specs.Places.{places, Shapely, shapely-node}
-use Rattle.leaves.specs.declared.Walked.TheVariants as Walked-as
-use Rattle.leaves.specs.Scenes.{Runs}
+use Rattle.leaves.specs.Scenes.{Runs, reached}
 use Rattle.leaves.specs.Making.{Makes, Instructed}
 use Rattle.leaves.specs.Arms.{Counting, Flagged, counting_up, Counted}
 use Rattle.leaves.proofs.Told.{define-fed}
@@ -49,7 +48,7 @@ use Rattle.leaves.proofs.Singles.{pushable, pushed-words, made-shapely}
 
 -- ---- what `count_up` answered
 
-module _ {res : Result} {k : Sink} {m : State} {sp : ℕ} {env env' : List ℕ} {old new : List ℤ} {state text : List ℕ} {r : Executed} (c : Counted res k m sp env env' old new state text r) where
+module _ {res : Result} {k : Sink} {m : State} {sp : ℕ} {env env' : List ℕ} {old new : List ℤ} {state : Walk} {text : List ℕ} {r : Returned ℕ Refusal} (c : Counted res k m sp env env' old new state text r) where
   pub record Ended (l : ℕ) : Type 0 where
     pub after : State
     pub went_to : res ≡ went after
@@ -58,33 +57,33 @@ module _ {res : Result} {k : Sink} {m : State} {sp : ℕ} {env env' : List ℕ} 
     pub store : after.store ≡ m.store ++ between ++ ints items ∷ []
     pub two : length between ≡ 2
     pub long : l ≡ length items
-    pub held : Held after new state
+    pub held : Held after new state.machine
     pub kept-behind : keeps after.store old new
-    pub sunk : Sunk k text state
+    pub sunk : Sunk k text state.sink
     pub words : drop (sp - 3) env' ≡ drop (sp - 3) env
 
-  pub ended : (l : ℕ) → r ≡ Made l → Ended l
+  pub ended : (l : ℕ) → r ≡ Ok l → Ended l
   ended l e = go res refl
     where
       go : (x : Result) → res ≡ x → Ended l
       go (went m') q =
           let f = c.went_on m' q in
-          let same : Made l ≡ Made (length f.1) = sym e ∙ f.4 in
+          let same : Ok l ≡ Ok (length f.1) = sym e ∙ f.4 in
           record { after = m'; went_to = q; between = f.0; items = f.1; store = f.2; two = f.3; long = cc; held = f.5; kept-behind = f.6; sunk = f.7; words = f.8 }
-      go (stopped why s) q = let same : Made l ≡ Stopped (refusal_of why s) = sym e ∙ c.gave-up why s q in never (cc)
+      go (stopped why s) q = let same : Ok l ≡ Err (refusal_of why s) = sym e ∙ c.gave-up why s q in never (cc)
 
-  pub counted-stopping : (q : Refusal) → r ≡ Stopped q → Stopping res q
+  pub counted-stopping : (q : Refusal) → r ≡ Err q → Stopping res q
   counted-stopping q e = go res refl
     where
       go : (x : Result) → res ≡ x → Stopping res q
-      go (went m') g = let same : Stopped q ≡ Made (length (c.went_on m' g).1) = sym e ∙ (c.went_on m' g).4 in never (cc)
+      go (went m') g = let same : Err q ≡ Ok (length (c.went_on m' g).1) = sym e ∙ (c.went_on m' g).4 in never (cc)
       go (stopped why s) g =
-          let same : Stopped q ≡ Stopped (refusal_of why s) = sym e ∙ c.gave-up why s g in
+          let same : Err q ≡ Err (refusal_of why s) = sym e ∙ c.gave-up why s g in
           record { why = why; where-at = s; stops = g; refuses = cc }
 
 -- ---- the whole
 
-module _ {x : Variable} {sp : ℕ} {env : List ℕ} {buf : List ℤ} {state text : List ℕ} (g : Counting x sp env buf state text) {p : ℕ}
+module _ {x : Variable} {sp : ℕ} {env : List ℕ} {buf : List ℤ} {state : Walk} {text : List ℕ} (g : Counting x sp env buf state text) {p : ℕ}
     (e : Entry env sp p (lookup g.pointer (places g.scene.machine.store g.scene.trees))) where
   abbrev pub to_flags : Transducer
   to_flags = ToFlags (id (root (lookup g.pointer g.scene.trees)))
@@ -100,7 +99,7 @@ module _ {x : Variable} {sp : ℕ} {env : List ℕ} {buf : List ℤ} {state text
         sunk = g.scene.sunk;
       })
 
-  module _ (n : ℕ) {buf₁ : List ℤ} {state₁ text₁ : List ℕ} {r₁ : Executed}
+  module _ (n : ℕ) {buf₁ : List ℤ} {state₁ : Walk} {text₁ : List ℕ} {r₁ : Returned ℕ Refusal}
       (p₁ : Instructed (stepped (length buf) n (ToFlags (id (get_or env (p + 2) 0))) g.scene.machine) (ToFlags (id (get_or env (p + 2) 0))) g.scene.machine g.scene.sink buf buf₁ state₁ text₁ r₁) where
     abbrev pub own : Instructed (stepped (length buf) n to_flags g.scene.machine) to_flags g.scene.machine g.scene.sink buf buf₁ state₁ text₁ r₁
     own =
@@ -111,13 +110,13 @@ module _ {x : Variable} {sp : ℕ} {env : List ℕ} {buf : List ℤ} {state text
     unfolding code
     whole = walked-define (length buf) n to_flags (counting_up (length g.scene.machine.store)) g.scene.machine
 
-    pub flags-stopped : {env' : List ℕ} {q : Refusal} (next : ℕ) → r₁ ≡ Stopped q → Runs g.scene (terms.iota g.pointer) n next env' buf₁ state₁ text₁ (Walked-as.Stopped q)
+    pub flags-stopped : {env' : List ℕ} {q : Refusal} (next : ℕ) → r₁ ≡ Err q → Runs g.scene (terms.iota g.pointer) n next env' buf₁ state₁ text₁ (Err q)
     flags-stopped {q = q} next f =
         ran-stopped
         (stopping-as whole
         (onward-stop (walked (length buf) n (counting_up (length g.scene.machine.store))) (stopping (length buf) n to_flags own q f)))
 
-    module _ {i : ℕ} (e₁ : r₁ ≡ Made i) where
+    module _ {i : ℕ} (e₁ : r₁ ≡ Ok i) where
       σ : Store
       σ = g.scene.machine.store
 
@@ -137,10 +136,10 @@ module _ {x : Variable} {sp : ℕ} {env : List ℕ} {buf : List ℤ} {state text
       one_more_lem : length flags-made.after.store ≡ length σ + 1
       one_more_lem = ap length flags-stored ∙ length-append σ (flags bits.0 ∷ [])
 
-      pub flags-push : (4 ≤ length state₁) × (1 ≤ get_or state₁ 0 0) × (get_or state₁ 0 0 < 4294967296) × (i ≤ get_or state₁ 1 0) × (get_or state₁ 1 0 < 4294967296)
+      pub flags-push : (1 ≤ state₁.machine.streams) × (state₁.machine.streams < 4294967296) × (i ≤ state₁.machine.room) × (state₁.machine.room < 4294967296)
       flags-push = pushable flags-made.held σ (flags bits.0) flags-stored (length-map bits.0 bit) flags_long
 
-      module _ {env₁ : List ℕ} (w₁ : env₁ ≡ written (sp - 3) ((get_or state₁ 0 0 - 1) ∷ (get_or state₁ 1 0 - i) ∷ i ∷ []) env) where
+      module _ {env₁ : List ℕ} (w₁ : env₁ ≡ written (sp - 3) ((state₁.machine.streams - 1) ∷ (state₁.machine.room - i) ∷ i ∷ []) env) where
         flags-words : List ℕ
         flags-words = place_words (place flags-made.after.store (length σ))
 
@@ -178,7 +177,7 @@ module _ {x : Variable} {sp : ℕ} {env : List ℕ} {buf : List ℤ} {state text
               high = omega (arith, long₁, g.scene.within);
             }
 
-        module _ (long : length buf₁ ≡ length buf) {env₂ : List ℕ} {buf₂ : List ℤ} {state₂ text₂ : List ℕ} {r₂ : Executed}
+        module _ (long : length buf₁ ≡ length buf) {env₂ : List ℕ} {buf₂ : List ℤ} {state₂ : Walk} {text₂ : List ℕ} {r₂ : Returned ℕ Refusal}
             (p₂ : Counted (walked (length buf₁) n (counting_up (length g.scene.machine.store)) flags-made.after)
             (feed (length g.scene.machine.store + 1) (counting_up (length g.scene.machine.store)) (defined (length g.scene.machine.store) to_flags g.scene.sink))
             flags-made.after sp env₁ env₂ buf₁ buf₂ state₂ text₂ r₂) where
@@ -194,10 +193,10 @@ module _ {x : Variable} {sp : ℕ} {env : List ℕ} {buf : List ℤ} {state text
           unfolding code
           fed = sym (define-fed (length g.scene.machine.store) to_flags (counting_up (length g.scene.machine.store)) g.scene.sink)
 
-          pub count-stopped : {env' : List ℕ} {q : Refusal} (next : ℕ) → r₂ ≡ Stopped q → Runs g.scene (terms.iota g.pointer) n next env' buf₂ state₂ text₂ (Walked-as.Stopped q)
+          pub count-stopped : {env' : List ℕ} {q : Refusal} (next : ℕ) → r₂ ≡ Err q → Runs g.scene (terms.iota g.pointer) n next env' buf₂ state₂ text₂ (Err q)
           count-stopped {q = q} next f = ran-stopped (stopping-as rest-is (counted-stopping p₂ q f))
 
-          module _ {l : ℕ} (e₂ : r₂ ≡ Made l) where
+          module _ {l : ℕ} (e₂ : r₂ ≡ Ok l) where
             end : Ended p₂ l
             end = ended p₂ l e₂
 
@@ -208,7 +207,7 @@ module _ {x : Variable} {sp : ℕ} {env : List ℕ} {buf : List ℤ} {state text
             unfolding before
             before-long = length-append flags-made.after.store end.between ∙ omega (arith, one_more_lem, end.two)
 
-            pub iota-push : (4 ≤ length state₂) × (1 ≤ get_or state₂ 0 0) × (get_or state₂ 0 0 < 4294967296) × (l ≤ get_or state₂ 1 0) × (get_or state₂ 1 0 < 4294967296)
+            pub iota-push : (1 ≤ state₂.machine.streams) × (state₂.machine.streams < 4294967296) × (l ≤ state₂.machine.room) × (state₂.machine.room < 4294967296)
             iota-push = pushable end.held (flags-made.after.store ++ end.between) (ints end.items) end.store refl end.long
 
             all-stored : end.after.store ≡ flags-made.after.store ++ (end.between ++ ints end.items ∷ [])
@@ -224,11 +223,11 @@ module _ {x : Variable} {sp : ℕ} {env : List ℕ} {buf : List ℤ} {state text
                 ap place_words
                 (sym (ap (λ τ. place τ (length σ)) all-stored ∙ place_kept flags-made.after.store (end.between ++ ints end.items ∷ []) (length σ) (flags bits.0) flags-here))
 
-            pub iota-runs : {env₃ : List ℕ} (next : ℕ) → length env₂ ≡ length env₁ → env₃ ≡ written (sp - 3 - 3) ((get_or state₂ 0 0 - 1) ∷ (get_or state₂ 1 0 - l) ∷ l ∷ []) env₂
-                → Runs g.scene (terms.iota g.pointer) n next env₃ buf₂ state₂ text₂ (Walked-as.Tree 1 next)
+            pub iota-runs : {env₃ : List ℕ} (next : ℕ) → length env₂ ≡ length env₁ → env₃ ≡ written (sp - 3 - 3) ((state₂.machine.streams - 1) ∷ (state₂.machine.room - l) ∷ l ∷ []) env₂
+                → Runs g.scene (terms.iota g.pointer) n next env₃ buf₂ state₂ text₂ (reached 1 next)
             unfolding tree tree_words map_tree σ before
             iota-runs {env₃} next long₂ w₂ =
-                let items_w : List ℕ = (get_or state₂ 0 0 - 1) ∷ (get_or state₂ 1 0 - l) ∷ l ∷ [] in
+                let items_w : List ℕ = (state₂.machine.streams - 1) ∷ (state₂.machine.room - l) ∷ l ∷ [] in
                 let six : sp - 6 ≡ sp - 3 - 3 = omega arith in
                 let lower : drop (sp - 6) env₃ ≡ items_w ++ drop (sp - 3) env₂ =
                 ap (λ c. drop c env₃) six

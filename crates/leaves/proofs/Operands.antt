@@ -16,6 +16,7 @@ use Rattle.snesl.specs.Streams.{data_of, data_kind, Store}
 use Rattle.snesl.specs.Checking.{find, found}
 use Rattle.environment.specs.Words.{place_words, tree_words, tree_size, Sought, Entry}
 use Rattle.environment.proofs.Entries.{id-is, leaf-place, root-words, inner-words, outer-place}
+use Rattle.sink.specs.declared.state.Walk.{Walk}
 use Rattle.steps.specs.Holding.{place, PlacedAt}
 use Rattle.leaves.specs.Places.{places}
 use Rattle.leaves.specs.Scenes.{Scene}
@@ -25,7 +26,7 @@ use Rattle.leaves.proofs.Places.{data-kind, lookup-places, lookup-shapely, root-
 pub named-there : {σ : Store} {env : List ℕ} {c : Kind} {i q : ℕ} → PlacedAt σ env c i q → get_or env q 0 ≡ i
 named-there {σ} {env} {i = i} {q = q} o = id-is env q (place σ i) o.words
 
-module _ {env : List ℕ} {sp : ℕ} {buf : List ℤ} {state text : List ℕ} (s : Scene env sp buf state text) where
+module _ {env : List ℕ} {sp : ℕ} {buf : List ℤ} {state : Walk} {text : List ℕ} (s : Scene env sp buf state text) where
   abbrev pub sought : {x : Variable} {τ : ValueType} → (v : s.context ∋ τ) → find x s.names ≡ found τ v → Sought env sp x
   sought {τ = τ} v f =
       record {

@@ -2,6 +2,7 @@
 use Prim.Native.Nat.{ℕ, ◌+◌, ◌*◌, ◌-◌, ◌≤◌, ◌<◌}
 use mathlib.Core.Bool.{Bool}
 use mathlib.Core.List.{List, [], ◌∷◌, ◌++◌}
+use mathlib.Core.Logic.{◌⊎◌, inl, inr}
 use mathlib.Core.Path.{◌≡◌, refl, sym, ◌∙◌, ap, ap₂, subst}
 use native.Mathlib.Omega.{arith}
 use lib.IntN.{ℤ}
@@ -30,23 +31,24 @@ use Rattle.snesl.specs.Translation.{id, code}
 use Rattle.environment.specs.Words.{PlaceTree, place_words, tree_words, tree_size, Sought, Entry}
 use Rattle.environment.proofs.Stack.{lowered}
 use Rattle.environment.proofs.Finding.{length-tree}
+use Rattle.environment.specs.declared.machine.Machine.{Machine}
+use Rattle.sink.specs.declared.state.Walk.{Walk}
 use Rattle.sink.specs.Sinks.{Sink, defined, feed}
 use Rattle.steps.specs.Walking.{stepped, walked}
 use Rattle.steps.specs.Holding.{Held, place, PlacedAt, Placed, positions, Executable}
 use Rattle.steps.specs.declared.Operands.{Operands}
-use Rattle.steps.specs.declared.Executed.{Executed}
-use Rattle.steps.specs.declared.Executed.TheVariants.{Made, Stopped}
+use Rattle.std.specs.Prelude.{Ok, Err, Result as Returned}
 use Rattle.steps.proofs.Stores.{newest, room-more}
 use Rattle.steps.proofs.Stepping.{data-of}
 use Rattle.steps.proofs.Spanning.{place-within}
 use Rattle.steps.proofs.Walking.{walked_one}
-use Rattle.steps.proofs.Executing.{next-id, next-element, four-words}
+use Rattle.steps.proofs.Executing.{next-id, next-element}
 use Rattle.steps.proofs.Performing.{stopping-as}
 use Rattle.leaves.specs.Places.{Shapely, shapely-leaf}
 use Rattle.leaves.specs.declared.Form.{Form}
 use Rattle.leaves.specs.declared.Form.TheVariants as form
-use Rattle.leaves.specs.declared.Walked.TheVariants as Walked-as
-use Rattle.leaves.specs.Scenes.{Runs}
+use Rattle.leaves.specs.declared.Walked.{Walked}
+use Rattle.leaves.specs.Scenes.{Runs, reached}
 use Rattle.leaves.specs.Making.{Makes, Instructed}
 use Rattle.leaves.specs.Arms.{Named, named-const, named-truth, named-operation, named-negation, named-sum, Sole, Located}
 use Rattle.leaves.proofs.Places.{place-newest, data-full}
@@ -65,43 +67,43 @@ module _ {env : List ℕ} {sp p : ℕ} {x : Variable} (g : Sought env sp x) (e :
 
   pub variable-words : (next : ℕ) (env' : List ℕ) → 3 * get_or env (p + 1) 0 + 3 ≤ sp → sp ≤ length env
       → env' ≡ written (sp - (3 * get_or env (p + 1) 0 + 3)) (part (p + 2) (3 * get_or env (p + 1) 0 + 3) env) env
-      → (Walked-as.Tree (get_or env (p + 1) 0) next ≡ Walked-as.Tree (depth_of g.type) next)
+      → ◌≡◌ {A = Walked} (record { depth = get_or env (p + 1) 0; next = next }) (record { depth = depth_of g.type; next = next })
       × (drop (sp - tree_size (depth_of g.type)) env' ≡ tree_words (lookup g.pointer g.trees) ++ drop sp env)
   variable-words next env' low high w =
       let t : PlaceTree g.type = lookup g.pointer g.trees in
       let same : env' ≡ written (sp - tree_size (depth_of g.type)) (tree_words t) env =
       w ∙ (ap (λ n. written (sp - n) (part (p + 2) n env) env) size_is ∙ ap (λ l. written (sp - tree_size (depth_of g.type)) l env) e.words) in (
-        ap (λ d. Walked-as.Tree d next) e.depth,
+        λ i. record { depth = e.depth i; next = next },
         ap (drop (sp - tree_size (depth_of g.type))) same
             ∙ lowered env sp (tree_size (depth_of g.type)) (tree_words t) (length-tree t) (omega (arith, size_is)) high,
       )
 
 -- ---- the place of a stream that was just made and takes as many elements as it has
 
-module _ {m : State} {buf : List ℤ} {state : List ℕ} {made : ℕ} (h : Held m buf state) (σ : Store) (a : Stream) (e : m.store ≡ σ ++ a ∷ []) (full : length (elements a) ≡ len a)
+module _ {m : State} {buf : List ℤ} {counts : Machine} {made : ℕ} (h : Held m buf counts) (σ : Store) (a : Stream) (e : m.store ≡ σ ++ a ∷ []) (full : length (elements a) ≡ len a)
     (l : made ≡ len a) where
-  next-is : get_or state 0 0 ≡ length σ + 1
+  next-is : counts.streams ≡ length σ + 1
   next-is = next-id h ∙ (ap length e ∙ length-append σ (a ∷ []))
 
-  room-is : get_or state 1 0 ≡ room σ + made
+  room-is : counts.room ≡ room σ + made
   room-is = next-element h ∙ (ap room e ∙ (room-more σ a ∙ ap (λ k. room σ + k) (full ∙ sym l)))
 
   -- what `push` asks, beside its place on the stack
-  pub pushable : (4 ≤ length state) × (1 ≤ get_or state 0 0) × (get_or state 0 0 < 4294967296) × (made ≤ get_or state 1 0) × (get_or state 1 0 < 4294967296)
+  pub pushable : (1 ≤ counts.streams) × (counts.streams < 4294967296) × (made ≤ counts.room) × (counts.room < 4294967296)
   pushable =
-      (four-words h, omega (arith, next-is), omega (arith, next-id h, h.few), omega (arith, room-is), omega (arith, next-element h, h.fits, h.short))
+      (omega (arith, next-is), omega (arith, next-id h, h.few), omega (arith, room-is), omega (arith, next-element h, h.fits, h.short))
 
-  pub pushed-words : (get_or state 0 0 - 1) ∷ (get_or state 1 0 - made) ∷ made ∷ [] ≡ place_words (place m.store (length σ))
+  pub pushed-words : (counts.streams - 1) ∷ (counts.room - made) ∷ made ∷ [] ≡ place_words (place m.store (length σ))
   pushed-words =
-      let i : get_or state 0 0 - 1 ≡ length σ = omega (arith, next-is) in
-      let f : get_or state 1 0 - made ≡ room σ = omega (arith, room-is) in
+      let i : counts.streams - 1 ≡ length σ = omega (arith, next-is) in
+      let f : counts.room - made ≡ room σ = omega (arith, room-is) in
       (λ j. i j ∷ f j ∷ l j ∷ []) ∙ ap place_words (sym (place-newest σ a) ∙ ap (λ τ. place τ (length σ)) (sym e))
 
 pub made-shapely : (m : State) (σ : Store) (b : Base) (vs : List (Element b)) → m.store ≡ σ ++ data_of b vs ∷ [] → Shapely m.store (scalar b) (leaf (length σ))
 made-shapely m σ b vs e = shapely-leaf vs (ap (λ τ. τ ! length σ) e ∙ newest σ (data_of b vs))
 
 -- of one instruction that gives data
-module _ {cap n : ℕ} {t : Transducer} {m : State} {k : Sink} {old new : List ℤ} {state text : List ℕ} {made : ℕ} (u : Making cap n t m k old new state text made)
+module _ {cap n : ℕ} {t : Transducer} {m : State} {k : Sink} {old new : List ℤ} {state : Walk} {text : List ℕ} {made : ℕ} (u : Making cap n t m k old new state text made)
     (b : Base) (g : (signature (carried m.store t) t).output ≡ data_kind b) where
   given : (vs : List (Element b)) × (u.added-to.stream ≡ data_of b vs)
   given = data-of b u.added-to.stream (u.added-to.kind ∙ g)
@@ -148,7 +150,7 @@ module _ {Γ : List ValueType} {names : All Name Γ} {δ : All IdTree Γ} where
   gives-data (named-negation p) c = refl
   gives-data (named-sum p) c = refl
 
-module _ {f : Form} {sp : ℕ} {env : List ℕ} {buf : List ℤ} {state text : List ℕ} (g : Sole f sp env buf state text) where
+module _ {f : Form} {sp : ℕ} {env : List ℕ} {buf : List ℤ} {state : Walk} {text : List ℕ} (g : Sole f sp env buf state text) where
   placed-as : (at : Operands) {t : Transducer} → g.transducer ≡ t
       → Placed g.scene.machine.store env (signature base.Int t).inputs (operands t) (positions at) → Located g at
   placed-as at e p =
@@ -158,11 +160,9 @@ module _ {f : Form} {sp : ℕ} {env : List ℕ} {buf : List ℤ} {state text : L
             p;
       }
 
-  pub const-located : {z : ℤ} (at : Operands) → f ≡ form.Const z → Located g at
-  const-located at e = placed-as at (shape_of g.named e) tt
-
-  pub truth-located : {c : Bool} (at : Operands) → f ≡ form.Truth c → Located g at
-  truth-located at e = placed-as at (shape_of g.named e) tt
+  pub constant-located : (at : Operands) → ((z : ℤ) × (f ≡ form.Const z)) ⊎ ((c : Bool) × (f ≡ form.Truth c)) → Located g at
+  constant-located at (inl (z, e)) = placed-as at (shape_of g.named e) tt
+  constant-located at (inr (c, e)) = placed-as at (shape_of g.named e) tt
 
   pub left-sought : {o : Operation} {x y : Variable} → f ≡ form.Operation o x y → Sought env sp x
   left-sought e = let o = shape_of g.named e in sought g.scene o.0 o.2
@@ -241,13 +241,13 @@ module _ {f : Form} {sp : ℕ} {env : List ℕ} {buf : List ℤ} {state text : L
     sole-ready e =
         record {
           executable =
-              subst (λ t. Executable t at env buf state g.scene.machine) (sym e)
+              subst (λ t. Executable t at env buf state.machine g.scene.machine) (sym e)
               (record { held = g.scene.held; base = base.Int; placed = l.placed; more = omega (arith, g.few) });
           sunk = g.scene.sunk;
         }
 
   -- what it made
-  module _ (n : ℕ) {t : Transducer} (c : t ≡ g.transducer) {new : List ℤ} {state₁ text₁ : List ℕ} {r : Executed}
+  module _ (n : ℕ) {t : Transducer} (c : t ≡ g.transducer) {new : List ℤ} {state₁ : Walk} {text₁ : List ℕ} {r : Returned ℕ Refusal}
       (p : Instructed (stepped (length buf) n t g.scene.machine) t g.scene.machine g.scene.sink buf new state₁ text₁ r) where
     own : Instructed (stepped (length buf) n g.transducer g.scene.machine) g.transducer g.scene.machine g.scene.sink buf new state₁ text₁ r
     own = subst (λ u. Instructed (stepped (length buf) n u g.scene.machine) u g.scene.machine g.scene.sink buf new state₁ text₁ r) c p
@@ -261,23 +261,23 @@ module _ {f : Form} {sp : ℕ} {env : List ℕ} {buf : List ℤ} {state text : L
     unfolding feed
     fed = ap (λ q. feed (length g.scene.machine.store) q g.scene.sink) (sym (g.code_is (length g.scene.machine.store)))
 
-    pub single-stopped : {env' : List ℕ} {q : Refusal} (next : ℕ) → r ≡ Stopped q → Runs g.scene g.term n next env' new state₁ text₁ (Walked-as.Stopped q)
+    pub single-stopped : {env' : List ℕ} {q : Refusal} (next : ℕ) → r ≡ Err q → Runs g.scene g.term n next env' new state₁ text₁ (Err q)
     single-stopped {q = q} next e =
         ran-stopped (stopping-as (sym whole ∙ walked_one (length buf) n g.transducer g.scene.machine) (stopping (length buf) n g.transducer own q e))
 
-    module _ {made : ℕ} (e : r ≡ Made made) where
+    module _ {made : ℕ} (e : r ≡ Ok made) where
       done-so : Making (length buf) n g.transducer g.scene.machine g.scene.sink buf new state₁ text₁ made
       done-so = making (length buf) n g.transducer own made e
 
       data-so : (signature (carried g.scene.machine.store g.transducer) g.transducer).output ≡ data_kind g.base
       data-so = gives-data g.named (carried g.scene.machine.store g.transducer)
 
-      pub single-push : (4 ≤ length state₁) × (1 ≤ get_or state₁ 0 0) × (get_or state₁ 0 0 < 4294967296) × (made ≤ get_or state₁ 1 0) × (get_or state₁ 1 0 < 4294967296)
+      pub single-push : (1 ≤ state₁.machine.streams) × (state₁.machine.streams < 4294967296) × (made ≤ state₁.machine.room) × (state₁.machine.room < 4294967296)
       single-push =
           pushable done-so.held g.scene.machine.store (data_of g.base (items done-so g.base data-so)) (items-stored done-so g.base data-so) (data-full g.base (items done-so g.base data-so)) (items-long done-so g.base data-so)
 
-      pub single-made : {env' : List ℕ} (next : ℕ) → env' ≡ written (sp - 3) ((get_or state₁ 0 0 - 1) ∷ (get_or state₁ 1 0 - made) ∷ made ∷ []) env
-          → Runs g.scene g.term n next env' new state₁ text₁ (Walked-as.Tree 0 next)
+      pub single-made : {env' : List ℕ} (next : ℕ) → env' ≡ written (sp - 3) ((state₁.machine.streams - 1) ∷ (state₁.machine.room - made) ∷ made ∷ []) env
+          → Runs g.scene g.term n next env' new state₁ text₁ (reached 0 next)
       unfolding tree_words map_tree
       single-made next w =
           let u = done-so in
@@ -290,7 +290,7 @@ module _ {f : Form} {sp : ℕ} {env : List ℕ} {buf : List ℤ} {state text : L
             shapely = made-shapely u.after g.scene.machine.store g.base (items u g.base data-so) (items-stored u g.base data-so);
             words =
                 ap (drop (sp - 3)) w
-                ∙ (lowered env sp 3 ((get_or state₁ 0 0 - 1) ∷ (get_or state₁ 1 0 - made) ∷ made ∷ []) refl g.low g.scene.within
+                ∙ (lowered env sp 3 ((state₁.machine.streams - 1) ∷ (state₁.machine.room - made) ∷ made ∷ []) refl g.low g.scene.within
                 ∙ ap (λ l. l ++ drop sp env)
                 (pushed-words u.held g.scene.machine.store (data_of g.base (items u g.base data-so)) (items-stored u g.base data-so) (data-full g.base (items u g.base data-so)) (items-long u g.base data-so)));
           }))

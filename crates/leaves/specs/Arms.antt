@@ -1,5 +1,5 @@
 -- What the walk's arms need: the streams of the variables that a record names, and room for their result on the stack and for their streams' ids.
-use Rattle.std.specs.Prelude.{ℕ, ◌+◌, ◌-◌, ◌≤◌, Bool, List, [], ◌∷◌, ◌++◌, ◌≡◌, ℤ, pos, length, drop}
+use Rattle.std.specs.Prelude.{ℕ, ◌+◌, ◌-◌, ◌≤◌, Bool, List, [], ◌∷◌, ◌++◌, ◌≡◌, ℤ, pos, length, drop, Ok, Err, Result as Returned}
 use Rattle.laws.specs.Parts.{written}
 use Rattle.snesl.specs.declared.code.Kind.TheVariants.{Flags}
 use Rattle.snesl.specs.declared.code.Variable.{Variable}
@@ -18,13 +18,13 @@ use Rattle.snesl.specs.Streams.{Stream, ints}
 use Rattle.snesl.specs.Programs.{Program, define, done, ◌⨾◌}
 use Rattle.snesl.specs.Translation.{id, code, tree, controlled}
 use Rattle.snesl.specs.Machine.{State, Stop, Result, went, stopped}
+use Rattle.snesl.specs.declared.refusal.Refusal.{Refusal}
 use Rattle.snesl.specs.Outcome.{refusal_of}
 use Rattle.environment.specs.Words.{place_words}
+use Rattle.sink.specs.declared.state.Walk.{Walk}
 use Rattle.sink.specs.Sinks.{Sink, defined, opened, closed}
 use Rattle.sink.specs.Sunk.{Sunk}
 use Rattle.steps.specs.declared.Operands.{Operands}
-use Rattle.steps.specs.declared.Executed.{Executed}
-use Rattle.steps.specs.declared.Executed.TheVariants.{Made, Stopped}
 use Rattle.steps.specs.Holding.{Held, keeps, place, PlacedAt, Placed, positions, most_streams}
 use Rattle.leaves.specs.declared.Form.{Form}
 use Rattle.leaves.specs.declared.Form.TheVariants as form
@@ -42,7 +42,7 @@ pub data Named {Γ : List ValueType} (names : All Name Γ) (δ : All IdTree Γ) 
       → Named names δ (form.Sum x) Int (transducer.SumPlus (id (outer (lookup v δ))) (id (root (inner (lookup v δ)))))
 
 -- a record that stands for one instruction, whose output is the whole result
-pub record Sole (f : Form) (sp : ℕ) (env : List ℕ) (buf : List ℤ) (state text : List ℕ) : Type 0 where
+pub record Sole (f : Form) (sp : ℕ) (env : List ℕ) (buf : List ℤ) (state : Walk) (text : List ℕ) : Type 0 where
   pub scene : Scene env sp buf state text
   pub base : Base
   pub term : Term scene.context (scalar base)
@@ -54,11 +54,11 @@ pub record Sole (f : Form) (sp : ℕ) (env : List ℕ) (buf : List ℤ) (state t
   pub few : length scene.machine.store + 1 ≤ most_streams
 
 -- its operands have their places there; no form carries data of either base on
-pub record Located {f : Form} {sp : ℕ} {env : List ℕ} {buf : List ℤ} {state text : List ℕ} (g : Sole f sp env buf state text) (at : Operands) : Type 0 where
+pub record Located {f : Form} {sp : ℕ} {env : List ℕ} {buf : List ℤ} {state : Walk} {text : List ℕ} (g : Sole f sp env buf state text) (at : Operands) : Type 0 where
   pub placed : Placed g.scene.machine.store env (signature Int g.transducer).inputs (operands g.transducer) (positions at)
 
 -- an iota over the int x
-pub record Counting (x : Variable) (sp : ℕ) (env : List ℕ) (buf : List ℤ) (state text : List ℕ) : Type 0 where
+pub record Counting (x : Variable) (sp : ℕ) (env : List ℕ) (buf : List ℤ) (state : Walk) (text : List ℕ) : Type 0 where
   pub scene : Scene env sp buf state text
   pub pointer : scene.context ∋ int
   pub finds : find x scene.names ≡ found int pointer
@@ -66,9 +66,9 @@ pub record Counting (x : Variable) (sp : ℕ) (env : List ℕ) (buf : List ℤ) 
   pub few : length scene.machine.store + 4 ≤ most_streams
 
 -- units are the newest stream
-pub record Bare (sp : ℕ) (env : List ℕ) (buf : List ℤ) (state text : List ℕ) (m : State) (k : Sink) : Type 0 where
-  pub held : Held m buf state
-  pub sunk : Sunk k text state
+pub record Bare (sp : ℕ) (env : List ℕ) (buf : List ℤ) (state : Walk) (text : List ℕ) (m : State) (k : Sink) : Type 0 where
+  pub held : Held m buf state.machine
+  pub sunk : Sunk k text state.sink
   pub some : 1 ≤ length m.store
   pub few : length m.store + 1 ≤ most_streams
   pub low : 3 ≤ sp
@@ -79,16 +79,16 @@ abbrev pub filling : (s : ℕ) → Sink → Sink
 filling s k = closed (defined s (transducer.Const (pos 1)) (opened (s ∷ []) (s - 1) [] k))
 
 -- what that answers and leaves, where it ends like `res`: the ones' place just below sp
-pub record Filled (res : Result) (m : State) (k : Sink) (sp : ℕ) (env env' : List ℕ) (old new : List ℤ) (state text : List ℕ) (r : Executed) : Type 0 where
+pub record Filled (res : Result) (m : State) (k : Sink) (sp : ℕ) (env env' : List ℕ) (old new : List ℤ) (state : Walk) (text : List ℕ) (r : Returned ℕ Refusal) : Type 0 where
   pub went_on : (m' : State) → res ≡ went m'
-      → (zs : List ℤ) × (m'.store ≡ m.store ++ ints zs ∷ []) × (r ≡ Made (length zs)) × Held m' new state × keeps m'.store old new
-      × Sunk (filling (length m.store) k) text state × (env' ≡ written (sp - 3) (place_words (place m'.store (length m.store))) env)
-  pub gave-up : (why : Stop) (s : ℕ) → res ≡ stopped why s → r ≡ Stopped (refusal_of why s)
+      → (zs : List ℤ) × (m'.store ≡ m.store ++ ints zs ∷ []) × (r ≡ Ok (length zs)) × Held m' new state.machine × keeps m'.store old new
+      × Sunk (filling (length m.store) k) text state.sink × (env' ≡ written (sp - 3) (place_words (place m'.store (length m.store))) env)
+  pub gave-up : (why : Stop) (s : ℕ) → res ≡ stopped why s → r ≡ Err (refusal_of why s)
 
 -- flags with id a are the newest stream, and their place stands just below sp
-pub record Flagged (a sp : ℕ) (env : List ℕ) (buf : List ℤ) (state text : List ℕ) (m : State) (k : Sink) : Type 0 where
-  pub held : Held m buf state
-  pub sunk : Sunk k text state
+pub record Flagged (a sp : ℕ) (env : List ℕ) (buf : List ℤ) (state : Walk) (text : List ℕ) (m : State) (k : Sink) : Type 0 where
+  pub held : Held m buf state.machine
+  pub sunk : Sunk k text state.sink
   pub flagged : PlacedAt m.store env Flags a (sp - 3)
   pub newest : length m.store ≡ a + 1
   pub few : length m.store + 3 ≤ most_streams
@@ -102,8 +102,8 @@ counting_up a =
     (controlled (a + 1) (a + 2) (define (transducer.Const (pos 1)) done) (leaf (a + 2)) ⨾ define (transducer.ScanPlus (pos 0) (id a) (id (a + 2))) done)
 
 -- what it answers and leaves, where it ends like `res` and makes the sink k: three more streams, the last of them the ints that were counted, and the flags' place
-pub record Counted (res : Result) (k : Sink) (m : State) (sp : ℕ) (env env' : List ℕ) (old new : List ℤ) (state text : List ℕ) (r : Executed) : Type 0 where
+pub record Counted (res : Result) (k : Sink) (m : State) (sp : ℕ) (env env' : List ℕ) (old new : List ℤ) (state : Walk) (text : List ℕ) (r : Returned ℕ Refusal) : Type 0 where
   pub went_on : (m' : State) → res ≡ went m'
-      → (τ : List Stream) × (zs : List ℤ) × (m'.store ≡ m.store ++ τ ++ ints zs ∷ []) × (length τ ≡ 2) × (r ≡ Made (length zs)) × Held m' new state
-      × keeps m'.store old new × Sunk k text state × (drop (sp - 3) env' ≡ drop (sp - 3) env)
-  pub gave-up : (why : Stop) (s : ℕ) → res ≡ stopped why s → r ≡ Stopped (refusal_of why s)
+      → (τ : List Stream) × (zs : List ℤ) × (m'.store ≡ m.store ++ τ ++ ints zs ∷ []) × (length τ ≡ 2) × (r ≡ Ok (length zs)) × Held m' new state.machine
+      × keeps m'.store old new × Sunk k text state.sink × (drop (sp - 3) env' ≡ drop (sp - 3) env)
+  pub gave-up : (why : Stop) (s : ℕ) → res ≡ stopped why s → r ≡ Err (refusal_of why s)

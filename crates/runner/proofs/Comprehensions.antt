@@ -3,10 +3,11 @@ use Prim.Native.Nat.{ℕ, suc, ◌+◌, ◌*◌, ◌-◌, ◌≤◌, ◌<◌}
 use mathlib.Core.Bool.{Bool}
 use mathlib.Core.List.{List, [], ◌∷◌, ◌++◌, append_assoc}
 use mathlib.Core.Option.{some}
-use mathlib.Core.Path.{◌≡◌, refl, sym, ◌∙◌, ap, ap₂}
+use mathlib.Core.Path.{◌≡◌, refl, sym, ◌∙◌, ap}
 use native.Mathlib.Omega.{arith}
 use lib.IntN.{ℤ}
-use lib.ListN.{length, get_or, drop, length-append}
+use lib.ListN.{length, drop, length-append}
+use Rattle.std.specs.Prelude.{Err, Result as Returned}
 use Rattle.laws.specs.Parts.{part, written}
 use Rattle.snesl.specs.declared.code.Instruction.TheVariants.{Close}
 use Rattle.snesl.specs.declared.refusal.Refusal.{Refusal}
@@ -21,30 +22,29 @@ use Rattle.snesl.specs.Streams.{◌!◌, flags}
 use Rattle.snesl.specs.Checking.{listed_names, pointers}
 use Rattle.snesl.specs.Translation.{numbered, tree, code}
 use Rattle.environment.specs.Words.{place_words, tree_words, tree_size}
+use Rattle.sink.specs.declared.state.Walk.{Walk}
 use Rattle.steps.specs.Walking.{walked}
 use Rattle.environment.proofs.Stack.{drop-above, rest-is}
 use Rattle.sink.specs.Sinks.{Sink, opened, closed, feed, told}
-use Rattle.sink.specs.Sunk.{Sunk, Tells}
+use Rattle.sink.specs.declared.state.Sink as lent
+use Rattle.sink.specs.Sunk.{Sunk}
 use Rattle.steps.specs.Holding.{keeps, place, most_streams}
 use Rattle.snesl.specs.Records.{byte_at, variable_at, variables_at}
 use Rattle.records.proofs.Variables.{length-variables}
 use Rattle.steps.proofs.Stores.{kept}
 use Rattle.steps.proofs.Walking.{Grown, walked-grown}
 use Rattle.steps.proofs.Performing.{stopping-as}
-use Rattle.steps.proofs.Executing.{next-id, four-words}
+use Rattle.steps.proofs.Executing.{next-id}
 use Rattle.leaves.specs.Places.{shapely-node, Shallow, shallow-more}
-use Rattle.leaves.specs.Scenes.{most_taken, Wide, Scene, Ran, Runs}
+use Rattle.leaves.specs.Scenes.{reached, most_taken, Wide, Scene, Ran, Runs}
 use Rattle.runner.specs.declared.Body.{Body}
 use Rattle.runner.specs.Walks.{Ready, opened_by, Opened, Entire, Comprehends}
 use Rattle.bodies.specs.Bodies.{Each, inner_trees, Inside, Enters}
 use Rattle.leaves.specs.declared.Walked.{Walked}
-use Rattle.leaves.specs.declared.Walked.TheVariants as Walked-as
 use Rattle.bodies.specs.declared.Entered.{Entered}
-use Rattle.bodies.specs.declared.Entered.TheVariants as entered
 use Rattle.bodies.proofs.Lists.{length-listed}
 use Rattle.bodies.proofs.Feeding.{like-opened, wide-like}
 use Rattle.bodies.proofs.Differences.{up-again}
-use Rattle.leaves.proofs.Making.{held-told}
 use Rattle.runner.proofs.Measures.{scalars-shallow, words-hold}
 use Rattle.leaves.proofs.Places.{place_kept, lookup-shapely, lookup-shallow, outer-flags}
 use Rattle.leaves.proofs.Growing.{keeps_then}
@@ -53,7 +53,7 @@ use Rattle.runner.proofs.Lifting.{lifted-words}
 
 -- ---- a body, its environment and its flags, of either kind
 
-module _ {t : List ℕ} {β : Body} {sp : ℕ} {env : List ℕ} {buf : List ℤ} {state text : List ℕ} (g : Entire t β sp env buf state text) where
+module _ {t : List ℕ} {β : Body} {sp : ℕ} {env : List ℕ} {buf : List ℤ} {state : Walk} {text : List ℕ} (g : Entire t β sp env buf state text) where
   abbrev body : Program
   body = code g.over.ready.term g.over.ready.scene.trees (length g.over.ready.scene.machine.store)
 
@@ -63,7 +63,7 @@ module _ {t : List ℕ} {β : Body} {sp : ℕ} {env : List ℕ} {buf : List ℤ}
   pub three-below : 3 ≤ sp
   three-below = omega (arith, g.below)
 
-  module _ {env₂ : List ℕ} {buf₂ : List ℤ} {state₂ text₂ : List ℕ} (o : Opened g.over env₂ buf₂ state₂ text₂) (long₂ : length env₂ ≡ length env) (same₂ : length buf₂ ≡ length buf) where
+  module _ {env₂ : List ℕ} {buf₂ : List ℤ} {state₂ : Walk} {text₂ : List ℕ} (o : Opened g.over env₂ buf₂ state₂ text₂) (long₂ : length env₂ ≡ length env) (same₂ : length buf₂ ≡ length buf) where
     pub told-wide : Wide (opened_by g.over)
     told-wide =
         wide-like
@@ -107,18 +107,18 @@ module _ {t : List ℕ} {β : Body} {sp : ℕ} {env : List ℕ} {buf : List ℤ}
           few = g.over.ready.few;
         }
 
-    module _ {env₃ : List ℕ} {buf₃ : List ℤ} {state₃ text₃ : List ℕ} {r : Walked} (w : Runs told-ready.scene g.over.ready.term β.units g.over.ready.next env₃ buf₃ state₃ text₃ r) where
+    module _ {env₃ : List ℕ} {buf₃ : List ℤ} {state₃ : Walk} {text₃ : List ℕ} {r : Returned Walked Refusal} (w : Runs told-ready.scene g.over.ready.term β.units g.over.ready.next env₃ buf₃ state₃ text₃ r) where
       whole_is : walked (length buf) β.units body g.over.ready.scene.machine ≡ walked (length buf₂) β.units body g.over.ready.scene.machine
       whole_is = ap (λ c. walked c β.units body g.over.ready.scene.machine) (sym same₂)
 
-      pub body-stopped : {q : Refusal} {env' : List ℕ} → r ≡ Walked-as.Stopped q → Comprehends g env' buf₃ state₃ text₃ (Walked-as.Stopped q)
+      pub body-stopped : {q : Refusal} {env' : List ℕ} → r ≡ Err q → Comprehends g env' buf₃ state₃ text₃ (Err q)
       body-stopped {q} e = ran-stopped (stopping-as whole_is (halted w q e))
 
-      module _ {d end : ℕ} (e : r ≡ Walked-as.Tree d end) where
+      module _ {d end : ℕ} (e : r ≡ reached d end) where
         body_end : Through w d end
         body_end = through w d end e
 
-        pub close-sunk : (j : Sink) × Sunk j text₃ state₃
+        pub close-sunk : (j : Sink) × Sunk j text₃ state₃.sink
         close-sunk = (_, body_end.left.sunk)
 
         pub body-depth : d ≡ depth_of g.over.ready.type
@@ -141,11 +141,11 @@ module _ {t : List ℕ} {β : Body} {sp : ℕ} {env : List ℕ} {buf : List ℤ}
         flags-place =
             sym (ap (λ σ. place σ g.flags) gr.store ∙ place_kept g.over.ready.scene.machine.store gr.streams g.flags (flags g.bits) g.stored)
 
-        pub body-runs : {env₄ : List ℕ} {state₄ text₄ : List ℕ} → length env₃ ≡ length env₂ → ((j : Sink) → Sunk j text₃ state₃ → Tells (told Close j) text₄ state₄ state₃)
+        pub body-runs : {env₄ : List ℕ} {sink₄ : lent.Sink} {text₄ : List ℕ} → length env₃ ≡ length env₂ → ((j : Sink) → Sunk j text₃ state₃.sink → Sunk (told Close j) text₄ sink₄)
             → env₄ ≡ written (sp - 3 - tree_size d) (part (β.inner - tree_size d) (tree_size d) env₃) env₃
-            → Comprehends g env₄ buf₃ state₄ text₄ (Walked-as.Tree (d + 1) end)
+            → Comprehends g env₄ buf₃ (record { machine = state₃.machine; sink = sink₄ }) text₄ (reached (d + 1) end)
         unfolding tree_words map_tree
-        body-runs {env₄} {state₄} {text₄} long₃ c w₄ =
+        body-runs {env₄} {sink₄} {text₄} long₃ c w₄ =
             let moved : env₄ ≡ written (sp - 3 - tree_size (depth_of g.over.ready.type)) (part (β.inner - tree_size (depth_of g.over.ready.type)) (tree_size (depth_of g.over.ready.type)) env₃) env₃ =
             w₄ ∙ ap (λ c. written (sp - 3 - tree_size c) (part (β.inner - tree_size c) (tree_size c) env₃) env₃) body-depth in
             let below : β.inner ≤ sp - 3 = omega (arith, g.below) in
@@ -159,11 +159,11 @@ module _ {t : List ℕ} {β : Body} {sp : ℕ} {env : List ℕ} {buf : List ℤ}
             ∙ (ap (λ l. tree_words (map_tree (place body_end.after.store) body-tree) ++ l)
             (told-flags ∙ ap (λ q. place_words q ++ drop sp env) flags-place)
             ∙ sym (append_assoc (tree_words (map_tree (place body_end.after.store) body-tree)) (place_words (place body_end.after.store g.flags)) (drop sp env)))) in
-            ran-answer (ap₂ Walked-as.Tree deeper (sym body_end.next-is))
+            ran-answer (λ j. reached (deeper j) (sym body_end.next-is j))
             (ran-through body_end.after (whole_is ∙ body_end.went_to)
             (record {
-              held = held-told body_end.left.held (c _ body_end.left.sunk).machine;
-              sunk = (c _ body_end.left.sunk).sunk;
+              held = body_end.left.held;
+              sunk = (c _ body_end.left.sunk);
               kept = keeps_then g.over.ready.scene.machine.store gr.streams body_end.after.store buf buf₂ buf₃ o.kept body_end.left.kept gr.store;
               shapely =
                   shapely-node g.bits body_end.left.shapely
@@ -176,7 +176,7 @@ module _ {t : List ℕ} {β : Body} {sp : ℕ} {env : List ℕ} {buf : List ℤ}
 
 -- ---- the whole, whose run and lines go on as its body's
 
-pub record Encloses {t : List ℕ} {β : Body} {sp : ℕ} {env env₁ : List ℕ} {buf buf₁ : List ℤ} {state state₁ text text₁ : List ℕ} (s : Scene env sp buf state text)
+pub record Encloses {t : List ℕ} {β : Body} {sp : ℕ} {env env₁ : List ℕ} {buf buf₁ : List ℤ} {state state₁ : Walk} {text text₁ : List ℕ} (s : Scene env sp buf state text)
     (g : Entire t β sp env₁ buf₁ state₁ text₁) (n : ℕ) (e : Term s.context (braces g.over.ready.type)) : Type 0 where
   pub whole : walked (length buf) n (code e s.trees (length s.machine.store)) s.machine
       ≡ walked (length buf) β.units (code g.over.ready.term g.over.ready.scene.trees (length g.over.ready.scene.machine.store)) g.over.ready.scene.machine
@@ -188,7 +188,7 @@ pub record Encloses {t : List ℕ} {β : Body} {sp : ℕ} {env env₁ : List ℕ
   pub long : length buf₁ ≡ length buf
 
 -- the same walk, seen from before the body was entered
-ran-since : {res : Result} {k : Sink} {τ : ValueType} {u : IdTree τ} {next sp : ℕ} {env env₁ env' : List ℕ} {buf buf₁ buf' : List ℤ} {state text : List ℕ} {r : Walked}
+ran-since : {res : Result} {k : Sink} {τ : ValueType} {u : IdTree τ} {next sp : ℕ} {env env₁ env' : List ℕ} {buf buf₁ buf' : List ℤ} {state : Walk} {text : List ℕ} {r : Returned Walked Refusal}
     → drop sp env₁ ≡ drop sp env → ((m : State) → res ≡ went m → keeps m.store buf buf₁)
     → Ran res k τ u next sp env₁ env' buf₁ buf' state text r → Ran res k τ u next sp env env' buf buf' state text r
 ran-since {u = u} e f w =
@@ -206,9 +206,9 @@ ran-since {u = u} e f w =
           };
     }
 
-pub enclosed-runs : {t : List ℕ} {β : Body} {sp : ℕ} {env env₁ : List ℕ} {buf buf₁ : List ℤ} {state state₁ text text₁ : List ℕ} (s : Scene env sp buf state text)
+pub enclosed-runs : {t : List ℕ} {β : Body} {sp : ℕ} {env env₁ : List ℕ} {buf buf₁ : List ℤ} {state state₁ : Walk} {text text₁ : List ℕ} (s : Scene env sp buf state text)
     (g : Entire t β sp env₁ buf₁ state₁ text₁) (n : ℕ) (e : Term s.context (braces g.over.ready.type)) → Encloses s g n e
-    → {env' : List ℕ} {buf' : List ℤ} {state' text' : List ℕ} {r : Walked} → Comprehends g env' buf' state' text' r → Runs s e n g.over.ready.next env' buf' state' text' r
+    → {env' : List ℕ} {buf' : List ℤ} {state' : Walk} {text' : List ℕ} {r : Returned Walked Refusal} → Comprehends g env' buf' state' text' r → Runs s e n g.over.ready.next env' buf' state' text' r
 enclosed-runs {β = β} {buf = buf} {buf₁ = buf₁} s g n e h w =
     let m = g.over.ready.scene.machine in
     let p = code g.over.ready.term g.over.ready.scene.trees (length m.store) in
@@ -232,22 +232,19 @@ unfolding ids_of numbered order
 numbered-long s [] = refl
 numbered-long s (u ∷ us) = ap suc (numbered-long (suc s) us)
 
-abbrev inner_of : {t : List ℕ} {k sp : ℕ} {env : List ℕ} {buf : List ℤ} {state text : List ℕ} → (g : Each t k sp env buf state text) → IdTree g.inside
+abbrev inner_of : {t : List ℕ} {k sp : ℕ} {env : List ℕ} {buf : List ℤ} {state : Walk} {text : List ℕ} → (g : Each t k sp env buf state text) → IdTree g.inside
 inner_of g = inner (lookup g.pointer g.scene.trees)
 
-pub some-state : {t : List ℕ} {k sp : ℕ} {env : List ℕ} {buf : List ℤ} {state text : List ℕ} → Each t k sp env buf state text → 1 ≤ length state
-some-state g = omega (arith, four-words g.scene.held)
-
 -- its body, whose control is the next stream
-abbrev pub each_body : (t : List ℕ) (k : ℕ) (state : List ℕ) (inner units : ℕ) → Body
-each_body t k state inner units = record { at = k + 5 + byte_at t (k + 4); control = get_or state 0 0; units = units; inner = inner }
+abbrev pub each_body : (t : List ℕ) (k : ℕ) (state : Walk) (inner units : ℕ) → Body
+each_body t k state inner units = record { at = k + 5 + byte_at t (k + 4); control = state.machine.streams; units = units; inner = inner }
 
-module _ {t : List ℕ} {k sp : ℕ} {env : List ℕ} {buf : List ℤ} {state text : List ℕ} (g : Each t k sp env buf state text) {n : ℕ} where
-  pub enter-stopped : {env₁ env' : List ℕ} {buf₁ : List ℤ} {state₁ text₁ : List ℕ} {r : Entered} {q : Refusal} → Enters g n env₁ buf₁ state₁ text₁ r → r ≡ entered.Stopped q
-      → Runs g.scene (terms.each g.pointer (pointers g.list) g.body) n g.next env' buf₁ state₁ text₁ (Walked-as.Stopped q)
+module _ {t : List ℕ} {k sp : ℕ} {env : List ℕ} {buf : List ℤ} {state : Walk} {text : List ℕ} (g : Each t k sp env buf state text) {n : ℕ} where
+  pub enter-stopped : {env₁ env' : List ℕ} {buf₁ : List ℤ} {state₁ : Walk} {text₁ : List ℕ} {r : Returned Entered Refusal} {q : Refusal} → Enters g n env₁ buf₁ state₁ text₁ r → r ≡ Err q
+      → Runs g.scene (terms.each g.pointer (pointers g.list) g.body) n g.next env' buf₁ state₁ text₁ (Err q)
   enter-stopped {q = q} w e = ran-stopped (w.stops q e)
 
-  module _ {env₁ : List ℕ} {buf₁ : List ℤ} {state₁ text₁ : List ℕ} {inner units : ℕ} (i : Inside g n inner units env₁ buf₁ state₁ text₁) (long₁ : length env₁ ≡ length env) where
+  module _ {env₁ : List ℕ} {buf₁ : List ℤ} {state₁ : Walk} {text₁ : List ℕ} {inner units : ℕ} (i : Inside g n inner units env₁ buf₁ state₁ text₁) (long₁ : length env₁ ≡ length env) where
     pub inside-within : inner ≤ length env₁
     inside-within = omega (arith, long₁, i.below, g.scene.within)
 
@@ -351,6 +348,6 @@ module _ {t : List ℕ} {k sp : ℕ} {env : List ℕ} {buf : List ℤ} {state te
           long = long;
         }
 
-    pub each-runs : length buf₁ ≡ length buf → {env' : List ℕ} {buf' : List ℤ} {state' text' : List ℕ} {r : Walked} → Comprehends each-entire env' buf' state' text' r
+    pub each-runs : length buf₁ ≡ length buf → {env' : List ℕ} {buf' : List ℤ} {state' : Walk} {text' : List ℕ} {r : Returned Walked Refusal} → Comprehends each-entire env' buf' state' text' r
         → Runs g.scene (terms.each g.pointer (pointers g.list) g.body) n g.next env' buf' state' text' r
     each-runs long w = enclosed-runs g.scene each-entire n (terms.each g.pointer (pointers g.list) g.body) (each-encloses long) w

@@ -5,7 +5,8 @@ use mathlib.Core.Path.{◌≡◌, refl, sym, ◌∙◌, ap, subst}
 use native.Mathlib.Omega.{arith}
 use borrow.Author.Tests.{ltb-true}
 use lib.IntN.{ℤ}
-use lib.ListN.{length, get_or, drop, length-append}
+use lib.ListN.{length, drop, length-append}
+use Rattle.std.specs.Prelude.{Ok, Err, Result as Returned}
 use Rattle.laws.proofs.Never.{never}
 use Rattle.snesl.specs.declared.code.Variable.{Variable}
 use Rattle.snesl.specs.declared.refusal.Refusal.{Refusal}
@@ -25,36 +26,34 @@ use Rattle.snesl.proofs.Views.{by-guard}
 use Rattle.environment.specs.Words.{place_words}
 use Rattle.environment.specs.Needs.{words}
 use Rattle.environment.proofs.Stack.{rest-is}
+use Rattle.sink.specs.declared.state.Walk.{Walk}
 use Rattle.sink.specs.Sinks.{opened, closed, feed}
 use Rattle.steps.specs.Holding.{place, most_streams}
-use Rattle.steps.proofs.Executing.{next-id, four-words}
+use Rattle.steps.proofs.Executing.{next-id}
 use Rattle.leaves.specs.Places.{Shallow}
 use Rattle.leaves.specs.Scenes.{most_taken, Runs}
 use Rattle.leaves.specs.declared.Walked.{Walked}
-use Rattle.leaves.specs.declared.Walked.TheVariants as Walked-as
 use Rattle.leaves.proofs.Places.{lookup-shallow}
 use Rattle.leaves.proofs.Running.{ran-stopped}
 use Rattle.records.specs.declared.head.Head.TheVariants as head
-use Rattle.records.specs.declared.head.Shape.{Shape}
 use Rattle.records.specs.Heads.{head_of}
 use Rattle.records.proofs.Heads.{told, Reading, none, beyond, a_var, a_let, a_const, a_truth, an_iota, an_operation, a_negation, a_sum, an_each, a_guard, reading}
 use Rattle.records.proofs.Variables.{length-variables}
 use Rattle.bodies.specs.declared.Entered.{Entered}
-use Rattle.bodies.specs.declared.Entered.TheVariants as entered
 use Rattle.bodies.proofs.Differences.{up-again}
 use Rattle.runner.specs.declared.Body.{Body}
 use Rattle.runner.specs.declared.Route.TheVariants as route
-use Rattle.runner.specs.Walks.{routed, Ready, Entire, Comprehends}
+use Rattle.runner.specs.Walks.{Ready, Entire, Comprehends}
 use Rattle.guards.specs.Entering.{Guard, inner_trees, GuardInside, GuardEnters}
 use Rattle.runner.proofs.Reading.{found-bool}
 use Rattle.runner.proofs.Measures.{length-any, any-shallow, packs-most}
 use Rattle.runner.proofs.Comprehensions.{order-long, Encloses, enclosed-runs}
-use Rattle.runner.proofs.Dispatch.{guard-head}
+use Rattle.runner.proofs.Dispatch.{routed, guard-head}
 
-guard-fields : (t : List ℕ) (k : ℕ) (x : Variable) (n : ℕ) → head.Guard x n ≡ head_of (head_at t k) → (x ≡ variable_at t (k + 2)) × (n ≡ byte_at t (k + 3))
+guard-fields : (t : List ℕ) (k : ℕ) (x : Variable) (n : ℕ) → Ok (head.Guard x n) ≡ head_of k (head_at t k) → (x ≡ variable_at t (k + 2)) × (n ≡ byte_at t (k + 3))
 guard-fields t k x n e = go (reading t k) e
   where
-    go : {m : ℕ} {s : Shape} {h : records.Head} → Reading t k m s h → head.Guard x n ≡ head_of h → (x ≡ variable_at t (k + 2)) × (n ≡ byte_at t (k + 3))
+    go : {m : ℕ} {s : Returned Unit Refusal} {h : records.Head} → Reading t k m s h → Ok (head.Guard x n) ≡ head_of k h → (x ≡ variable_at t (k + 2)) × (n ≡ byte_at t (k + 3))
     go none q = never (cc)
     go beyond q = never (cc)
     go (a_var p l) q = never (cc)
@@ -82,21 +81,21 @@ packed-long h (u ∷ us) δ s =
 
 -- ---- the record
 
-module _ {t : List ℕ} {k sp : ℕ} {env : List ℕ} {buf : List ℤ} {state text : List ℕ} (g : Ready t k sp env buf state text) where
+module _ {t : List ℕ} {k sp : ℕ} {env : List ℕ} {buf : List ℤ} {state : Walk} {text : List ℕ} (g : Ready t k sp env buf state text) where
   pub record GuardAt {τ : ValueType} (e : Term g.scene.context τ) (next : ℕ) : Type 0 where
     pub guard : Guard t k sp env buf state text
-    pub runs : (n : ℕ) {env' : List ℕ} {buf' : List ℤ} {state' text' : List ℕ} {r : Walked}
+    pub runs : (n : ℕ) {env' : List ℕ} {buf' : List ℤ} {state' : Walk} {text' : List ℕ} {r : Returned Walked Refusal}
         → Runs guard.scene (terms.guard guard.pointer (any_pointers guard.list) guard.body) n guard.next env' buf' state' text' r → Runs g.scene e n next env' buf' state' text' r
 
-  guard-fields-at : (h : route.Guard ≡ routed k (head_of (head_at t k)))
+  guard-fields-at : (h : Ok route.Guard ≡ routed k (head_of k (head_at t k)))
       → (head_at t k ≡ guarding (variable_at t (k + 2)) (variables_at t (k + 4) (byte_at t (k + 3))) (4 + byte_at t (k + 3))) × (k + (4 + byte_at t (k + 3)) ≤ length t) × (byte_at t (k + 3) ≤ most_listed)
   guard-fields-at h =
-      let l = guard-head k (head_of (head_at t k)) h in
+      let l = guard-head k (head_of k (head_at t k)) h in
       let f = guard-fields t k l.0 l.1 l.2 in
       let same : head.Guard l.0 l.1 ≡ head.Guard (variable_at t (k + 2)) (byte_at t (k + 3)) = λ i. head.Guard (f.0 i) (f.1 i) in
-      told t k (head.Guard (variable_at t (k + 2)) (byte_at t (k + 3))) (sym same ∙ l.2)
+      told t k (head.Guard (variable_at t (k + 2)) (byte_at t (k + 3))) (ap Ok (sym same) ∙ l.2)
 
-  pub guard-at : route.Guard ≡ routed k (head_of (head_at t k)) → GuardAt g.term g.next
+  pub guard-at : Ok route.Guard ≡ routed k (head_of k (head_at t k)) → GuardAt g.term g.next
   unfolding words
   guard-at h =
       let p = guard-fields-at h in
@@ -129,18 +128,18 @@ module _ {t : List ℕ} {k sp : ℕ} {env : List ℕ} {buf : List ℤ} {state te
 
 -- ---- its body, whose control is the stream behind the next
 
-pub some-state : {t : List ℕ} {k sp : ℕ} {env : List ℕ} {buf : List ℤ} {state text : List ℕ} → Guard t k sp env buf state text → (1 ≤ length state) × (get_or state 0 0 ≤ most_streams)
-some-state g = let h = g.scene.held in (omega (arith, four-words h), omega (arith, next-id h, h.few))
+pub some-state : {t : List ℕ} {k sp : ℕ} {env : List ℕ} {buf : List ℤ} {state : Walk} {text : List ℕ} → Guard t k sp env buf state text → state.machine.streams ≤ most_streams
+some-state g = let h = g.scene.held in omega (arith, next-id h, h.few)
 
-abbrev pub guard_body : (t : List ℕ) (k : ℕ) (state : List ℕ) (inner units : ℕ) → Body
-guard_body t k state inner units = record { at = k + 4 + byte_at t (k + 3); control = get_or state 0 0 + 1; units = units; inner = inner }
+abbrev pub guard_body : (t : List ℕ) (k : ℕ) (state : Walk) (inner units : ℕ) → Body
+guard_body t k state inner units = record { at = k + 4 + byte_at t (k + 3); control = state.machine.streams + 1; units = units; inner = inner }
 
-module _ {t : List ℕ} {k sp : ℕ} {env : List ℕ} {buf : List ℤ} {state text : List ℕ} (g : Guard t k sp env buf state text) {n : ℕ} where
-  pub gate-stopped : {env₁ env' : List ℕ} {buf₁ : List ℤ} {state₁ text₁ : List ℕ} {r : Entered} {q : Refusal} → GuardEnters g n env₁ buf₁ state₁ text₁ r → r ≡ entered.Stopped q
-      → Runs g.scene (terms.guard g.pointer (any_pointers g.list) g.body) n g.next env' buf₁ state₁ text₁ (Walked-as.Stopped q)
+module _ {t : List ℕ} {k sp : ℕ} {env : List ℕ} {buf : List ℤ} {state : Walk} {text : List ℕ} (g : Guard t k sp env buf state text) {n : ℕ} where
+  pub gate-stopped : {env₁ env' : List ℕ} {buf₁ : List ℤ} {state₁ : Walk} {text₁ : List ℕ} {r : Returned Entered Refusal} {q : Refusal} → GuardEnters g n env₁ buf₁ state₁ text₁ r → r ≡ Err q
+      → Runs g.scene (terms.guard g.pointer (any_pointers g.list) g.body) n g.next env' buf₁ state₁ text₁ (Err q)
   gate-stopped {q = q} w e = ran-stopped (w.stops q e)
 
-  module _ {env₁ : List ℕ} {buf₁ : List ℤ} {state₁ text₁ : List ℕ} {inner units : ℕ} (i : GuardInside g n inner units env₁ buf₁ state₁ text₁) (long₁ : length env₁ ≡ length env) where
+  module _ {env₁ : List ℕ} {buf₁ : List ℤ} {state₁ : Walk} {text₁ : List ℕ} {inner units : ℕ} (i : GuardInside g n inner units env₁ buf₁ state₁ text₁) (long₁ : length env₁ ≡ length env) where
     abbrev pub start : ℕ
     start = length g.scene.machine.store
 
@@ -227,6 +226,6 @@ module _ {t : List ℕ} {k sp : ℕ} {env : List ℕ} {buf : List ℤ} {state te
           long = long;
         }
 
-    pub guard-runs : length buf₁ ≡ length buf → {env' : List ℕ} {buf' : List ℤ} {state' text' : List ℕ} {r : Walked} → Comprehends guard-entire env' buf' state' text' r
+    pub guard-runs : length buf₁ ≡ length buf → {env' : List ℕ} {buf' : List ℤ} {state' : Walk} {text' : List ℕ} {r : Returned Walked Refusal} → Comprehends guard-entire env' buf' state' text' r
         → Runs g.scene (terms.guard g.pointer (any_pointers g.list) g.body) n g.next env' buf' state' text' r
     guard-runs long w = enclosed-runs g.scene guard-entire n (terms.guard g.pointer (any_pointers g.list) g.body) (guard-encloses long) w

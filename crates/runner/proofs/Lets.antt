@@ -1,10 +1,11 @@
 -- Let: the second expression is walked where the first one's tree has become a binding, and its own tree then moves up over that.
 use Prim.Native.Nat.{ℕ, ◌+◌, ◌*◌, ◌-◌, ◌≤◌, ◌<◌}
 use mathlib.Core.List.{List, [], ◌∷◌, ◌++◌}
-use mathlib.Core.Path.{◌≡◌, refl, sym, ◌∙◌, ap, ap₂, subst}
+use mathlib.Core.Path.{◌≡◌, refl, sym, ◌∙◌, ap, subst}
 use native.Mathlib.Omega.{arith}
 use lib.IntN.{ℤ}
 use lib.ListN.{length, drop, length-append}
+use Rattle.std.specs.Prelude.{Err, Result as Returned}
 use Rattle.laws.specs.Parts.{part, written}
 use Rattle.snesl.specs.declared.code.Variable.{Variable}
 use Rattle.snesl.specs.declared.refusal.Refusal.{Refusal}
@@ -21,6 +22,7 @@ use Rattle.environment.specs.Words.{tree_words, tree_size, spelled}
 use Rattle.environment.specs.Needs.{words}
 use Rattle.environment.proofs.Stack.{drop-written, length-written}
 use Rattle.environment.proofs.Entries.{bound}
+use Rattle.sink.specs.declared.state.Walk.{Walk}
 use Rattle.steps.specs.Walking.{walked}
 use Rattle.steps.specs.Holding.{place, most_streams}
 use Rattle.steps.proofs.Walking.{walked_seq, Grown, walked-grown}
@@ -29,10 +31,9 @@ use Rattle.sink.specs.Sinks.{feed}
 use Rattle.sink.specs.Sunk.{Sunk}
 use Rattle.sink.proofs.Feeding.{feed-seq}
 use Rattle.leaves.specs.Places.{places, Shapely, Shaped, shaped-more, shallow-more}
-use Rattle.leaves.specs.Scenes.{Ran, Runs}
+use Rattle.leaves.specs.Scenes.{reached, Ran, Runs}
 use Rattle.runner.specs.Walks.{Ready, Binding}
 use Rattle.leaves.specs.declared.Walked.{Walked}
-use Rattle.leaves.specs.declared.Walked.TheVariants as Walked-as
 use Rattle.bodies.proofs.Differences.{back-up}
 use Rattle.snesl.proofs.Compiled.Freshness.{count_code}
 use Rattle.runner.proofs.Measures.{spans, shallow-type, words-hold}
@@ -42,7 +43,7 @@ use Rattle.bodies.proofs.Scenes.{grown-shaped, grown-spells}
 use Rattle.leaves.proofs.Running.{ran-through, ran-stopped, Through, through, halted, ran-answer}
 use Rattle.runner.proofs.Lifting.{behind, lifted-words}
 
-module _ {t : List ℕ} {k sp : ℕ} {env : List ℕ} {buf : List ℤ} {state text : List ℕ} (g : Binding t k sp env buf state text) where
+module _ {t : List ℕ} {k sp : ℕ} {env : List ℕ} {buf : List ℤ} {state : Walk} {text : List ℕ} (g : Binding t k sp env buf state text) where
   abbrev x : Variable
   x = variable_at t (k + 2)
 
@@ -76,12 +77,12 @@ module _ {t : List ℕ} {k sp : ℕ} {env : List ℕ} {buf : List ℤ} {state te
     unfolding code
     both_code = walked_seq (length buf) n (code g.bound g.scene.trees start) (code g.body (tree₁ ▹ g.scene.trees) (start + size g.bound)) g.scene.machine
 
-    module _ {env₁ : List ℕ} {buf₁ : List ℤ} {state₁ text₁ : List ℕ} {r : Walked} (w : Runs g.scene g.bound n g.middle env₁ buf₁ state₁ text₁ r) where
-      pub bound-stopped : {q : Refusal} {env' : List ℕ} → r ≡ Walked-as.Stopped q
-          → Runs g.scene (terms.bind g.bound g.body) n g.next env' buf₁ state₁ text₁ (Walked-as.Stopped q)
+    module _ {env₁ : List ℕ} {buf₁ : List ℤ} {state₁ : Walk} {text₁ : List ℕ} {r : Returned Walked Refusal} (w : Runs g.scene g.bound n g.middle env₁ buf₁ state₁ text₁ r) where
+      pub bound-stopped : {q : Refusal} {env' : List ℕ} → r ≡ Err q
+          → Runs g.scene (terms.bind g.bound g.body) n g.next env' buf₁ state₁ text₁ (Err q)
       bound-stopped {q} e = ran-stopped (stopping-as both_code (onward-stop _ (halted w q e)))
 
-      module _ {c i : ℕ} (e : r ≡ Walked-as.Tree c i) where
+      module _ {c i : ℕ} (e : r ≡ reached c i) where
         pub first-end : Through w c i
         first-end = through w c i e
 
@@ -204,13 +205,13 @@ module _ {t : List ℕ} {k sp : ℕ} {env : List ℕ} {buf : List ℤ} {state te
               ∙ (onward-as (walked (length buf) n (code g.body (tree₁ ▹ g.scene.trees) (start + size g.bound))) first-end.went_to
               ∙ (λ j. walked (sym long j) n (code g.body (tree₁ ▹ g.scene.trees) (sym number j)) first-end.after))
 
-          module _ (long : length buf₁ ≡ length buf) {env₃ : List ℕ} {buf₂ : List ℤ} {state₂ text₂ : List ℕ} {r₂ : Walked}
+          module _ (long : length buf₁ ≡ length buf) {env₃ : List ℕ} {buf₂ : List ℤ} {state₂ : Walk} {text₂ : List ℕ} {r₂ : Returned Walked Refusal}
               (w₃ : Runs second-ready.scene g.body n g.next env₃ buf₂ state₂ text₂ r₂) where
-            pub body-stopped : {q : Refusal} {env' : List ℕ} → r₂ ≡ Walked-as.Stopped q
-                → Runs g.scene (terms.bind g.bound g.body) n g.next env' buf₂ state₂ text₂ (Walked-as.Stopped q)
+            pub body-stopped : {q : Refusal} {env' : List ℕ} → r₂ ≡ Err q
+                → Runs g.scene (terms.bind g.bound g.body) n g.next env' buf₂ state₂ text₂ (Err q)
             body-stopped {q} f = ran-stopped (stopping-as (then-second long) (halted w₃ q f))
 
-            module _ {d end : ℕ} (f : r₂ ≡ Walked-as.Tree d end) where
+            module _ {d end : ℕ} (f : r₂ ≡ reached d end) where
               second-end : Through w₃ d end
               second-end = through w₃ d end f
 
@@ -258,7 +259,7 @@ module _ {t : List ℕ} {k sp : ℕ} {env : List ℕ} {buf : List ℤ} {state te
 
               pub let_runs : {env₄ : List ℕ} → length env₃ ≡ length env₂
                   → env₄ ≡ written (sp - tree_size d) (part (inner - tree_size d) (tree_size d) env₃) env₃
-                  → Runs g.scene (terms.bind g.bound g.body) n g.next env₄ buf₂ state₂ text₂ (Walked-as.Tree d end)
+                  → Runs g.scene (terms.bind g.bound g.body) n g.next env₄ buf₂ state₂ text₂ (reached d end)
               let_runs {env₄} long₃ w₄ =
                   let moved : env₄ ≡ written (sp - tree_size (depth_of g.type)) (part (inner - tree_size (depth_of g.type)) (tree_size (depth_of g.type)) env₃) env₃ =
                   w₄ ∙ ap (λ c. written (sp - tree_size c) (part (inner - tree_size c) (tree_size c) env₃) env₃) second-depth in
@@ -266,15 +267,15 @@ module _ {t : List ℕ} {k sp : ℕ} {env : List ℕ} {buf : List ℤ} {state te
                   lifted-words tree₂ second-end.after inner sp env₂ env₃ env₄ second-end.left.words low below (omega (arith, long₃, second-long, g.scene.within)) moved in
                   let ran : Ran (walked (length buf) n (code (terms.bind g.bound g.body) g.scene.trees start) g.scene.machine)
                   (feed start (code (terms.bind g.bound g.body) g.scene.trees start) g.scene.sink)
-                  g.type (tree (terms.bind g.bound g.body) g.scene.trees start) g.next sp env env₄ buf buf₂ state₂ text₂ (Walked-as.Tree (depth_of g.type) g.next) =
+                  g.type (tree (terms.bind g.bound g.body) g.scene.trees start) g.next sp env env₄ buf buf₂ state₂ text₂ (reached (depth_of g.type) g.next) =
                   ran-through second-end.after (then-second long ∙ second-end.went_to)
                   (record {
                     held = second-end.left.held;
-                    sunk = subst (λ z. Sunk z text₂ state₂) fed second-end.left.sunk;
+                    sunk = subst (λ z. Sunk z text₂ state₂.sink) fed second-end.left.sunk;
                     kept = keeps_then first-end.after.store gr₂.streams second-end.after.store buf buf₁ buf₂ first-end.left.kept second-end.left.kept gr₂.store;
                     shapely = subst (Shapely second-end.after.store g.type) tree_is second-end.left.shapely;
                     words =
                         words
                         ∙ (λ j. tree_words (map_tree (place second-end.after.store) (tree_is j)) ++ above-second j);
                   }) in
-                  ran-answer (ap₂ Walked-as.Tree (sym second-depth) (sym second-end.next-is)) ran
+                  ran-answer (λ j. reached (sym second-depth j) (sym second-end.next-is j)) ran

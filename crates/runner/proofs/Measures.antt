@@ -89,7 +89,7 @@ pub spans : {t : List ℕ} {levels k : ℕ} {Γ : List ValueType} {names : All N
     → Spans t k e next
 unfolding size
 spans {t} {k = k} (formed-var {x = x} h f) s =
-    record { some_bytes = omega arith; within = (told t k (Var x) (sym (ap head_of h))).1; sized = omega arith }
+    record { some_bytes = omega arith; within = (told t k (Var x) (sym (ap (head_of k) h))).1; sized = omega arith }
 spans {t} {k = k} (formed-bind h f g) s =
     let a = spans f s in
     let b = spans g (shallow-more (shallow-type f s) s) in
@@ -99,21 +99,21 @@ spans {t} {k = k} (formed-bind h f g) s =
       sized = omega (arith, a.sized, b.sized);
     }
 spans {t} {k = k} (formed-const {z = z} h) s =
-    record { some_bytes = omega arith; within = (told t k (Const z) (sym (ap head_of h))).1; sized = omega arith }
+    record { some_bytes = omega arith; within = (told t k (Const z) (sym (ap (head_of k) h))).1; sized = omega arith }
 spans {t} {k = k} (formed-truth {c = c} h) s =
-    record { some_bytes = omega arith; within = (told t k (Truth c) (sym (ap head_of h))).1; sized = omega arith }
+    record { some_bytes = omega arith; within = (told t k (Truth c) (sym (ap (head_of k) h))).1; sized = omega arith }
 spans {t} {k = k} (formed-iota {x = x} h f) s =
-    record { some_bytes = omega arith; within = (told t k (Iota x) (sym (ap head_of h))).1; sized = omega arith }
+    record { some_bytes = omega arith; within = (told t k (Iota x) (sym (ap (head_of k) h))).1; sized = omega arith }
 spans {t} {k = k} (formed-operation {o = o} {x = x} {y = y} h f g) s =
-    record { some_bytes = omega arith; within = (told t k (Operation o x y) (sym (ap head_of h))).1; sized = omega arith }
+    record { some_bytes = omega arith; within = (told t k (Operation o x y) (sym (ap (head_of k) h))).1; sized = omega arith }
 spans {t} {k = k} (formed-negation {x = x} h f) s =
-    record { some_bytes = omega arith; within = (told t k (Negation x) (sym (ap head_of h))).1; sized = omega arith }
+    record { some_bytes = omega arith; within = (told t k (Negation x) (sym (ap (head_of k) h))).1; sized = omega arith }
 spans {t} {k = k} (formed-sum {x = x} h f) s =
-    record { some_bytes = omega arith; within = (told t k (Sum x) (sym (ap head_of h))).1; sized = omega arith }
+    record { some_bytes = omega arith; within = (told t k (Sum x) (sym (ap (head_of k) h))).1; sized = omega arith }
 spans {t} {k = k} {names = names} (formed-each {b = b} {x = x} {y = y} {us = us} {v = v} {ls = ls} h f g body le) s =
     let deep = lookup-shallow v s in
     let a = spans body (shallow-more (omega (arith, deep)) (scalars-shallow (pointers ls))) in
-    let p = told t k (Each x y (length us)) (sym (ap head_of h)) in
+    let p = told t k (Each x y (length us)) (sym (ap (head_of k) h)) in
     let bytes : b ≡ 5 + length us = cc (h, p.0) in
     let long : length (pointers ls) ≡ length us = length-listed names us ls g in
     record {
@@ -123,7 +123,7 @@ spans {t} {k = k} {names = names} (formed-each {b = b} {x = x} {y = y} {us = us}
     }
 spans {t} {k = k} {names = names} (formed-guard {b = b} {g = x} {us = us} {ls = ls} h f g body le) s =
     let a = spans body (any-shallow s (any_pointers ls)) in
-    let p = told t k (Guard x (length us)) (sym (ap head_of h)) in
+    let p = told t k (Guard x (length us)) (sym (ap (head_of k) h)) in
     let bytes : b ≡ 4 + length us = cc (h, p.0) in
     let long : length (any_pointers ls) ≡ length us = length-any names us ls g in
     record {
@@ -161,11 +161,11 @@ words-most (formed-operation h f g) s = omega arith
 words-most (formed-negation h f) s = omega arith
 words-most (formed-sum h f) s = omega arith
 words-most {t} {k = k} {names = names} (formed-each {x = x} {y = y} {us = us} {v = v} {ls = ls} h f g body le) s =
-    let p = told t k (Each x y (length us)) (sym (ap head_of h)) in
+    let p = told t k (Each x y (length us)) (sym (ap (head_of k) h)) in
     let long : length (pointers ls) ≡ length us = length-listed names us ls g in
     let deep = lookup-shallow v s in
     omega (arith, p.2, long, deep, words-most body (shallow-more (omega (arith, deep)) (scalars-shallow (pointers ls))))
 words-most {t} {k = k} {names = names} (formed-guard {g = x} {us = us} {ls = ls} h f g body le) s =
-    let p = told t k (Guard x (length us)) (sym (ap head_of h)) in
+    let p = told t k (Guard x (length us)) (sym (ap (head_of k) h)) in
     let long : length (any_pointers ls) ≡ length us = length-any names us ls g in
     omega (arith, p.2, long, listed-most s (any_pointers ls), words-most body (any-shallow s (any_pointers ls)))

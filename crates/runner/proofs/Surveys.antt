@@ -6,8 +6,8 @@ use mathlib.Core.Logic.{⊎_elim}
 use mathlib.Core.Path.{◌≡◌, refl, sym, ◌∙◌, ap, subst}
 use native.Mathlib.Omega.{arith}
 use lib.IntN.{ℤ}
-use lib.ListN.{length, get_or, take, drop, length-append}
-use lib.Seq.{get_or-drop}
+use lib.ListN.{length, take, drop, length-append}
+use Rattle.std.specs.Prelude.{Err, Result as Returned}
 use Rattle.laws.proofs.Never.{never}
 use Rattle.snesl.specs.declared.code.Kind.{Kind}
 use Rattle.snesl.specs.declared.code.Kind.TheVariants.{Ints, Bools, Flags, Units}
@@ -25,8 +25,12 @@ use Rattle.snesl.proofs.Compiled.Freshness.{count_code, of-leaf, of_node, of-ids
 use Rattle.environment.specs.Words.{tree_words, tree_size}
 use Rattle.environment.proofs.Stack.{front-is}
 use Rattle.environment.proofs.Finding.{length-tree}
-use Rattle.sink.specs.Sinks.{Mode, running, listing, surveying, Sink, opened, feed, surveyed}
-use Rattle.sink.specs.Sunk.{mode_word, Sunk, Tells, Opening, opening, Opens}
+use Rattle.sink.specs.declared.state.Walk.{Walk}
+use Rattle.sink.specs.declared.state.Mode.{Mode}
+use Rattle.sink.specs.declared.state.Mode.TheVariants.{Running, Listing, Surveying}
+use Rattle.sink.specs.declared.state.Sink as lent
+use Rattle.sink.specs.Sinks.{Sink, opened, feed, surveyed}
+use Rattle.sink.specs.Sunk.{Sunk, Tells, Opening, opening, back_to, Opens}
 use Rattle.sink.proofs.Feeding.{opened-by}
 use Rattle.sink.specs.Trees.{Placing}
 use Rattle.sink.proofs.Surveying.{survey-mode, survey-own, opening-is}
@@ -36,10 +40,8 @@ use Rattle.steps.proofs.Stores.{contents-append, named}
 use Rattle.steps.proofs.Walking.{walked-grown}
 use Rattle.steps.proofs.Executing.{next-id}
 use Rattle.leaves.specs.Places.{Shapely, shapely-leaf, shapely-node, Shaped, shaped-none, shaped-more}
-use Rattle.leaves.specs.Scenes.{Runs}
+use Rattle.leaves.specs.Scenes.{reached, Runs}
 use Rattle.leaves.specs.declared.Walked.{Walked}
-use Rattle.leaves.specs.declared.Walked.TheVariants as Walked-as
-use Rattle.leaves.proofs.Making.{held-told}
 use Rattle.leaves.proofs.Running.{Through, through, halted}
 use Rattle.runner.specs.Walks.{Ready, Over, opened_by, Opened}
 use Rattle.runner.specs.declared.Body.{Body}
@@ -84,48 +86,33 @@ trees-below shaped-none u h = never-in h
     never-in j = absurd (Memᴰ.not-nil j)
 trees-below (shaped-more {τ = τ} {t = t} {δ = δ} i s) u h = ⊎_elim (λ m. tree-below i u m) (λ m. trees-below s u m) (of-ids τ t δ h)
 
--- ---- the words
+-- ---- the mode
 
-three-behind : (l : List ℕ) (a b c d : ℕ) → take 4 l ≡ a ∷ b ∷ c ∷ d ∷ [] → take 3 (drop 1 l) ≡ b ∷ c ∷ d ∷ []
-three-behind [] a b c d e = never (cc)
-three-behind (x ∷ l) a b c d e = ap (drop 1) e
-
-module _ {k : Sink} {text state : List ℕ} (s : Sunk k text state) where
-  mode-word : get_or state 4 0 ≡ mode_word k.mode
-  mode-word = sym (get_or-drop 4 state 0 0) ∙ ap (λ l. get_or l 0 0) s.words
-
-  pub five-words : 5 ≤ length state
-  five-words = omega (arith, s.whole)
-
+module _ {k : Sink} {text : List ℕ} {w : lent.Sink} (s : Sunk k text w) where
   -- a sink that doesn't list is left alone by an opening
-  pub not-told : (get_or state 4 0 ≡ 1 → ⊥) → (outs : List ℕ) (c : ℕ) (ins : List ℕ) → k ≡ opened outs c ins k
+  pub not-told : (w.mode ≡ Listing → ⊥) → (outs : List ℕ) (c : ℕ) (ins : List ℕ) → k ≡ opened outs c ins k
   not-told f outs c ins = go k.mode refl
     where
       go : (m : Mode) → k.mode ≡ m → k ≡ opened outs c ins k
-      go running e = sym (opened-by k e outs c ins)
-      go listing e = absurd (f (mode-word ∙ ap mode_word e))
-      go surveying e = sym (opened-by k e outs c ins)
+      go Running e = sym (opened-by k e outs c ins)
+      go Listing e = absurd (f (s.mode-is ∙ e))
+      go Surveying e = sym (opened-by k e outs c ins)
 
-  pub lists : get_or state 4 0 ≡ 1 → k.mode ≡ listing
-  lists f = go k.mode refl
-    where
-      go : (m : Mode) → k.mode ≡ m → k.mode ≡ listing
-      go running e = let z : ◌≡◌ {A = ℕ} 0 1 = sym (ap mode_word e) ∙ (sym mode-word ∙ f) in absurd (omega arith)
-      go listing e = e
-      go surveying e = let z : ◌≡◌ {A = ℕ} 2 1 = sym (ap mode_word e) ∙ (sym mode-word ∙ f) in absurd (omega arith)
+  pub lists : w.mode ≡ Listing → k.mode ≡ Listing
+  lists f = sym s.mode-is ∙ f
 
 -- ---- the survey
 
-module _ {t : List ℕ} {β : Body} {env : List ℕ} {buf : List ℤ} {state text : List ℕ} (g : Over t β env buf state text) where
+module _ {t : List ℕ} {β : Body} {env : List ℕ} {buf : List ℤ} {state : Walk} {text : List ℕ} (g : Over t β env buf state text) where
   abbrev start : ℕ
   start = length g.ready.scene.machine.store
 
-  pub no_line : (get_or state 4 0 ≡ 1 → ⊥) → Opened g env buf state text
+  pub no_line : (state.sink.mode ≡ Listing → ⊥) → Opened g env buf state text
   no_line f =
       record {
         held = g.ready.scene.held;
         sunk =
-            subst (λ j. Sunk j text state)
+            subst (λ j. Sunk j text state.sink)
             (not-told g.ready.scene.sunk f (ascending (among (order (tree g.ready.term g.ready.scene.trees start)) (dv start (code g.ready.term g.ready.scene.trees start))))
             β.control (ascending (fv start (code g.ready.term g.ready.scene.trees start))))
             g.ready.scene.sunk;
@@ -133,14 +120,14 @@ module _ {t : List ℕ} {β : Body} {env : List ℕ} {buf : List ℤ} {state tex
         words = refl;
       }
 
-  module _ (list : get_or state 4 0 ≡ 1) {state₁ : List ℕ} (b : (text : List ℕ) (j : Sink) → Sunk j text state → Tells (surveyed (get_or state 0 0) j) text state₁ state) where
-    begun : Sunk (surveyed start g.ready.scene.sink) text state₁
-    begun = subst (λ i. Sunk (surveyed i g.ready.scene.sink) text state₁) (next-id g.ready.scene.held) (b text g.ready.scene.sink g.ready.scene.sunk).sunk
+  module _ (list : state.sink.mode ≡ Listing) {state₁ : Walk} (b : (text : List ℕ) (j : Sink) → Sunk j text state.sink → Tells (surveyed (state.machine.streams) j) text state₁ state) where
+    begun : Sunk (surveyed start g.ready.scene.sink) text state₁.sink
+    begun = subst (λ i. Sunk (surveyed i g.ready.scene.sink) text state₁.sink) (next-id g.ready.scene.held) (b text g.ready.scene.sink g.ready.scene.sunk).sunk
 
-    pub begun-held : Held g.ready.scene.machine buf state₁
-    begun-held = held-told g.ready.scene.held (b text g.ready.scene.sink g.ready.scene.sunk).machine
+    pub begun-held : Held g.ready.scene.machine buf state₁.machine
+    begun-held = subst (Held g.ready.scene.machine buf) (sym (b text g.ready.scene.sink g.ready.scene.sunk).machine) g.ready.scene.held
 
-    pub begun-sunk : Sunk (surveyed (length g.ready.scene.machine.store) g.ready.scene.sink) text state₁
+    pub begun-sunk : Sunk (surveyed (length g.ready.scene.machine.store) g.ready.scene.sink) text state₁.sink
     begun-sunk = begun
 
     abbrev pub survey-ready : Ready t β.at β.inner env buf state₁ text
@@ -172,18 +159,18 @@ module _ {t : List ℕ} {β : Body} {env : List ℕ} {buf : List ℤ} {state tex
           few = g.ready.few;
         }
 
-    module _ {env₁ : List ℕ} {buf₁ : List ℤ} {state₂ text₂ : List ℕ} {r : Walked} (w : Runs survey-ready.scene g.ready.term 0 g.ready.next env₁ buf₁ state₂ text₂ r) where
+    module _ {env₁ : List ℕ} {buf₁ : List ℤ} {state₂ : Walk} {text₂ : List ℕ} {r : Returned Walked Refusal} (w : Runs survey-ready.scene g.ready.term 0 g.ready.next env₁ buf₁ state₂ text₂ r) where
       abbrev body : Program
       body = code g.ready.term g.ready.scene.trees start
 
-      pub never-stops : {X : Type 0} {q : Refusal} → r ≡ Walked-as.Stopped q → X
+      pub never-stops : {X : Type 0} {q : Refusal} → r ≡ Err q → X
       unfolding walked
       never-stops {q = q} e =
           let s = halted w q e in
           let both : went (skip body g.ready.scene.machine) ≡ stopped s.why s.where-at = s.stops in
           never (cc)
 
-      module _ {d next : ℕ} (e : r ≡ Walked-as.Tree d next) where
+      module _ {d next : ℕ} (e : r ≡ reached d next) where
         end : Through w d next
         end = through w d next e
 
@@ -215,7 +202,7 @@ module _ {t : List ℕ} {β : Body} {env : List ℕ} {buf : List ℤ} {state tex
         abbrev placing : Placing
         placing = record { place = place end.after.store; named = λ i. refl }
 
-        abbrev opening-here : length env₁ ≡ length env → Opening env₁ (β.inner - (3 * depth_of g.ready.type + 3)) (depth_of g.ready.type) after-survey text₂ state₂
+        abbrev opening-here : length env₁ ≡ length env → Opening env₁ (β.inner - (3 * depth_of g.ready.type + 3)) (depth_of g.ready.type) after-survey text₂ state₂.sink
         opening-here l =
             record {
               sunk = end.left.sunk;
@@ -229,15 +216,15 @@ module _ {t : List ℕ} {β : Body} {env : List ℕ} {buf : List ℤ} {state tex
               shallow = omega (arith, g.shallow);
             }
 
-        pub open-ready : length env₁ ≡ length env → (j : Sink) × Opening env₁ (β.inner - (3 * d + 3)) d j text₂ state₂
-        open-ready l = (after-survey, subst (λ i. Opening env₁ (β.inner - (3 * i + 3)) i after-survey text₂ state₂) (sym depth_is) (opening-here l))
+        pub open-ready : length env₁ ≡ length env → (j : Sink) × Opening env₁ (β.inner - (3 * d + 3)) d j text₂ state₂.sink
+        open-ready l = (after-survey, subst (λ i. Opening env₁ (β.inner - (3 * i + 3)) i after-survey text₂ state₂.sink) (sym depth_is) (opening-here l))
 
-        module _ (l : length env₁ ≡ length env) {state₃ text₃ : List ℕ}
-            (o : (j : Sink) (h : Opening env₁ (β.inner - (3 * d + 3)) d j text₂ state₂) → Opens j h.tree β.control text₃ state₃ state₂) where
+        module _ (l : length env₁ ≡ length env) {state₃ : Walk} {text₃ : List ℕ}
+            (o : (j : Sink) (h : Opening env₁ (β.inner - (3 * d + 3)) d j text₂ state₂.sink) → Opens j h.tree β.control text₃ state₃ state₂) where
           room-same : room end.after.store ≡ room g.ready.scene.machine.store
           room-same = ap (λ m. room m.store) (sym skipped-to) ∙ ap length (skipped-contents body g.ready.scene.machine)
 
-          next-is : get_or state₂ 0 0 ≡ start + size g.ready.term
+          next-is : state₂.machine.streams ≡ start + size g.ready.term
           next-is =
               let gr = walked-grown (length buf) 0 body g.ready.scene.machine end.after end.went_to in
               next-id end.left.held
@@ -247,21 +234,20 @@ module _ {t : List ℕ} {β : Body} {env : List ℕ} {buf : List ℤ} {state tex
           opens-so : Opens after-survey the-tree β.control text₃ state₃ state₂
           opens-so = go d depth_is o
             where
-              go : (i : ℕ) → i ≡ depth_of g.ready.type → ((j : Sink) (h : Opening env₁ (β.inner - (3 * i + 3)) i j text₂ state₂) → Opens j h.tree β.control text₃ state₃ state₂)
+              go : (i : ℕ) → i ≡ depth_of g.ready.type → ((j : Sink) (h : Opening env₁ (β.inner - (3 * i + 3)) i j text₂ state₂.sink) → Opens j h.tree β.control text₃ state₃ state₂)
                   → Opens after-survey (tree g.ready.term g.ready.scene.trees start) β.control text₃ state₃ state₂
               go i q f =
-                  subst (λ x. ((j : Sink) (h : Opening env₁ (β.inner - (3 * x + 3)) x j text₂ state₂) → Opens j h.tree β.control text₃ state₃ state₂) → Opens after-survey (tree g.ready.term g.ready.scene.trees start) β.control text₃ state₃ state₂)
+                  subst (λ x. ((j : Sink) (h : Opening env₁ (β.inner - (3 * x + 3)) x j text₂ state₂.sink) → Opens j h.tree β.control text₃ state₃ state₂) → Opens after-survey (tree g.ready.term g.ready.scene.trees start) β.control text₃ state₃ state₂)
                   (sym q) (λ f'. f' after-survey (opening-here l)) f
 
-          machine-words : take 4 state₃ ≡ counters g.ready.scene.machine
-          machine-words =
+          counts-same : state₃.machine ≡ counters g.ready.scene.machine
+          counts-same =
               let m = g.ready.scene.machine in
-              let after-words : take 4 state₂ ≡ length end.after.store ∷ room end.after.store ∷ m.work ∷ m.steps ∷ [] =
-              end.left.held.words ∙ ap (λ q. length end.after.store ∷ room end.after.store ∷ q.work ∷ q.steps ∷ []) (sym skipped-to) in
+              let after-counts : state₂.machine ≡ record { streams = length end.after.store; room = room end.after.store; work = m.work; steps = m.steps } =
+              end.left.held.counts-are ∙ ap (λ q. record { streams = length end.after.store; room = room end.after.store; work = q.work; steps = q.steps }) (sym skipped-to) in
               opens-so.machine
-              ∙ ((λ i. survey-own g.ready.term g.ready.scene.trees start below g.ready.scene.sink roomy i
-              ∷ three-behind state₂ (length end.after.store) (room end.after.store) m.work m.steps after-words i)
-              ∙ ap (λ q. length m.store ∷ q ∷ m.work ∷ m.steps ∷ []) room-same)
+              ∙ (ap (λ i. back_to i state₂.machine) (survey-own g.ready.term g.ready.scene.trees start below g.ready.scene.sink roomy)
+              ∙ (ap (back_to start) after-counts ∙ ap (λ q. back_to start (record { streams = start; room = q; work = m.work; steps = m.steps })) room-same))
 
           pub line-told : Opened g env₁ buf₁ state₃ text₃
           line-told =
@@ -270,7 +256,7 @@ module _ {t : List ℕ} {β : Body} {env : List ℕ} {buf : List ℤ} {state tex
               record {
                 held =
                     record {
-                      words = machine-words;
+                      counts-are = counts-same;
                       contents-are =
                           ap (λ q. take q buf₁) (sym room-same)
                           ∙ (end.left.held.contents-are ∙ (ap (λ q. contents q.store) (sym skipped-to) ∙ skipped-contents body m));
@@ -280,12 +266,12 @@ module _ {t : List ℕ} {β : Body} {env : List ℕ} {buf : List ℤ} {state tex
                       slow = h.slow;
                       cheap = h.cheap;
                     };
-                sunk = subst (λ j. Sunk j text₃ state₃) sink-is opens-so.sunk;
+                sunk = subst (λ j. Sunk j text₃ state₃.sink) sink-is opens-so.sunk;
                 kept = subst (λ q. drop q buf₁ ≡ drop q buf) room-same end.left.kept;
                 words = behind the-tree end.after β.inner β.inner env env₁ env₁ end.left.words (omega (arith, words-hold g.ready.term, g.ready.space));
               }
             where
-              sink-is : opening after-survey the-tree β.control (get_or state₂ 0 0)
+              sink-is : opening after-survey the-tree β.control (state₂.machine.streams)
                   ≡ opened_by g
               sink-is =
                   ap (λ n. opening after-survey the-tree β.control n) next-is

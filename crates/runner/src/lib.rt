@@ -4,30 +4,27 @@
 #![tactic(auto)]
 
 ghost use Rattle.std.specs.Prelude.{◌≤◌, ◌≡◌};
-ghost use Rattle.snesl.specs.Records.{head_at};
 ghost use Rattle.snesl.specs.Terms as terms;
 ghost use Rattle.snesl.specs.Checking.{pointers, any_pointers};
-ghost use Rattle.records.specs.Heads.{head_of};
 ghost use Rattle.leaves.specs.Scenes.{Runs};
 ghost use Rattle.bodies.specs.Bodies.{Each};
-ghost use Rattle.runner.specs.Walks.{routed, Ready, Binding, Over, Opened, Entire, Comprehends};
+ghost use Rattle.runner.specs.Walks.{route_to, Ready, Binding, Over, Opened, Entire, Comprehends};
 ghost use Rattle.guards.specs.Entering.{Guard};
 
-use bodies::{Entered, enter};
+use bodies::enter;
 use environment::{bind_tree, lift_tree};
 use guards::enter_guard;
 use leaves::{Form, Walked, iota, single, variable};
 use records::head::{Head, head_at};
 use sink::openings::{begin_survey, open_body};
+use sink::state::{Mode, Walk};
 use sink::tell;
-use sink::words::{LISTING, MODE};
 use snesl::code::{Instruction, StreamId, Variable};
 use snesl::refusal::Refusal;
 
 // The arm of the walk that a record goes to, and the position behind a record that stands for one instruction.
 #[derive(Clone, Copy)]
 pub enum Route {
-    Missing,
     Name(Variable),
     Single(Form, usize),
     Iota(Variable),
@@ -45,13 +42,12 @@ pub struct Body {
     pub inner: usize,
 }
 
-fn route_at(bytes: &[u8], k: usize) -> Route
+// The arm for the record of this head at k.
+fn route_of(head: Head, k: usize) -> Route
     requires { k ≤ 65536 }
-    ensures { result ≡ routed k (head_of (head_at bytes.now k)) }
+    ensures { result ≡ route_to k head }
 {
-    match head_at(bytes, k) {
-        Head::Absent => Route::Missing,
-        Head::Over => Route::Missing,
+    match head {
         Head::Var(x) => Route::Name(x),
         Head::Let(_) => Route::Let,
         Head::Const(z) => Route::Single(Form::Const(z), k + 6),
@@ -74,25 +70,17 @@ fn binding(
     sp: usize,
     env: &mut [u32],
     buf: &mut [i32],
-    state: &mut [usize],
+    state: &mut Walk,
     text: &mut [u8],
-) -> Walked
+) -> Result<Walked, Refusal>
     requires { Binding bytes.now k sp env.old buf.old state.old text.old }
     ensures { (g : Binding bytes.now k sp env.old buf.old state.old text.old) → Runs g.scene (terms.bind g.bound g.body) n g.next env.new buf.new state.new text.new result }
 {
-    match walk(bytes, k + 3, n, sp, env, buf, state, text) {
-        Walked::Tree(depth, next) => {
-            let inner = bind_tree(env, sp, Variable(bytes[k + 2]), depth);
-            match walk(bytes, next, n, inner, env, buf, state, text) {
-                Walked::Tree(d, end) => {
-                    lift_tree(env, d, inner, sp);
-                    Walked::Tree(d, end)
-                }
-                Walked::Stopped(r) => Walked::Stopped(r),
-            }
-        }
-        Walked::Stopped(r) => Walked::Stopped(r),
-    }
+    let bound = walk(bytes, k + 3, n, sp, env, buf, state, text)?;
+    let inner = bind_tree(env, sp, Variable(bytes[k + 2]), bound.depth);
+    let body = walk(bytes, bound.next, n, inner, env, buf, state, text)?;
+    lift_tree(env, body.depth, inner, sp);
+    Ok(body)
 }
 
 // Where a listing is wanted, the line that opens a body's WithCtrl: the body is surveyed first, under no units, so that nothing is executed.
@@ -102,22 +90,19 @@ fn survey(
     body: Body,
     env: &mut [u32],
     buf: &mut [i32],
-    state: &mut [usize],
+    state: &mut Walk,
     text: &mut [u8],
 )
     requires { Over bytes.now body env.old buf.old state.old text.old }
     ensures { (g : Over bytes.now body env.old buf.old state.old text.old) → Opened g env.new buf.new state.new text.new }
 {
-    if state[MODE] != LISTING {
+    if state.sink.mode != Mode::Listing {
         return;
     }
     begin_survey(state);
-    match walk(bytes, body.at, 0, body.inner, env, buf, state, text) {
-        Walked::Tree(depth, _) => {
-            let tree = body.inner - (3 * depth + 3);
-            open_body(env, tree, depth, StreamId(body.control), text, state);
-        }
-        Walked::Stopped(_) => {}
+    if let Ok(walked) = walk(bytes, body.at, 0, body.inner, env, buf, state, text) {
+        let tree = body.inner - (3 * walked.depth + 3);
+        open_body(env, tree, walked.depth, StreamId(body.control), text, state);
     }
 }
 
@@ -130,23 +115,22 @@ fn comprehend(
     sp: usize,
     env: &mut [u32],
     buf: &mut [i32],
-    state: &mut [usize],
+    state: &mut Walk,
     text: &mut [u8],
-) -> Walked
+) -> Result<Walked, Refusal>
     requires { Entire bytes.now body sp env.old buf.old state.old text.old }
     ensures { (g : Entire bytes.now body sp env.old buf.old state.old text.old) → Comprehends g env.new buf.new state.new text.new result }
 {
     survey(bytes, body, env, buf, state, text);
-    match walk(
+    let walked = walk(
         bytes, body.at, body.units, body.inner, env, buf, state, text,
-    ) {
-        Walked::Tree(depth, next) => {
-            tell(Instruction::Close, text, state);
-            lift_tree(env, depth, body.inner, sp - 3);
-            Walked::Tree(depth + 1, next)
-        }
-        Walked::Stopped(r) => Walked::Stopped(r),
-    }
+    )?;
+    tell(Instruction::Close, text, &mut state.sink);
+    lift_tree(env, walked.depth, body.inner, sp - 3);
+    Ok(Walked {
+        depth: walked.depth + 1,
+        next: walked.next,
+    })
 }
 
 // A comprehension over a sequence: its control is the next stream.
@@ -158,25 +142,21 @@ fn each(
     sp: usize,
     env: &mut [u32],
     buf: &mut [i32],
-    state: &mut [usize],
+    state: &mut Walk,
     text: &mut [u8],
-) -> Walked
+) -> Result<Walked, Refusal>
     requires { Each bytes.now k sp env.old buf.old state.old text.old }
     ensures { (g : Each bytes.now k sp env.old buf.old state.old text.old) → Runs g.scene (terms.each g.pointer (pointers g.list) g.body) n g.next env.new buf.new state.new text.new result }
 {
-    let control = state[0];
-    match enter(bytes, k, n, sp, env, buf, state, text) {
-        Entered::Body(inner, units) => {
-            let body = Body {
-                at: k + 5 + bytes[k + 4] as usize,
-                control: control,
-                units: units,
-                inner: inner,
-            };
-            comprehend(bytes, body, sp, env, buf, state, text)
-        }
-        Entered::Stopped(r) => Walked::Stopped(r),
-    }
+    let control = state.machine.streams;
+    let entered = enter(bytes, k, n, sp, env, buf, state, text)?;
+    let body = Body {
+        at: k + 5 + bytes[k + 4] as usize,
+        control,
+        units: entered.units,
+        inner: entered.inner,
+    };
+    comprehend(bytes, body, sp, env, buf, state, text)
 }
 
 // A guard's one item or none: its flags are the next stream, and its control the one behind them.
@@ -188,28 +168,25 @@ fn guard(
     sp: usize,
     env: &mut [u32],
     buf: &mut [i32],
-    state: &mut [usize],
+    state: &mut Walk,
     text: &mut [u8],
-) -> Walked
+) -> Result<Walked, Refusal>
     requires { Guard bytes.now k sp env.old buf.old state.old text.old }
     ensures { (g : Guard bytes.now k sp env.old buf.old state.old text.old) → Runs g.scene (terms.guard g.pointer (any_pointers g.list) g.body) n g.next env.new buf.new state.new text.new result }
 {
-    let control = state[0] + 1;
-    match enter_guard(bytes, k, n, sp, env, buf, state, text) {
-        Entered::Body(inner, units) => {
-            let body = Body {
-                at: k + 4 + bytes[k + 3] as usize,
-                control: control,
-                units: units,
-                inner: inner,
-            };
-            comprehend(bytes, body, sp, env, buf, state, text)
-        }
-        Entered::Stopped(r) => Walked::Stopped(r),
-    }
+    let control = state.machine.streams + 1;
+    let entered = enter_guard(bytes, k, n, sp, env, buf, state, text)?;
+    let body = Body {
+        at: k + 4 + bytes[k + 3] as usize,
+        control,
+        units: entered.units,
+        inner: entered.inner,
+    };
+    comprehend(bytes, body, sp, env, buf, state, text)
 }
 
 // The expression at byte k, under n units. A checked formula has a whole record at k.
+// The bytes are gone over by position, and not as a slice of what is left, since refusals and the place behind an expression are positions in the whole.
 #[cycle(binding_comprehend_each_guard_survey_walk)]
 pub fn walk(
     bytes: &[u8],
@@ -218,19 +195,19 @@ pub fn walk(
     sp: usize,
     env: &mut [u32],
     buf: &mut [i32],
-    state: &mut [usize],
+    state: &mut Walk,
     text: &mut [u8],
-) -> Walked
+) -> Result<Walked, Refusal>
     requires { Ready bytes.now k sp env.old buf.old state.old text.old }
     ensures { (g : Ready bytes.now k sp env.old buf.old state.old text.old) → Runs g.scene g.term n g.next env.new buf.new state.new text.new result }
 {
-    match route_at(bytes, k) {
-        Route::Name(x) => variable(x, k + 3, sp, env),
+    let head = head_at(bytes, k)?;
+    match route_of(head, k) {
+        Route::Name(x) => Ok(variable(x, k + 3, sp, env)),
         Route::Single(form, next) => single(form, next, n, sp, env, buf, state, text),
         Route::Iota(x) => iota(x, k + 3, n, sp, env, buf, state, text),
         Route::Let => binding(bytes, k, n, sp, env, buf, state, text),
         Route::Each => each(bytes, k, n, sp, env, buf, state, text),
         Route::Guard => guard(bytes, k, n, sp, env, buf, state, text),
-        Route::Missing => Walked::Stopped(Refusal::NoRecord(k)),
     }
 }

@@ -1,10 +1,13 @@
 -- A list of ids written id by id, and one written in ascending order, the least that is left at each turn.
 use Prim.Native.Nat.{ℕ, ◌+◌, ◌≤◌, ◌<◌}
 use native.Mathlib.Omega.{arith}
+use native.Mathlib.Numerals.{add-one}
 use mathlib.Core.Bool.{Bool, true, false}
 use mathlib.Core.List.{List, [], ◌∷◌, ◌++◌, append_assoc, append-nil}
 use mathlib.Core.Logic.{⊎_elim}
 use mathlib.Core.Path.{◌≡◌, refl, sym, ap, ◌∙◌, subst}
+use lib.ListN.{length, get_or, drop}
+use lib.Seq.{drop-cons}
 use Rattle.snesl.specs.Programs.{ascending}
 use Rattle.decimals.specs.Writing.{Writes}
 use Rattle.decimals.proofs.Stores.{writes_nothing, writes_then}
@@ -44,6 +47,10 @@ module _ {all left text₀ : List ℕ} {at : ℕ} {first : Bool} {text : List �
           writes = writes_then r.writes w;
           whole = onward ∙ sym (append_assoc r.past (next_text first s) (rest_text false more));
         }
+
+-- the next of them
+pub next-id : (us : List ℕ) {i : ℕ} → i < length us → drop i us ≡ get_or us i 0 ∷ drop (i + 1) us
+next-id us {i} h = drop-cons us i 0 h ∙ ap (λ n. get_or us i 0 ∷ drop n us) (sym (add-one i))
 
 -- the ids from `from` on are left, in ascending order
 pub record Rest (us : List ℕ) (lo hi : ℕ) (text₀ : List ℕ) (at : ℕ) (first : Bool) (from : ℕ) (text : List ℕ) (p : ℕ) : Type 0 where

@@ -13,7 +13,9 @@ use Rattle.snesl.specs.Transducers.{operands}
 use Rattle.snesl.specs.Programs.{Program, done, define, with_ctrl, ◌⨾◌, count}
 use Rattle.snesl.specs.Listing.{define_line, with_ctrl_line, close_line, lines_of}
 use Rattle.decimals.proofs.Stores.{sets-append}
-use Rattle.sink.specs.Sinks.{Mode, running, listing, surveying, Sink, far, put, take_in, mark, mark_all, defined, opened, closed, feed}
+use Rattle.sink.specs.declared.state.Mode.{Mode}
+use Rattle.sink.specs.declared.state.Mode.TheVariants.{Running, Listing, Surveying}
+use Rattle.sink.specs.Sinks.{Sink, far, put, take_in, mark, mark_all, defined, opened, closed, feed}
 use Rattle.sink.proofs.Sinking.{landed, put-near}
 use Rattle.sink.proofs.Tidy.{uses}
 
@@ -46,17 +48,17 @@ lines-seq s (with_ctrl outs c ins b p) q =
 
 -- ---- by the sink's mode
 module _ (k : Sink) {m : Mode} (e : k.mode ≡ m) where
-  pub defined-by : (s : ℕ) (t : Transducer) → defined s t k ≡ elim m [ running ↦ k | listing ↦ put (define_line s t) k | surveying ↦ take_in (operands t) k ]
-  defined-by s t = ap (λ m. elim m [ running ↦ k | listing ↦ put (define_line s t) k | surveying ↦ take_in (operands t) k ]) e
+  pub defined-by : (s : ℕ) (t : Transducer) → defined s t k ≡ elim m [ Running ↦ k | Listing ↦ put (define_line s t) k | Surveying ↦ take_in (operands t) k ]
+  defined-by s t = ap (λ m. elim m [ Running ↦ k | Listing ↦ put (define_line s t) k | Surveying ↦ take_in (operands t) k ]) e
 
-  pub opened-by : (outs : List ℕ) (c : ℕ) (ins : List ℕ) → opened outs c ins k ≡ elim m [ running ↦ k | listing ↦ put (with_ctrl_line outs c ins) k | surveying ↦ k ]
-  opened-by outs c ins = ap (λ m. elim m [ running ↦ k | listing ↦ put (with_ctrl_line outs c ins) k | surveying ↦ k ]) e
+  pub opened-by : (outs : List ℕ) (c : ℕ) (ins : List ℕ) → opened outs c ins k ≡ elim m [ Running ↦ k | Listing ↦ put (with_ctrl_line outs c ins) k | Surveying ↦ k ]
+  opened-by outs c ins = ap (λ m. elim m [ Running ↦ k | Listing ↦ put (with_ctrl_line outs c ins) k | Surveying ↦ k ]) e
 
-  pub closed-by : closed k ≡ elim m [ running ↦ k | listing ↦ put close_line k | surveying ↦ k ]
-  closed-by = ap (λ m. elim m [ running ↦ k | listing ↦ put close_line k | surveying ↦ k ]) e
+  pub closed-by : closed k ≡ elim m [ Running ↦ k | Listing ↦ put close_line k | Surveying ↦ k ]
+  closed-by = ap (λ m. elim m [ Running ↦ k | Listing ↦ put close_line k | Surveying ↦ k ]) e
 
 -- one that runs
-pub feed-running : (s : ℕ) (p : Program) (k : Sink) → k.mode ≡ running → feed s p k ≡ k
+pub feed-running : (s : ℕ) (p : Program) (k : Sink) → k.mode ≡ Running → feed s p k ≡ k
 unfolding feed
 feed-running s done k e = refl
 feed-running s (define t p) k e = ap (feed (suc s) p) (defined-by k e s t) ∙ feed-running (suc s) p k e
@@ -75,7 +77,7 @@ take-in-append : (us vs : List ℕ) (k : Sink) → take_in vs (take_in us k) ≡
 take-in-append us vs k =
     ap (λ ws. record { mode = k.mode; text = k.text; at = k.at; own = k.own; taken = ws; most = k.most }) (sym (mark-append k.own k.most us vs k.taken))
 
-pub feed-surveying : (s : ℕ) (p : Program) (k : Sink) → k.mode ≡ surveying → feed s p k ≡ take_in (uses p) k
+pub feed-surveying : (s : ℕ) (p : Program) (k : Sink) → k.mode ≡ Surveying → feed s p k ≡ take_in (uses p) k
 unfolding feed uses mark_all
 feed-surveying s done k e = refl
 feed-surveying s (define t p) k e =
@@ -102,7 +104,7 @@ four-long : (a b c d : List ℕ) → length (pieces (a ∷ b ∷ c ∷ d ∷ [])
 four-long a b c d =
     ap length (sym (regroup a b c d)) ∙ (length-append ((a ++ b) ++ c) d ∙ (ap (λ n. n + length d) (length-append (a ++ b) c) ∙ ap (λ n. n + length c + length d) (length-append a b)))
 
-pub feed-listing : (s : ℕ) (p : Program) (k : Sink) → k.mode ≡ listing → k.at + length (lines_of s p) ≤ far → feed s p k ≡ landed (lines_of s p) k
+pub feed-listing : (s : ℕ) (p : Program) (k : Sink) → k.mode ≡ Listing → k.at + length (lines_of s p) ≤ far → feed s p k ≡ landed (lines_of s p) k
 unfolding feed lines_of
 feed-listing s done k e h = sym (landed_none k)
 feed-listing s (define t p) k e h =

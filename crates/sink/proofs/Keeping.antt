@@ -1,22 +1,20 @@
--- The ids that a survey keeps, as words: where one stands, and one more among them.
+-- The ids that a survey keeps: where one stands, and one more among them.
 use Prim.Native.Nat.{ℕ, suc, ◌+◌, ◌-◌, ◌≤◌, ◌<◌}
 use native.Mathlib.Omega.{arith}
 use native.Mathlib.Numerals.{add-one}
-use native.Mathlib.Decide.{dec_lt}
 use mathlib.Core.Bool.{true, false}
 use mathlib.Core.List.Memᴰ
 use mathlib.Core.List.{List, [], ◌∷◌, ◌++◌, append_assoc}
 use mathlib.Core.Path.{◌≡◌, refl, sym, ap, ◌∙◌, subst}
 use borrow.Author.Tests.{lt-ltb, le-ltb, eq-eqb, ne_eqb}
 use lib.Dec.{ltb, eqb}
-use lib.ListN.{length, get_or, take, drop, set, length-append, length-drop, take-append-drop, drop_of_length-le, get_or-append}
-use lib.Seq.{take-suc, drop-cons, take_at, drop_at, drop-drop, take-take, get_or_at, get_or-append-add, set_at, set-append_left, set_split, length-take-le, length-sets}
-use Rattle.laws.specs.Parts.{part, written}
-use Rattle.laws.proofs.Parts.{length_part, sets-written}
+use lib.ListN.{length, get_or, take, drop, set, length-append, length-take, length-drop, take-append-drop, drop_of_length-le, get_or-append}
+use lib.Seq.{take-suc, drop-cons, take_at, drop_at, drop-drop, take-take, set-append_left, set_split, length-take-le}
 use Rattle.snesl.specs.Programs.{insert}
 use Rattle.snesl.proofs.Compiled.Members.{◌∈◌}
+use Rattle.std.specs.Prelude.{Option, Some, None}
 use Rattle.sink.specs.Sinks.{mark, mark_all}
-use Rattle.sink.specs.declared.kept.Rank.TheVariants.{Held, New}
+use Rattle.sink.specs.declared.state.Kept.{Kept}
 use Rattle.sink.specs.Kept.{Marks, Ranks}
 use Rattle.sink.specs.declared.uses.Used.{Used}
 use Rattle.sink.specs.Uses.{used_ids}
@@ -38,35 +36,6 @@ insert-behind u t ts h =
     ap (λ b. elim b [ true ↦ u ∷ t ∷ ts | false ↦ elim (eqb u t) [ true ↦ t ∷ ts | false ↦ t ∷ insert u ts ] ]) (le-ltb u t (omega arith))
     ∙ ap (λ b. elim b [ true ↦ t ∷ ts | false ↦ t ∷ insert u ts ]) (ne_eqb u t (λ e. omega arith))
 
--- the words
-module _ {front : List ℕ} {own : ℕ} {taken : List ℕ} {most : ℕ} {state : List ℕ} (m : Marks front own taken most state) where
-  pub long : 8 ≤ length state
-  long = omega (arith, m.whole)
-
-  pub own-word : get_or state 6 0 ≡ own
-  own-word = ap (λ l. get_or l 6 0) m.words ∙ get_or_at front own (length taken ∷ (taken ++ m.rest)) 0 6 m.six
-
-  eight : length (front ++ own ∷ length taken ∷ []) ≡ 8
-  eight = length-append front (own ∷ length taken ∷ []) ∙ omega (arith, m.six)
-
-  pub regrouped : state ≡ (front ++ own ∷ length taken ∷ []) ++ (taken ++ m.rest)
-  regrouped = m.words ∙ sym (append_assoc front (own ∷ length taken ∷ []) (taken ++ m.rest))
-
-  pub count_word : get_or state 7 0 ≡ length taken
-  count_word =
-      ap (λ l. get_or l 7 0) (m.words ∙ sym (append_assoc front (own ∷ []) (length taken ∷ (taken ++ m.rest))))
-      ∙ get_or_at (front ++ own ∷ []) (length taken) (taken ++ m.rest) 0 7 (length-append front (own ∷ []) ∙ omega (arith, m.six))
-
-  pub id-word : (i : ℕ) → i < length taken → get_or state (8 + i) 0 ≡ get_or taken i 0
-  id-word i h =
-      ap (λ l. get_or l (8 + i) 0) regrouped
-      ∙ (ap (λ n. get_or ((front ++ own ∷ length taken ∷ []) ++ (taken ++ m.rest)) (n + i) 0) (sym eight)
-      ∙ (get_or-append-add (front ++ own ∷ length taken ∷ []) (taken ++ m.rest) i 0 ∙ get_or-append taken m.rest 0 i h))
-
-  pub rest-long : length m.rest ≡ most - length taken
-  rest-long =
-      omega (arith, m.kept, m.whole, ap length regrouped, length-append (front ++ own ∷ length taken ∷ []) (taken ++ m.rest), length-append taken m.rest, eight)
-
 -- a search that has come to i
 pub record Searching (u : ℕ) (taken : List ℕ) (i : ℕ) : Type 0 where
   pub within : i ≤ length taken
@@ -80,8 +49,9 @@ module _ {u : ℕ} {taken : List ℕ} {i : ℕ} (s : Searching u taken i) where
     here : drop i taken ≡ get_or taken i 0 ∷ drop (suc i) taken
     here = drop-cons taken i 0 h
 
-    pub search-turn : get_or taken i 0 < u → Searching u taken (i + 1)
-    search-turn g =
+    pub search-turn : get_or taken i 0 ≤ u → (get_or taken i 0 ≡ u → ⊥) → Searching u taken (i + 1)
+    search-turn l n =
+        let g : get_or taken i 0 < u = omega arith in
         record {
           within = omega arith;
           splits =
@@ -92,14 +62,14 @@ module _ {u : ℕ} {taken : List ℕ} {i : ℕ} (s : Searching u taken i) where
               ∙ (ap (λ l. l ++ insert u (drop (suc i) taken)) (sym (take-suc taken i 0 h)) ∙ ap (λ n. take n taken ++ insert u (drop n taken)) (sym (add-one i))))));
         }
 
-    pub search-held : get_or taken i 0 ≡ u → Ranks u taken Held
+    pub search-held : get_or taken i 0 ≡ u → Ranks u taken None
     search-held e =
         record {
           held = λ q. s.splits ∙ (ap (λ l. take i taken ++ insert u l) here ∙ (ap (λ l. take i taken ++ l) (insert-same u (get_or taken i 0) (drop (suc i) taken) e ∙ sym here) ∙ take-append-drop i taken));
           new = λ p q. let z : ◌≡◌ {A = ℕ} 0 1 = cc in absurd (omega arith);
         }
 
-    pub search-new : u < get_or taken i 0 → Ranks u taken (New i)
+    pub search-new : u < get_or taken i 0 → Ranks u taken (Some i)
     search-new g =
         record {
           held = λ q. let z : ◌≡◌ {A = ℕ} 0 1 = cc in absurd (omega arith);
@@ -109,201 +79,138 @@ module _ {u : ℕ} {taken : List ℕ} {i : ℕ} (s : Searching u taken i) where
           );
         }
 
-  pub search-end : length taken ≤ i → Ranks u taken (New i)
+  pub search-end : length taken ≤ i → Ranks u taken (Some (length taken))
   unfolding insert
   search-end g =
       let none : drop i taken ≡ [] = drop_of_length-le taken g in
       record {
         held = λ q. let z : ◌≡◌ {A = ℕ} 0 1 = cc in absurd (omega arith);
-        new = λ p q. let e : i ≡ p = cc in subst (λ p. (p ≤ length taken) × (insert u taken ≡ take p taken ++ u ∷ drop p taken)) e (
+        new = λ p q. let e : length taken ≡ p = cc in let a : i ≡ p = omega (arith, s.within) in subst (λ p. (p ≤ length taken) × (insert u taken ≡ take p taken ++ u ∷ drop p taken)) a (
           s.within,
           s.splits ∙ (ap (λ l. take i taken ++ insert u l) none ∙ ap (λ l. take i taken ++ u ∷ l) (sym none)),
         );
       }
 
--- the same by the words
-module _ {front : List ℕ} {own : ℕ} {taken : List ℕ} {most : ℕ} {state : List ℕ} (m : Marks front own taken most state) {u count i : ℕ} (n : count ≡ get_or state 7 0)
-    (s : Searching u taken i) where
-  inside : i < count → i < length taken
-  inside h = omega (arith, count_word m)
-
-  pub seek-turn : i < count → get_or state (8 + i) 0 ≤ u → (get_or state (8 + i) 0 ≡ u → ⊥) → Searching u taken (i + 1)
-  seek-turn h le ne = let e = id-word m i (inside h) in search-turn s (inside h) (omega (arith, n-ne e))
-    where
-      n-ne : get_or state (8 + i) 0 ≡ get_or taken i 0 → get_or taken i 0 < u
-      n-ne e = go (dec_lt (get_or taken i 0) u)
-        where
-          go : Dec (get_or taken i 0 < u) → get_or taken i 0 < u
-          go (yes l) = l
-          go (no l) = let q : get_or state (8 + i) 0 ≡ u = omega arith in absurd (ne q)
-
-  pub seek-held : i < count → get_or state (8 + i) 0 ≡ u → Ranks u taken Held
-  seek-held h e = search-held s (inside h) (sym (id-word m i (inside h)) ∙ e)
-
-  pub seek-new : i < count → u < get_or state (8 + i) 0 → Ranks u taken (New i)
-  seek-new h e = let q = id-word m i (inside h) in search-new s (inside h) (omega arith)
-
-  pub seek-end : count ≤ i → Ranks u taken (New i)
-  seek-end h = search-end s (omega (arith, count_word m))
+-- it is not behind them all
+pub ranks-low : {u n p : ℕ} (l : List ℕ) {r : Option ℕ} → Ranks u (take n l) r → r ≡ Some p → p ≤ n
+ranks-low {n = n} {p} l k e = let h = (k.new p e).0 in omega (arith, length-take n l)
 
 -- one more among some: those behind it go one up
-module _ {A : Type 0} (front back rest : List A) (x u : A) (p n : ℕ) (at : length front ≡ p) (many : length back ≡ n) where
-  abbrev whole : List A
+module _ (front back rest : List ℕ) (x u : ℕ) (p n : ℕ) (at : length front ≡ p) (many : length back ≡ n) where
+  abbrev whole : List ℕ
   whole = front ++ (back ++ x ∷ rest)
 
-  the-part : part p n whole ≡ back
-  unfolding part
-  the-part = ap (take n) (drop_at front (back ++ x ∷ rest) p at) ∙ take_at back (x ∷ rest) n many
+  moved : take n (drop p whole) ≡ back
+  moved = ap (take n) (drop_at front (back ++ x ∷ rest) p at) ∙ take_at back (x ∷ rest) n many
 
-  behind : drop (p + 1 + length back) whole ≡ rest
+  behind : drop (p + 1 + n) whole ≡ rest
   behind =
-      let e : p + 1 + length back ≡ p + (n + 1) = omega arith in
+      let e : p + 1 + n ≡ p + (n + 1) = omega arith in
       ap (λ k. drop k whole) e
       ∙ (sym (drop-drop (n + 1) p whole)
       ∙ (ap (drop (n + 1)) (drop_at front (back ++ x ∷ rest) p at)
       ∙ (sym (drop-drop 1 n (back ++ x ∷ rest)) ∙ ap (drop 1) (drop_at back (x ∷ rest) n many))))
 
-  long-enough : p + 1 ≤ length whole
-  long-enough = omega (arith, length-append front (back ++ x ∷ rest), length-append back (x ∷ rest))
-
-  pub inserted : set (written (p + 1) (part p n whole) whole) p u ≡ front ++ u ∷ (back ++ rest)
-  unfolding written
+  pub inserted : set (take (p + 1) whole ++ take n (drop p whole) ++ drop (p + 1 + n) whole) p u ≡ front ++ u ∷ (back ++ rest)
   inserted =
-      let head : length (take (p + 1) whole) ≡ p + 1 = length-take-le (p + 1) whole long-enough in
+      let long : p + 1 ≤ length whole = omega (arith, length-append front (back ++ x ∷ rest), length-append back (x ∷ rest)) in
+      let head : length (take (p + 1) whole) ≡ p + 1 = length-take-le (p + 1) whole long in
       let first : take p (take (p + 1) whole) ≡ front = take-take p (p + 1) whole (omega arith) ∙ take_at front (back ++ x ∷ rest) p at in
       let last : drop (suc p) (take (p + 1) whole) ≡ [] = drop_of_length-le (take (p + 1) whole) {i = suc p} (omega (arith, head)) in
-      ap (λ w. set (take (p + 1) whole ++ w ++ drop (p + 1 + length w) whole) p u) the-part
-      ∙ (ap (λ l. set l p u) (append_assoc (take (p + 1) whole) back (drop (p + 1 + length back) whole))
-      ∙ (set-append_left (take (p + 1) whole) (back ++ drop (p + 1 + length back) whole) p u (omega (arith, head))
-      ∙ (ap (λ l. l ++ (back ++ drop (p + 1 + length back) whole)) (set_split (take (p + 1) whole) p u (omega (arith, head)))
-      ∙ (ap (λ l. (l ++ u ∷ drop (suc p) (take (p + 1) whole)) ++ (back ++ drop (p + 1 + length back) whole)) first
-      ∙ (ap (λ l. (front ++ u ∷ l) ++ (back ++ drop (p + 1 + length back) whole)) last
-      ∙ (append_assoc front (u ∷ []) (back ++ drop (p + 1 + length back) whole) ∙ ap (λ l. front ++ u ∷ (back ++ l)) behind))))))
+      ap (λ w. set (take (p + 1) whole ++ w ++ drop (p + 1 + n) whole) p u) moved
+      ∙ (ap (λ w. set (take (p + 1) whole ++ back ++ w) p u) behind
+      ∙ (ap (λ l. set l p u) (append_assoc (take (p + 1) whole) back rest)
+      ∙ (set-append_left (take (p + 1) whole) (back ++ rest) p u (omega (arith, head))
+      ∙ (ap (λ l. l ++ (back ++ rest)) (set_split (take (p + 1) whole) p u (omega (arith, head)))
+      ∙ (ap (λ l. (l ++ u ∷ drop (suc p) (take (p + 1) whole)) ++ (back ++ rest)) first
+      ∙ (ap (λ l. (front ++ u ∷ l) ++ (back ++ rest)) last ∙ append_assoc front (u ∷ []) (back ++ rest)))))))
 
--- ---- marking one id
-module _ {front : List ℕ} {own : ℕ} {taken : List ℕ} {most : ℕ} {state : List ℕ} (m : Marks front own taken most state) (u : ℕ) where
-  kept-as : (vs : List ℕ) → vs ≡ taken → Marks front own vs most state
-  kept-as vs e = subst (λ l. Marks front own l most state) (sym e) m
+-- ---- what is kept
+module _ {taken : List ℕ} {most : ℕ} {s : Kept} (m : Marks taken most s) where
+  pub kept-ids : take s.count s.ids ≡ taken
+  kept-ids = ap (λ l. take s.count l) m.ids-are ∙ take_at taken m.rest s.count (sym m.count-is)
 
-  pub mark-own : own ≤ u → Marks front own (mark own most u taken) most state
-  mark-own h = kept-as (mark own most u taken) (ap (λ b. elim b [ true ↦ elim (ltb (length taken) most) [ true ↦ insert u taken | false ↦ taken ] | false ↦ taken ]) (le-ltb u own h))
+  rest-long : length m.rest ≡ most - length taken
+  rest-long = omega (arith, m.kept, m.whole, ap length m.ids-are, length-append taken m.rest)
 
-  module _ (h : u < own) where
-    open-mark : mark own most u taken ≡ elim (ltb (length taken) most) [ true ↦ insert u taken | false ↦ taken ]
-    open-mark = ap (λ b. elim b [ true ↦ elim (ltb (length taken) most) [ true ↦ insert u taken | false ↦ taken ] | false ↦ taken ]) (lt-ltb u own h)
+  -- marking one id
+  module _ (own u : ℕ) where
+    kept-as : (vs : List ℕ) → vs ≡ taken → Marks vs most s
+    kept-as vs e = subst (λ l. Marks l most s) (sym e) m
 
-    pub mark-full : length state ≤ 8 + length taken → Marks front own (mark own most u taken) most state
-    mark-full g = kept-as (mark own most u taken) (open-mark ∙ ap (λ b. elim b [ true ↦ insert u taken | false ↦ taken ]) (le-ltb (length taken) most (omega (arith, m.whole))))
+    pub mark-own : own ≤ u → Marks (mark own most u taken) most s
+    mark-own h = kept-as (mark own most u taken) (ap (λ b. elim b [ true ↦ elim (ltb (length taken) most) [ true ↦ insert u taken | false ↦ taken ] | false ↦ taken ]) (le-ltb u own h))
 
-    module _ (g : 8 + length taken < length state) where
-      room : length taken < most
-      room = omega (arith, m.whole)
+    module _ (h : u < own) where
+      open-mark : mark own most u taken ≡ elim (ltb (length taken) most) [ true ↦ insert u taken | false ↦ taken ]
+      open-mark = ap (λ b. elim b [ true ↦ elim (ltb (length taken) most) [ true ↦ insert u taken | false ↦ taken ] | false ↦ taken ]) (lt-ltb u own h)
 
-      kept-mark : mark own most u taken ≡ insert u taken
-      kept-mark = open-mark ∙ ap (λ b. elim b [ true ↦ insert u taken | false ↦ taken ]) (lt-ltb (length taken) most room)
+      pub mark-full : length s.ids ≤ s.count → Marks (mark own most u taken) most s
+      mark-full g = kept-as (mark own most u taken) (open-mark ∙ ap (λ b. elim b [ true ↦ insert u taken | false ↦ taken ]) (le-ltb (length taken) most (omega (arith, m.whole, m.count-is))))
 
-      pub mark-held : insert u taken ≡ taken → Marks front own (mark own most u taken) most state
-      mark-held e = kept-as (mark own most u taken) (kept-mark ∙ e)
+      module _ (g : s.count < length s.ids) where
+        kept-mark : mark own most u taken ≡ insert u taken
+        kept-mark = open-mark ∙ ap (λ b. elim b [ true ↦ insert u taken | false ↦ taken ]) (lt-ltb (length taken) most (omega (arith, m.whole, m.count-is)))
 
-      module _ {p : ℕ} (le : p ≤ length taken) (e : insert u taken ≡ take p taken ++ u ∷ drop p taken) where
-        pub mark-new : {new : List ℕ}
-            → new ≡ written (8 + p + 1) (part (8 + p) (length taken - p) state) state
-            → Marks front own (mark own most u taken) most (set (set new (8 + p) u) 7 (length taken + 1))
-        mark-new {new} w = go m.rest refl
+        pub mark-held : {r : Option ℕ} → Ranks u (take s.count s.ids) r → r ≡ None → Marks (mark own most u taken) most s
+        mark-held k e = kept-as (mark own most u taken) (kept-mark ∙ subst (λ l. insert u l ≡ l) kept-ids (k.held e))
+
+        -- the ids from p on go one up, and u comes before them
+        pub mark-new : {r : Option ℕ} → Ranks u (take s.count s.ids) r → {p : ℕ} → r ≡ Some p
+            → {new : List ℕ} → new ≡ take (p + 1) s.ids ++ take (s.count - p) (drop p s.ids) ++ drop (p + 1 + (s.count - p)) s.ids
+            → Marks (mark own most u taken) most (record { count = s.count + 1; ids = set new p u })
+        mark-new k {p} e {new} w = go m.rest refl
           where
-            F : List ℕ
-            F = front ++ own ∷ length taken ∷ []
+            placed : (p ≤ length taken) × (insert u taken ≡ take p taken ++ u ∷ drop p taken)
+            placed = subst (λ l. (p ≤ length l) × (insert u l ≡ take p l ++ u ∷ drop p l)) kept-ids (k.new p e)
 
-            go : (rest : List ℕ) → m.rest ≡ rest → Marks front own (mark own most u taken) most (set (set new (8 + p) u) 7 (length taken + 1))
-            go [] q = let r = rest-long m in let z = ap length q in absurd (omega arith)
+            go : (rest : List ℕ) → m.rest ≡ rest → Marks (mark own most u taken) most (record { count = s.count + 1; ids = set new p u })
+            go [] q = let r = rest-long in let z = ap length q in absurd (omega (arith, m.whole, m.count-is))
             go (x ∷ rest) q =
                 let a : List ℕ = take p taken in
                 let b : List ℕ = drop p taken in
-                let la : length a ≡ p = length-take-le p taken le in
-                let lb : length b ≡ length taken - p = length-drop p taken in
-                let lf : length (F ++ a) ≡ 8 + p = length-append F a ∙ omega (arith, eight m, la) in
-                let shape : state ≡ (F ++ a) ++ (b ++ x ∷ rest) =
-                regrouped m ∙ (ap (λ l. F ++ (l ++ m.rest)) (sym (take-append-drop p taken)) ∙ (ap (λ l. F ++ ((a ++ b) ++ l)) q ∙ (ap (λ l. F ++ l) (append_assoc a b (x ∷ rest)) ∙ sym (append_assoc F a (b ++ x ∷ rest))))) in
-                let step : set new (8 + p) u ≡ (F ++ a) ++ u ∷ (b ++ rest) =
-                ap (λ l. set l (8 + p) u) w ∙ (ap (λ l. set (written (8 + p + 1) (part (8 + p) (length taken - p) l) l) (8 + p) u) shape
-                ∙ inserted (F ++ a) b rest x u (8 + p) (length taken - p) lf lb) in
-                let seven : length (front ++ own ∷ []) ≡ 7 = length-append front (own ∷ []) ∙ omega (arith, m.six) in
-                let split : (F ++ a) ++ u ∷ (b ++ rest) ≡ (front ++ own ∷ []) ++ length taken ∷ ((a ++ u ∷ b) ++ rest) = simp append_assoc in
+                let la : length a ≡ p = length-take-le p taken placed.0 in
+                let lb : length b ≡ s.count - p = length-drop p taken ∙ omega (arith, m.count-is) in
+                let shape : s.ids ≡ a ++ (b ++ x ∷ rest) =
+                m.ids-are ∙ (ap (λ l. taken ++ l) q ∙ (ap (λ l. l ++ x ∷ rest) (sym (take-append-drop p taken)) ∙ append_assoc a b (x ∷ rest))) in
+                let done : set new p u ≡ a ++ u ∷ (b ++ rest) =
+                ap (λ l. set l p u) w
+                ∙ (ap (λ l. set (take (p + 1) l ++ take (s.count - p) (drop p l) ++ drop (p + 1 + (s.count - p)) l) p u) shape
+                ∙ inserted a b rest x u p (s.count - p) la lb) in
+                let marked : mark own most u taken ≡ a ++ u ∷ b = kept-mark ∙ placed.1 in
                 let more : length (mark own most u taken) ≡ length taken + 1 =
-                ap length (kept-mark ∙ e) ∙ (length-append a (u ∷ b) ∙ omega (arith, la, lb)) in
-                let done : set (set new (8 + p) u) 7 (length taken + 1) ≡ (front ++ own ∷ []) ++ (length taken + 1) ∷ ((a ++ u ∷ b) ++ rest) =
-                ap (λ l. set l 7 (length taken + 1)) (step ∙ split) ∙ set_at (front ++ own ∷ []) (length taken) ((a ++ u ∷ b) ++ rest) (length taken + 1) 7 seven in
+                ap length marked ∙ (length-append a (u ∷ b) ∙ omega (arith, la, lb, m.count-is, placed.0)) in
                 record {
                   rest = rest;
-                  words = done ∙ (append_assoc front (own ∷ []) ((length taken + 1) ∷ ((a ++ u ∷ b) ++ rest))
-                      ∙ (ap (λ n. front ++ own ∷ n ∷ ((a ++ u ∷ b) ++ rest)) (sym more) ∙ ap (λ l. front ++ own ∷ length (mark own most u taken) ∷ (l ++ rest)) (sym (kept-mark ∙ e))));
-                  six = m.six;
+                  ids-are = done ∙ (sym (append_assoc a (u ∷ b) rest) ∙ ap (λ l. l ++ rest) (sym marked));
+                  count-is = omega (arith, more, m.count-is);
                   whole =
-                      let q1 = rest-long m in let q2 = ap length q in
-                      ap length done ∙ (length-append (front ++ own ∷ []) ((length taken + 1) ∷ ((a ++ u ∷ b) ++ rest)) ∙ omega (arith, seven, length-append (a ++ u ∷ b) rest, length-append a (u ∷ b), la, lb));
-                  kept = omega (arith, more);
+                      let q1 = rest-long in let q2 = ap length q in
+                      ap length done ∙ (length-append a (u ∷ (b ++ rest)) ∙ omega (arith, length-append b rest, la, lb, m.whole, m.count-is, placed.0));
+                  kept = omega (arith, more, m.whole, m.count-is);
                   small = m.small;
                 }
 
--- several
-pub marks-none : {front : List ℕ} {own : ℕ} {taken : List ℕ} {most : ℕ} {state : List ℕ} → Marks front own taken most state → Marks front own (mark_all own most [] taken) most state
+-- what holds of each id by its place
+pub each-below : (us : List ℕ) (bound : ℕ) → ((i : ℕ) → get_or us i 0 < bound) → (u : ℕ) → u ∈ us → u < bound
+each-below [] bound h u m = absurd (Memᴰ.not-nil m)
+each-below (v ∷ us) bound h u (Memᴰ.head e) = let z = h 0 in omega arith
+each-below (v ∷ us) bound h u (Memᴰ.tail k) = each-below us bound (λ i. h (suc i)) u k
+
+-- ---- several
+pub marks-none : (own : ℕ) {taken : List ℕ} {most : ℕ} {s : Kept} → Marks taken most s → Marks (mark_all own most [] taken) most s
 unfolding mark_all
-marks-none m = m
+marks-none own m = m
 
-pub marks-one : {front : List ℕ} {own : ℕ} (taken : List ℕ) {most : ℕ} {state : List ℕ} (a : ℕ)
-    → Marks front own (mark own most a taken) most state → Marks front own (mark_all own most (a ∷ []) taken) most state
+pub marks-one : (own : ℕ) (taken : List ℕ) {most : ℕ} {s : Kept} (a : ℕ) → Marks (mark own most a taken) most s → Marks (mark_all own most (a ∷ []) taken) most s
 unfolding mark_all
-marks-one taken a m = m
+marks-one own taken a m = m
 
-pub marks-two : {front : List ℕ} {own : ℕ} (taken : List ℕ) {most : ℕ} {state : List ℕ} (a b : ℕ)
-    → Marks front own (mark own most b (mark own most a taken)) most state → Marks front own (mark_all own most (a ∷ b ∷ []) taken) most state
+pub marks-two : (own : ℕ) (taken : List ℕ) {most : ℕ} {s : Kept} (a b : ℕ)
+    → Marks (mark own most b (mark own most a taken)) most s → Marks (mark_all own most (a ∷ b ∷ []) taken) most s
 unfolding mark_all
-marks-two taken a b m = m
-
--- the next of the kept ids
-module _ {front : List ℕ} {own : ℕ} {taken : List ℕ} {most : ℕ} {state : List ℕ} (m : Marks front own taken most state) {count i : ℕ} (n : count ≡ get_or state 7 0) where
-  pub next-kept : i < count → drop i taken ≡ get_or state (8 + i) 0 ∷ drop (i + 1) taken
-  next-kept h =
-      let l : i < length taken = omega (arith, count_word m) in
-      drop-cons taken i 0 l ∙ (ap (λ v. v ∷ drop (suc i) taken) (sym (id-word m i l)) ∙ ap (λ j. get_or state (8 + i) 0 ∷ drop j taken) (sym (add-one i)))
-
-  pub none_kept : count ≤ i → drop i taken ≡ []
-  none_kept h = drop_of_length-le taken {i = i} (omega (arith, count_word m))
-
--- each kept id is a word
-pub kept_small : {front : List ℕ} {own : ℕ} {taken : List ℕ} {most : ℕ} {state : List ℕ} → Marks front own taken most state
-    → (bound : ℕ) → ((i : ℕ) → get_or state i 0 < bound) → (u : ℕ) → u ∈ taken → u < bound
-kept_small {taken = taken} {state = state} m bound h u k = subst (λ v. v < bound) (id-word m (index k) (within k) ∙ found k) (h (8 + index k))
-  where
-    index : {us : List ℕ} → u ∈ us → ℕ
-    index (Memᴰ.head e) = 0
-    index (Memᴰ.tail k) = suc (index k)
-
-    within : {us : List ℕ} (k : u ∈ us) → index k < length us
-    within (Memᴰ.head e) = omega arith
-    within (Memᴰ.tail k) = let h = within k in omega arith
-
-    found : {us : List ℕ} (k : u ∈ us) → get_or us (index k) 0 ≡ u
-    found (Memᴰ.head e) = sym e
-    found (Memᴰ.tail k) = found k
+marks-two own taken a b m = m
 
 -- of an instruction's ids, known by their case
-pub marks-used : {front : List ℕ} {own : ℕ} (taken : List ℕ) {most : ℕ} {state : List ℕ} {a b : Used} → a ≡ b
-    → Marks front own (mark_all own most (used_ids b) taken) most state → Marks front own (mark_all own most (used_ids a) taken) most state
-marks-used {front} {own} taken {most} {state} e m = subst (λ u. Marks front own (mark_all own most (used_ids u) taken) most state) (sym e) m
-
--- one more id, by the words
-pub mark-new' : {front : List ℕ} {own : ℕ} {taken : List ℕ} {most : ℕ} {state : List ℕ} (m : Marks front own taken most state) (u : ℕ) → u < own
-    → 8 + get_or state 7 0 < length state
-    → {p : ℕ} → (p ≤ length taken) × (insert u taken ≡ take p taken ++ u ∷ drop p taken)
-    → {new : List ℕ} → new ≡ written (8 + p + 1) (part (8 + p) (get_or state 7 0 - p) state) state
-    → Marks front own (mark own most u taken) most (set (set new (8 + p) u) 7 (get_or state 7 0 + 1))
-mark-new' {front} {own} {taken} {most} {state} m u h g {p} e {new} w =
-    let n : get_or state 7 0 ≡ length taken = count_word m in
-    let w' : new ≡ written (8 + p + 1) (part (8 + p) (length taken - p) state) state = w ∙ ap (λ c. written (8 + p + 1) (part (8 + p) (c - p) state) state) n in
-    subst (λ c. Marks front own (mark own most u taken) most (set (set new (8 + p) u) 7 (c + 1))) (sym n) (mark-new m u h (omega arith) e.0 e.1 w')
-
-pub room-length : (l : List ℕ) (p n : ℕ) → p + n < length l → {new : List ℕ} → new ≡ written (p + 1) (part p n l) l → length new ≡ length l
-room-length l p n h e =
-    let long : length (part p n l) ≡ n = length_part p n l (omega arith) in
-    ap length (e ∙ sym (sets-written (p + 1) (part p n l) l (omega arith))) ∙ length-sets l (p + 1) (part p n l)
+pub marks-used : (own : ℕ) (taken : List ℕ) {most : ℕ} {s : Kept} {a b : Used} → a ≡ b → Marks (mark_all own most (used_ids b) taken) most s → Marks (mark_all own most (used_ids a) taken) most s
+marks-used own taken {most} {s} e m = subst (λ u. Marks (mark_all own most (used_ids u) taken) most s) (sym e) m

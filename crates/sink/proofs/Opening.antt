@@ -21,14 +21,17 @@ use Rattle.lines.proofs.Writing.{countable-first, countable-next}
 use Rattle.lines.proofs.IdLists.{control-line}
 use Rattle.environment.specs.Words.{tree_size}
 use Rattle.sink.specs.Sinks.{Sink, far, put, resumed}
-use Rattle.sink.specs.Sunk.{mode_word, Opening, opening, Lines, Opens, Resumes}
+use Rattle.sink.specs.declared.state.Sink as state
+use Rattle.sink.specs.declared.state.Walk.{Walk}
+use Rattle.sink.specs.Kept.{Marks}
+use Rattle.sink.specs.Sunk.{Opening, opening, Lines, Opens, Resumes}
 use Rattle.sink.specs.Between.{between}
 use Rattle.sink.specs.Trees.{OutsAt}
 use Rattle.sink.proofs.Least.{of-between}
 use Rattle.sink.proofs.IdSearch.{tree-ids, length-order}
 use Rattle.sink.proofs.Shorts.{Small, id-short, rest-short, ascending-length}
-use Rattle.sink.proofs.Keeping.{kept_small}
-use Rattle.sink.proofs.Sinking.{landed, put-far, put-near, put-stays, at-word, own-word, marks}
+use Rattle.sink.proofs.Keeping.{each-below}
+use Rattle.sink.proofs.Sinking.{landed, put-far, put-near, put-stays}
 
 -- no list gets longer
 between-length : (lo hi : ℕ) (us : List ℕ) → length (between lo hi us) ≤ length us
@@ -40,33 +43,33 @@ between-length lo hi (u ∷ us) = go (leb lo u && ltb u hi) (between-length lo h
     go true h = omega arith
     go false h = omega arith
 
-module _ {env : List ℕ} {q depth : ℕ} {k : Sink} {text state : List ℕ} (g : Opening env q depth k text state) where
+module _ {env : List ℕ} {q depth : ℕ} {k : Sink} {text : List ℕ} {s : state.Sink} (g : Opening env q depth k text s) where
   -- too far on, nothing is written
-  pub nothing : (c next : ℕ) → far < get_or state 5 0 → Lines (opening k g.tree c next) text (get_or state 5 0)
+  pub nothing : (c next : ℕ) → far < s.at → Lines (opening k g.tree c next) text (s.at)
   nothing c next h =
       let w : List ℕ = with_ctrl_line (ascending (between k.own next (order g.tree))) c k.taken in
-      let e : put w (resumed k) ≡ resumed k = put-far w (resumed k) (omega (arith, at-word g.sunk)) in
-      subst (λ a. Lines a text (get_or state 5 0)) (sym e)
-      (record { written = g.sunk.text-is; end_is = at-word g.sunk; near = omega (arith, at-word g.sunk, g.sunk.near) })
+      let e : put w (resumed k) ≡ resumed k = put-far w (resumed k) (omega (arith, g.sunk.at-is)) in
+      subst (λ a. Lines a text (s.at)) (sym e)
+      (record { written = g.sunk.text-is; end_is = g.sunk.at-is; near = omega (arith, g.sunk.at-is, g.sunk.near) })
 
-  module _ (c : ℕ) (c-small : Small c) (words : (i : ℕ) → get_or state i 0 < 2 ^ 64) (near : get_or state 5 0 ≤ far) where
+  module _ (c : ℕ) (c-small : Small c) (next : ℕ) (next-small : Small next) {kept : List ℕ} (kept-are : kept ≡ k.taken) (words : (i : ℕ) → get_or kept i 0 < 2 ^ 64) (near : s.at ≤ far) where
     abbrev outs : List ℕ
-    outs = ascending (between (get_or state 6 0) (get_or state 0 0) (order g.tree))
+    outs = ascending (between (s.own) (next) (order g.tree))
 
     abbrev at : ℕ
-    at = get_or state 5 0
+    at = s.at
 
     outs-short : length (rest_text true outs) ≤ 22 * (depth + 1)
     outs-short =
-        let a = rest-short true outs (λ u m. let b = of-between (get_or state 6 0) (get_or state 0 0) (order g.tree) (of-ascending (between (get_or state 6 0) (get_or state 0 0) (order g.tree)) m) in let z = words 0 in omega (arith, b.2)) in
-        let b = ascending-length (between (get_or state 6 0) (get_or state 0 0) (order g.tree)) in
-        let d = between-length (get_or state 6 0) (get_or state 0 0) (order g.tree) in
+        let a = rest-short true outs (λ u m. let b = of-between (s.own) (next) (order g.tree) (of-ascending (between (s.own) (next) (order g.tree)) m) in omega (arith, b.2)) in
+        let b = ascending-length (between (s.own) (next) (order g.tree)) in
+        let d = between-length (s.own) (next) (order g.tree) in
         omega (arith, length-order g.tree)
 
     ins-short : length (rest_text true k.taken) ≤ 22 * 65536
     ins-short =
-        let a = rest-short true k.taken (kept_small (marks g.sunk) (2 ^ 64) words) in
-        omega (arith, g.sunk.kept, g.sunk.small)
+        let a = rest-short true k.taken (each-below k.taken (2 ^ 64) (subst (λ (l : List ℕ). (i : ℕ) → get_or l i 0 < 2 ^ 64) kept-are words)) in
+        omega (arith, g.sunk.marks.kept, g.sunk.marks.small)
 
     control-short : length (control_text c) ≤ 40
     control-short = let n = id-short c c-small in omega (arith, length-append (id_text c) (ascii ",["))
@@ -95,7 +98,7 @@ module _ {env : List ℕ} {q depth : ℕ} {k : Sink} {text state : List ℕ} (g 
       rest₁ : Countable a (pieces (rest_text true outs ∷ control_text c ∷ rest_text true k.taken ∷ ascii "]) {\n" ∷ []))
       rest₁ = countable-next {u = ascii "["} {v = pieces (rest_text true outs ∷ control_text c ∷ rest_text true k.taken ∷ ascii "]) {\n" ∷ [])} rest₀ w₁
 
-      pub outs-at : OutsAt env q (depth + 1) (get_or state 6 0) (get_or state 0 0) a
+      pub outs-at : OutsAt env q (depth + 1) (s.own) (next) a
       outs-at =
           let n : 3 * (depth + 1) ≡ tree_size depth = omega arith in
           record {
@@ -111,7 +114,7 @@ module _ {env : List ℕ} {q depth : ℕ} {k : Sink} {text state : List ℕ} (g 
           }
 
       module _ {text₂ : List ℕ} {b : ℕ}
-          (O : (h : OutsAt env q (depth + 1) (get_or state 6 0) (get_or state 0 0) a) → Writes text₁ text₂ a (rest_text true (ascending (between (get_or state 6 0) (get_or state 0 0) h.held.ids))) b) where
+          (O : (h : OutsAt env q (depth + 1) (s.own) (next) a) → Writes text₁ text₂ a (rest_text true (ascending (between (s.own) (next) h.held.ids))) b) where
         w₂ : Writes text₁ text₂ a (rest_text true outs) b
         unfolding outs-at
         w₂ = O outs-at
@@ -126,56 +129,48 @@ module _ {env : List ℕ} {q depth : ℕ} {k : Sink} {text state : List ℕ} (g 
           rest₃ : Countable d (pieces (rest_text true k.taken ∷ ascii "]) {\n" ∷ []))
           rest₃ = countable-next {u = control_text c} {v = pieces (rest_text true k.taken ∷ ascii "]) {\n" ∷ [])} rest₂ w₃
 
-          pub kept-countable : Countable d (rest_text true k.taken)
-          kept-countable = countable-first (rest_text true k.taken) (ascii "]) {\n") rest₃
+          pub kept-countable : Countable d (rest_text true kept)
+          kept-countable = subst (λ l. Countable d (rest_text true l)) (sym kept-are) (countable-first (rest_text true k.taken) (ascii "]) {\n") rest₃)
 
-          module _ {text₄ : List ℕ} {e : ℕ} (w₄ : Writes text₃ text₄ d (rest_text true k.taken) e) where
+          module _ {text₄ : List ℕ} {e : ℕ} (w : Writes text₃ text₄ d (rest_text true kept) e) where
+            w₄ : Writes text₃ text₄ d (rest_text true k.taken) e
+            w₄ = subst (λ l. Writes text₃ text₄ d (rest_text true l) e) kept-are w
+
             pub end-countable : Countable e (ascii "]) {\n")
             end-countable = countable-next {u = rest_text true k.taken} {v = ascii "]) {\n"} rest₃ w₄
 
-            pub opened-line : {text₅ : List ℕ} {r : ℕ} → Writes text₄ text₅ e (ascii "]) {\n") r → Lines (opening k g.tree c (get_or state 0 0)) text₅ r
+            pub opened-line : {text₅ : List ℕ} {r : ℕ} → Writes text₄ text₅ e (ascii "]) {\n") r → Lines (opening k g.tree c (next)) text₅ r
             opened-line {text₅} {r} w₅ =
-                let w : List ℕ = with_ctrl_line (ascending (between k.own (get_or state 0 0) (order g.tree))) c k.taken in
+                let w : List ℕ = with_ctrl_line (ascending (between k.own (next) (order g.tree))) c k.taken in
                 let all : Writes text text₅ at (pieces (ascii "[" ∷ rest_text true outs ∷ control_text c ∷ rest_text true k.taken ∷ ascii "]) {\n" ∷ [])) r =
                 writes_then w₁ (writes_then w₂ (writes_then w₃ (writes_then w₄ w₅))) in
                 let same : pieces (ascii "[" ∷ rest_text true outs ∷ control_text c ∷ rest_text true k.taken ∷ ascii "]) {\n" ∷ []) ≡ w =
-                sym (control-line outs c k.taken) ∙ ap (λ n. with_ctrl_line (ascending (between n (get_or state 0 0) (order g.tree))) c k.taken) (own-word g.sunk) in
+                sym (control-line outs c k.taken) ∙ ap (λ n. with_ctrl_line (ascending (between n (next) (order g.tree))) c k.taken) g.sunk.own-is in
                 let as_line : Writes text text₅ at w r = subst (λ l. Writes text text₅ at l r) same all in
                 let long : length w ≤ far = omega (arith, line-short, ap length (sym (control-line outs c k.taken)), ap length same) in
-                let e : put w (resumed k) ≡ landed w (resumed k) = put-near w (resumed k) (omega (arith, at-word g.sunk)) in
+                let e : put w (resumed k) ≡ landed w (resumed k) = put-near w (resumed k) (omega (arith, g.sunk.at-is)) in
                 subst (λ a. Lines a text₅ r) (sym e)
                 (record {
-                  written = as_line.content ∙ (ap (λ t. sets t at w) g.sunk.text-is ∙ ap (λ n. sets k.text n w) (at-word g.sunk));
-                  end_is = omega (arith, as_line.count, at-word g.sunk);
+                  written = as_line.content ∙ (ap (λ t. sets t at w) g.sunk.text-is ∙ ap (λ n. sets k.text n w) g.sunk.at-is);
+                  end_is = omega (arith, as_line.count, g.sunk.at-is);
                   near = omega (arith, as_line.count);
                 })
 
   -- the listing goes on behind it
-  pub opens : {c end : ℕ} {text' state' : List ℕ} → Lines (opening k g.tree c (get_or state 0 0)) text' end → Resumes k end state' state → Opens k g.tree c text' state' state
-  opens {c} {end} {text'} {state'} l r =
-      let w : List ℕ = with_ctrl_line (ascending (between k.own (get_or state 0 0) (order g.tree))) c k.taken in
-      let s = put-stays w (resumed k) in
+  pub opens : {c end : ℕ} {text' : List ℕ} {w old : Walk} → old.sink ≡ s → Lines (opening k g.tree c old.machine.streams) text' end → Resumes k end w old → Opens k g.tree c text' w old
+  opens {c} {end} {text'} {w} {old} e l r =
+      let a : Sink = opening k g.tree c old.machine.streams in
+      let p = put-stays (with_ctrl_line (ascending (between k.own old.machine.streams (order g.tree))) c k.taken) (resumed k) in
       record {
         sunk =
             record {
-              rest = r.rest;
-              words =
-                  r.words
-                  ∙ (ap (λ n. 1 ∷ n ∷ 0 ∷ 0 ∷ r.rest) l.end_is
-                  ∙ (ap (λ m. mode_word m ∷ (put w (resumed k)).at ∷ 0 ∷ 0 ∷ r.rest) (sym s.mode)
-                  ∙ (ap (λ n. mode_word (put w (resumed k)).mode ∷ (put w (resumed k)).at ∷ n ∷ 0 ∷ r.rest) (sym s.own)
-                  ∙ ap (λ us. mode_word (put w (resumed k)).mode ∷ (put w (resumed k)).at ∷ (put w (resumed k)).own ∷ length us ∷ (us ++ r.rest)) (sym s.taken))));
-              whole = r.whole ∙ (g.sunk.whole ∙ ap (λ n. 8 + n) (sym s.most));
-              kept = subst (λ us. length us ≤ (put w (resumed k)).most) (sym s.taken) (omega arith);
-              small = subst (λ n. n ≤ 65536) (sym s.most) g.sunk.small;
+              mode-is = r.mode-is ∙ sym p.mode;
+              at-is = r.at-is ∙ l.end_is;
+              own-is = r.own-is ∙ sym p.own;
+              marks = subst (λ us. Marks us a.most w.sink.kept) (sym p.taken) (subst (λ n. Marks [] n w.sink.kept) (sym p.most) r.marks);
               near = subst (λ n. n ≤ far + far) l.end_is l.near;
               text-is = l.written;
-              plain = λ e. record { own = s.own; taken = s.taken };
+              plain = λ e. record { own = p.own; taken = p.taken };
             };
         machine = r.machine;
       }
-
--- its control stream by its name
-pub lines_of : {env : List ℕ} {q depth : ℕ} {k : Sink} {text state : List ℕ} (g : Opening env q depth k text state) (next : ℕ) {c d end : ℕ} {text' : List ℕ} → c ≡ d
-    → Lines (opening k g.tree c next) text' end → Lines (opening k g.tree d next) text' end
-lines_of {k = k} g next {end = end} {text'} e l = subst (λ c. Lines (opening k g.tree c next) text' end) e l

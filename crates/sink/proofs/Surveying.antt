@@ -20,7 +20,8 @@ use Rattle.snesl.specs.Ids.{ids_of, Below}
 use Rattle.snesl.proofs.Compiled.Members.{◌∈◌, ◌∉◌, known, of-insert, to-insert, of-among, to-among, of-ascending, to-ascending, Ascends, ascending-ascends}
 use Rattle.snesl.proofs.Compiled.Freshness.{count_code}
 use Rattle.snesl.proofs.Compiled.Ascending.{ascends_same, ascending-same}
-use Rattle.sink.specs.Sinks.{Sink, listing, surveying, mark, mark_all, take_in, opened, surveyed, resumed, feed}
+use Rattle.sink.specs.declared.state.Mode.TheVariants.{Listing, Surveying}
+use Rattle.sink.specs.Sinks.{Sink, mark, mark_all, take_in, opened, surveyed, resumed, feed}
 use Rattle.sink.specs.Sunk.{Plain, opening}
 use Rattle.sink.specs.Between.{between}
 use Rattle.sink.proofs.Least.{of-between, to-between}
@@ -173,19 +174,19 @@ module _ {s d : ℕ} {p : Program} {st : Tree ℕ d} {ids : List ℕ} (y : Surve
   survey-takes =
       ap (λ j. j.taken) after_is ∙ (marks-all s k.most ids room (uses p) (λ u m l. used-known y u m l) ∙ sym (taken_in y))
 
-  pub surveyed-mode : after.mode ≡ surveying
+  pub surveyed-mode : after.mode ≡ Surveying
   surveyed-mode = ap (λ j. j.mode) after_is
 
   pub surveyed-own : after.own ≡ s
   surveyed-own = ap (λ j. j.own) after_is
 
-  resumes : k.mode ≡ listing → Plain k → resumed after ≡ k
+  resumes : k.mode ≡ Listing → Plain k → resumed after ≡ k
   resumes m q =
       ap resumed after_is
       ∙ (λ i. record { mode = sym m i; text = k.text; at = k.at; own = sym q.own i; taken = sym q.taken i; most = k.most })
 
   -- the line that opens its WithCtrl
-  pub opening_of : (c : ℕ) → k.mode ≡ listing → Plain k
+  pub opening_of : (c : ℕ) → k.mode ≡ Listing → Plain k
       → opening after st c (s + count p) ≡ opened (ascending (among (order st) (dv s p))) c (ascending (fv s p)) k
   opening_of c m q =
       ap (λ n. opened (ascending (between n (s + count p) (order st))) c after.taken (resumed after)) surveyed-own
@@ -195,13 +196,13 @@ module _ {s d : ℕ} {p : Program} {st : Tree ℕ d} {ids : List ℕ} (y : Surve
 
 -- ---- a body's survey
 module _ {Γ : List ValueType} {τ : ValueType} (e : Term Γ τ) (δ : All IdTree Γ) (s : ℕ) (below : Below s (ids_of δ)) (k : Sink) (room : length (ids_of δ) ≤ k.most) where
-  pub survey-mode : (feed s (code e δ s) (surveyed s k)).mode ≡ surveying
+  pub survey-mode : (feed s (code e δ s) (surveyed s k)).mode ≡ Surveying
   survey-mode = surveyed-mode (code-surveyable e δ s below) k room
 
   pub survey-own : (feed s (code e δ s) (surveyed s k)).own ≡ s
   survey-own = surveyed-own (code-surveyable e δ s below) k room
 
-  pub opening-is : (c : ℕ) → k.mode ≡ listing → Plain k
+  pub opening-is : (c : ℕ) → k.mode ≡ Listing → Plain k
       → opening (feed s (code e δ s) (surveyed s k)) (tree e δ s) c (s + size e)
       ≡ opened (ascending (among (order (tree e δ s)) (dv s (code e δ s)))) c (ascending (fv s (code e δ s))) k
   opening-is c m q =

@@ -66,43 +66,43 @@ const-operates z h = record { ids = refl; name = let n = int-short z h in omega 
 pub const_bool-operates : (c : Bool) → Operates (ConstBool c) Nothing
 const_bool-operates c = record { ids = refl; name = bool-name-short c; list = none-short }
 
-module _ {x : ℕ} (a : StreamId) (h : Small x) (e : x ≡ a.0) where
-  pub to_flags-operates : Operates (ToFlags a) (One x)
-  to_flags-operates = record { ids = ap (λ y. y ∷ []) e; name = omega arith; list = one-short a.0 (subst Small e h) }
+module _ (a : StreamId) (h : Small a.0) where
+  one : length (ids_text (a.0 ∷ [])) ≤ 44
+  one = one-short a.0 h
 
-  pub b2u-operates : Operates (B2u a) (One x)
-  b2u-operates = record { ids = ap (λ y. y ∷ []) e; name = omega arith; list = one-short a.0 (subst Small e h) }
+  pub to_flags-operates : Operates (ToFlags a) (One a)
+  to_flags-operates = record { ids = refl; name = omega arith; list = one }
 
-  pub not-operates : Operates (MapOneNot a) (One x)
-  not-operates = record { ids = ap (λ y. y ∷ []) e; name = omega arith; list = one-short a.0 (subst Small e h) }
+  pub b2u-operates : Operates (B2u a) (One a)
+  b2u-operates = record { ids = refl; name = omega arith; list = one }
 
-  pub usum-operates : Operates (Usum a) (One x)
-  usum-operates = record { ids = ap (λ y. y ∷ []) e; name = omega arith; list = one-short a.0 (subst Small e h) }
+  pub not-operates : Operates (MapOneNot a) (One a)
+  not-operates = record { ids = refl; name = omega arith; list = one }
 
-  module _ {y : ℕ} (b : StreamId) (g : Small y) (f : y ≡ b.0) where
-    both : x ∷ y ∷ [] ≡ a.0 ∷ b.0 ∷ []
-    both = ap (λ z. z ∷ y ∷ []) e ∙ ap (λ z. a.0 ∷ z ∷ []) f
+  pub usum-operates : Operates (Usum a) (One a)
+  usum-operates = record { ids = refl; name = omega arith; list = one }
 
+  module _ (b : StreamId) (g : Small b.0) where
     lists : length (ids_text (a.0 ∷ b.0 ∷ [])) ≤ 44
-    lists = two-short a.0 b.0 (subst Small e h) (subst Small f g)
+    lists = two-short a.0 b.0 h g
 
-    pub map_two-operates : (o : Operation) → Operates (MapTwo o a b) (Two x y)
-    map_two-operates o = record { ids = both; name = operation-name-short o; list = lists }
+    pub map_two-operates : (o : Operation) → Operates (MapTwo o a b) (Two a b)
+    map_two-operates o = record { ids = refl; name = operation-name-short o; list = lists }
 
-    pub pack-operates : Operates (Pack a b) (Two x y)
-    pack-operates = record { ids = both; name = omega arith; list = lists }
+    pub pack-operates : Operates (Pack a b) (Two a b)
+    pack-operates = record { ids = refl; name = omega arith; list = lists }
 
-    pub upack-operates : Operates (UPack a b) (Two x y)
-    upack-operates = record { ids = both; name = omega arith; list = lists }
+    pub upack-operates : Operates (UPack a b) (Two a b)
+    upack-operates = record { ids = refl; name = omega arith; list = lists }
 
-    pub scan-operates : (z : ℤ) → mag z < 2 ^ 31 → Operates (ScanPlus z a b) (Two x y)
-    scan-operates z m = record { ids = both; name = let n = int-short z m in omega arith; list = lists }
+    pub scan-operates : (z : ℤ) → mag z < 2 ^ 31 → Operates (ScanPlus z a b) (Two a b)
+    scan-operates z m = record { ids = refl; name = let n = int-short z m in omega arith; list = lists }
 
-    pub distr-operates : Operates (Distr a b) (Two x y)
-    distr-operates = record { ids = both; name = omega arith; list = lists }
+    pub distr-operates : Operates (Distr a b) (Two a b)
+    distr-operates = record { ids = refl; name = omega arith; list = lists }
 
-    pub sum-operates : Operates (SumPlus a b) (Two x y)
-    sum-operates = record { ids = both; name = omega arith; list = lists }
+    pub sum-operates : Operates (SumPlus a b) (Two a b)
+    sum-operates = record { ids = refl; name = omega arith; list = lists }
 
 -- the lines
 pub one_line : (o c : ℕ) → with_ctrl_line (o ∷ []) c [] ≡ pieces (ascii "[" ∷ id_text o ∷ control_text c ∷ ascii "]) {\n" ∷ [])

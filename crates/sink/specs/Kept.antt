@@ -1,18 +1,18 @@
--- The words in which a survey keeps ids, behind six others, and where an id stands among them.
-use Rattle.std.specs.Prelude.{ℕ, ◌+◌, ◌≤◌, List, ◌∷◌, ◌++◌, ◌≡◌, length, take, drop}
+-- How a survey keeps ids, and where an id stands among some.
+use Rattle.std.specs.Prelude.{ℕ, ◌≤◌, List, ◌∷◌, ◌++◌, ◌≡◌, Option, Some, None, length, take, drop}
 use Rattle.snesl.specs.Programs.{insert}
-use Rattle.sink.specs.declared.kept.Rank.{Rank}
-use Rattle.sink.specs.declared.kept.Rank.TheVariants.{Held, New}
+use Rattle.sink.specs.declared.state.Kept.{Kept}
 
-pub record Marks (front : List ℕ) (own : ℕ) (taken : List ℕ) (most : ℕ) (state : List ℕ) : Type 0 where
+-- these ids are kept, and so many can be
+pub record Marks (taken : List ℕ) (most : ℕ) (s : Kept) : Type 0 where
   pub rest : List ℕ
-  pub words : state ≡ front ++ own ∷ length taken ∷ (taken ++ rest)
-  pub six : length front ≡ 6
-  pub whole : length state ≡ 8 + most
+  pub ids-are : s.ids ≡ taken ++ rest
+  pub count-is : s.count ≡ length taken
+  pub whole : length s.ids ≡ most
   pub kept : length taken ≤ most
   pub small : most ≤ 65536
 
--- u is kept already; or p of the ids are less than it, and it comes behind them
-pub record Ranks (u : ℕ) (taken : List ℕ) (r : Rank) : Type 0 where
-  pub held : r ≡ Held → insert u taken ≡ taken
-  pub new : (p : ℕ) → r ≡ New p → (p ≤ length taken) × (insert u taken ≡ take p taken ++ u ∷ drop p taken)
+-- u is one of the ids already; or p of them are less than it, and it comes behind these
+pub record Ranks (u : ℕ) (taken : List ℕ) (r : Option ℕ) : Type 0 where
+  pub held : r ≡ None → insert u taken ≡ taken
+  pub new : (p : ℕ) → r ≡ Some p → (p ≤ length taken) × (insert u taken ≡ take p taken ++ u ∷ drop p taken)

@@ -9,11 +9,8 @@ use Rattle.snesl.specs.declared.code.Transducer.{Transducer}
 use Rattle.snesl.specs.Transducers.{operands}
 use Rattle.snesl.specs.Programs.{Program, done, define, with_ctrl, count, insert}
 use Rattle.snesl.specs.Listing.{define_line, with_ctrl_line, close_line}
-
-pub data Mode : Type 0 where
-  running : Mode
-  listing : Mode
-  surveying : Mode
+use Rattle.sink.specs.declared.state.Mode.{Mode}
+use Rattle.sink.specs.declared.state.Mode.TheVariants.{Running, Listing, Surveying}
 
 pub record Sink : Type 0 where
   pub mode : Mode
@@ -52,13 +49,13 @@ take_in vs k =
 
 -- the definition of stream s; the opening and the closing of a WithCtrl
 abbrev pub defined : ℕ → Transducer → Sink → Sink
-defined s t k = elim k.mode [ running ↦ k | listing ↦ put (define_line s t) k | surveying ↦ take_in (operands t) k ]
+defined s t k = elim k.mode [ Running ↦ k | Listing ↦ put (define_line s t) k | Surveying ↦ take_in (operands t) k ]
 
 abbrev pub opened : (outs : List ℕ) (control : ℕ) (ins : List ℕ) → Sink → Sink
-opened outs c ins k = elim k.mode [ running ↦ k | listing ↦ put (with_ctrl_line outs c ins) k | surveying ↦ k ]
+opened outs c ins k = elim k.mode [ Running ↦ k | Listing ↦ put (with_ctrl_line outs c ins) k | Surveying ↦ k ]
 
 abbrev pub closed : Sink → Sink
-closed k = elim k.mode [ running ↦ k | listing ↦ put close_line k | surveying ↦ k ]
+closed k = elim k.mode [ Running ↦ k | Listing ↦ put close_line k | Surveying ↦ k ]
 
 -- a program whose first id is s, instruction by instruction
 unfoldable pub feed : ℕ → Program → Sink → Sink
@@ -74,7 +71,7 @@ told Close k = closed k
 
 -- Before a WithCtrl's line is written its body is surveyed, from its first id s on; then the listing goes on where it stood.
 abbrev pub surveyed : ℕ → Sink → Sink
-surveyed s k = record { mode = surveying; text = k.text; at = k.at; own = s; taken = []; most = k.most }
+surveyed s k = record { mode = Surveying; text = k.text; at = k.at; own = s; taken = []; most = k.most }
 
 abbrev pub resumed : Sink → Sink
-resumed k = record { mode = listing; text = k.text; at = k.at; own = 0; taken = []; most = k.most }
+resumed k = record { mode = Listing; text = k.text; at = k.at; own = 0; taken = []; most = k.most }

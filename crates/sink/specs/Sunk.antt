@@ -1,46 +1,46 @@
--- A sink as a walk keeps it: its text in the slice lent for the listing, and the rest in words behind the machine's four.
-use Rattle.std.specs.Prelude.{ℕ, ◌+◌, ◌≤◌, List, [], ◌∷◌, ◌++◌, ◌≡◌, length, get_or, take, drop}
+-- A sink as a walk keeps it: its text in the slice lent for the listing, and the rest beside the machine's counters.
+use Rattle.std.specs.Prelude.{ℕ, ◌+◌, ◌≤◌, List, [], ◌≡◌, length}
 use Rattle.laws.specs.Parts.{part}
 use Rattle.snesl.specs.Trees.{Tree, order, map_tree}
 use Rattle.snesl.specs.Programs.{ascending}
 use Rattle.environment.specs.Words.{tree_words, tree_size}
-use Rattle.sink.specs.Sinks.{Mode, running, listing, surveying, Sink, far, opened, resumed}
+use Rattle.environment.specs.declared.machine.Machine.{Machine}
+use Rattle.sink.specs.declared.state.Mode.{Mode}
+use Rattle.sink.specs.declared.state.Mode.TheVariants.{Listing, Surveying}
+use Rattle.sink.specs.declared.state.Sink as state
+use Rattle.sink.specs.declared.state.Walk.{Walk}
+use Rattle.sink.specs.Sinks.{Sink, far, opened, resumed}
+use Rattle.sink.specs.Kept.{Marks}
 use Rattle.sink.specs.Between.{between}
 use Rattle.sink.specs.Trees.{Placing}
-
-abbrev pub mode_word : Mode → ℕ
-mode_word running = 0
-mode_word listing = 1
-mode_word surveying = 2
-
--- how many words stand before the ids that a survey keeps: the machine's four, the mode, the position, the body's first id, and how many ids are kept
-abbrev pub fixed_words : ℕ
-fixed_words = 8
 
 -- a sink that lists keeps nothing of a survey
 pub record Plain (k : Sink) : Type 0 where
   pub own : k.own ≡ 0
   pub taken : k.taken ≡ []
 
-pub record Sunk (k : Sink) (text state : List ℕ) : Type 0 where
-  pub rest : List ℕ
-  pub words : drop 4 state ≡ mode_word k.mode ∷ k.at ∷ k.own ∷ length k.taken ∷ (k.taken ++ rest)
-  pub whole : length state ≡ fixed_words + k.most
-  pub kept : length k.taken ≤ k.most
-  pub small : k.most ≤ 65536
+pub record Sunk (k : Sink) (text : List ℕ) (s : state.Sink) : Type 0 where
+  pub mode-is : s.mode ≡ k.mode
+  pub at-is : s.at ≡ k.at
+  pub own-is : s.own ≡ k.own
+  pub marks : Marks k.taken k.most s.kept
   pub near : k.at ≤ far + far
   pub text-is : text ≡ k.text
-  pub plain : k.mode ≡ listing → Plain k
+  pub plain : k.mode ≡ Listing → Plain k
 
--- what telling a sink leaves: the sink after, and the machine's words as they were
-pub record Tells (after : Sink) (text state old : List ℕ) : Type 0 where
-  pub sunk : Sunk after text state
-  pub machine : take 4 state ≡ take 4 old
+-- a sink that nothing was told, at the start of this text
+abbrev pub starting : Mode → List ℕ → Sink
+starting mode text = record { mode = mode; text = text; at = 0; own = 0; taken = []; most = 72 }
+
+-- what telling a sink leaves: the sink after, and the machine as it was
+pub record Tells (after : Sink) (text : List ℕ) (w old : Walk) : Type 0 where
+  pub sunk : Sunk after text w.sink
+  pub machine : w.machine ≡ old.machine
 
 -- At q stand the places of a tree, which a body has left that was surveyed: its ids in tree order, each with two words that say where its stream is.
-pub record Opening (env : List ℕ) (q depth : ℕ) (k : Sink) (text state : List ℕ) : Type 0 where
-  pub sunk : Sunk k text state
-  pub surveys : k.mode ≡ surveying
+pub record Opening (env : List ℕ) (q depth : ℕ) (k : Sink) (text : List ℕ) (s : state.Sink) : Type 0 where
+  pub sunk : Sunk k text s
+  pub surveys : k.mode ≡ Surveying
   pub tree : Tree ℕ depth
   pub placing : Placing
   pub words : part q (tree_size depth) env ≡ tree_words (map_tree placing.place tree)
@@ -58,13 +58,18 @@ pub record Lines (after : Sink) (text : List ℕ) (end : ℕ) : Type 0 where
 abbrev pub opening : (k : Sink) {depth : ℕ} → Tree ℕ depth → (c next : ℕ) → Sink
 opening k tree c next = opened (ascending (between k.own next (order tree))) c k.taken (resumed k)
 
-pub record Opens (k : Sink) {depth : ℕ} (tree : Tree ℕ depth) (c : ℕ) (text state old : List ℕ) : Type 0 where
-  pub sunk : Sunk (opening k tree c (get_or old 0 0)) text state
-  pub machine : take 4 state ≡ k.own ∷ take 3 (drop 1 old)
+-- the machine's counters with this as the next id
+abbrev pub back_to : ℕ → Machine → Machine
+back_to s m = record { streams = s; room = m.room; work = m.work; steps = m.steps }
 
--- the words of a sink that lists again, with the machine's next id where the survey began
-pub record Resumes (k : Sink) (end : ℕ) (state old : List ℕ) : Type 0 where
-  pub rest : List ℕ
-  pub words : drop 4 state ≡ 1 ∷ end ∷ 0 ∷ 0 ∷ rest
-  pub machine : take 4 state ≡ k.own ∷ take 3 (drop 1 old)
-  pub whole : length state ≡ length old
+pub record Opens (k : Sink) {depth : ℕ} (tree : Tree ℕ depth) (c : ℕ) (text : List ℕ) (w old : Walk) : Type 0 where
+  pub sunk : Sunk (opening k tree c old.machine.streams) text w.sink
+  pub machine : w.machine ≡ back_to k.own old.machine
+
+-- a sink that lists again, with the machine's next id where the survey began
+pub record Resumes (k : Sink) (end : ℕ) (w old : Walk) : Type 0 where
+  pub mode-is : w.sink.mode ≡ Listing
+  pub at-is : w.sink.at ≡ end
+  pub own-is : w.sink.own ≡ 0
+  pub marks : Marks [] k.most w.sink.kept
+  pub machine : w.machine ≡ back_to k.own old.machine

@@ -1,4 +1,4 @@
--- What a transducer uses, as words: so its name and the list of its operands are short.
+-- What a transducer uses: so its name and the list of its operands are short.
 use Rattle.std.specs.Prelude.{ℕ, ◌≤◌, List, [], ◌∷◌, ◌≡◌, length}
 use Rattle.snesl.specs.declared.code.Transducer.{Transducer}
 use Rattle.snesl.specs.Transducers.{operands}
@@ -8,8 +8,8 @@ use Rattle.sink.specs.declared.uses.Used.TheVariants.{Nothing, One, Two}
 
 abbrev pub used_ids : Used → List ℕ
 used_ids Nothing = []
-used_ids (One a) = a ∷ []
-used_ids (Two a b) = a ∷ b ∷ []
+used_ids (One a) = a.0 ∷ []
+used_ids (Two a b) = a.0 ∷ b.0 ∷ []
 
 pub record Operates (t : Transducer) (r : Used) : Type 0 where
   pub ids : used_ids r ≡ operands t

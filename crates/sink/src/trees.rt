@@ -31,12 +31,7 @@ pub fn put_tree(env: &[u32], q: usize, depth: usize, text: &mut [u8], at: usize)
 fn lesser(lo: usize, best: usize, id: usize) -> usize
     ensures { result ≡ between.lesser lo best id }
 {
-    if lo <= id {
-        if id < best {
-            return id;
-        }
-    }
-    best
+    if lo <= id { best.min(id) } else { best }
 }
 
 // The least of the `count` ids at q from lo on, or hi.
@@ -45,10 +40,8 @@ fn least_at(env: &[u32], q: usize, count: usize, lo: usize, hi: usize) -> usize
     ensures { (g : IdsAt env.now q count) → result ≡ least lo hi g.ids }
 {
     let mut best = hi;
-    let mut i = 0;
-    while i < count {
+    for i in 0..count {
         best = lesser(lo, best, env[q + 3 * i] as usize);
-        i += 1;
     }
     best
 }
@@ -69,6 +62,7 @@ pub fn put_outs(
     let mut first = true;
     let mut from = lo;
     let mut p = at;
+    // Where the next id is sought depends on the last one found, so that no range or iterator has them.
     loop {
         let s = least_at(env, q, count, from, hi);
         if s >= hi {

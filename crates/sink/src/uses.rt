@@ -1,21 +1,13 @@
-// The ids that a transducer uses, as words.
-ghost use Rattle.std.specs.Prelude.{◌≡◌};
+// The streams that a transducer uses: at most two. An enum of its own, since two Options would leave open a second without a first.
 ghost use Rattle.sink.specs.Uses.{Operates};
 
 use snesl::code::{StreamId, Transducer};
 
-#[derive(Clone, Copy)]
+#[derive(Clone, Copy, Debug, PartialEq, Eq)]
 pub enum Used {
     Nothing,
-    One(usize),
-    Two(usize, usize),
-}
-
-// The number that a stream's name is.
-pub fn id_of(s: StreamId) -> usize
-    ensures { result ≡ s.0 }
-{
-    s.0
+    One(StreamId),
+    Two(StreamId, StreamId),
 }
 
 // A transducer's operands.
@@ -23,17 +15,17 @@ pub fn operands_of(t: Transducer) -> Used
     ensures { Operates t result }
 {
     match t {
-        Transducer::Const(z) => Used::Nothing,
-        Transducer::ConstBool(c) => Used::Nothing,
-        Transducer::ToFlags(a) => Used::One(id_of(a)),
-        Transducer::B2u(a) => Used::One(id_of(a)),
-        Transducer::Usum(a) => Used::One(id_of(a)),
-        Transducer::MapTwo(o, a, b) => Used::Two(id_of(a), id_of(b)),
-        Transducer::MapOneNot(a) => Used::One(id_of(a)),
-        Transducer::ScanPlus(z, a, b) => Used::Two(id_of(a), id_of(b)),
-        Transducer::Distr(a, b) => Used::Two(id_of(a), id_of(b)),
-        Transducer::SumPlus(a, b) => Used::Two(id_of(a), id_of(b)),
-        Transducer::Pack(a, b) => Used::Two(id_of(a), id_of(b)),
-        Transducer::UPack(a, b) => Used::Two(id_of(a), id_of(b)),
+        Transducer::Const(_) => Used::Nothing,
+        Transducer::ConstBool(_) => Used::Nothing,
+        Transducer::ToFlags(a) => Used::One(a),
+        Transducer::B2u(a) => Used::One(a),
+        Transducer::Usum(a) => Used::One(a),
+        Transducer::MapTwo(_, a, b) => Used::Two(a, b),
+        Transducer::MapOneNot(a) => Used::One(a),
+        Transducer::ScanPlus(_, a, b) => Used::Two(a, b),
+        Transducer::Distr(a, b) => Used::Two(a, b),
+        Transducer::SumPlus(a, b) => Used::Two(a, b),
+        Transducer::Pack(a, b) => Used::Two(a, b),
+        Transducer::UPack(a, b) => Used::Two(a, b),
     }
 }

@@ -1,7 +1,7 @@
 -- `perform` meets its contract: what a transducer answers and leaves of the buffer is what one instruction does to the machine.
 use Prim.Native.Nat.{ℕ, zero, suc, ◌+◌, ◌*◌, ◌-◌, ◌≤◌, ◌<◌}
 use mathlib.Core.Bool.{Bool, true, false}
-use mathlib.Core.List.{List, [], ◌∷◌, ◌++◌, map}
+use mathlib.Core.List.{List, [], ◌∷◌, ◌++◌, map, append_assoc}
 use mathlib.Core.Option.{Option, some, none}
 use mathlib.Core.Logic.{◌⊎◌, inl, inr}
 use mathlib.Core.Path.{◌≡◌, refl, sym, ◌∙◌, ap, ap₂, subst}
@@ -10,14 +10,14 @@ use native.Mathlib.Nat.{add-zero, suc-mul}
 use borrow.Author.Tests.{le-leb, lt-leb, leb-true, leb-false}
 use lib.Dec.{leb}
 use lib.IntN.{ℤ}
-use lib.ListN.{length, get_or, take, drop, length-append, length-take, length-map, length-drop}
-use lib.Seq.{take_at, drop_at, get_or-take}
+use lib.ListN.{length, take, drop, length-append, length-map, length-drop}
+use lib.Seq.{take_at, drop_at, drop-drop}
 use Rattle.laws.proofs.Never.{never}
 use Rattle.laws.specs.Parts.{written}
 use Rattle.snesl.specs.declared.code.StreamId.{StreamId}
 use Rattle.snesl.specs.declared.code.Transducer.{Transducer}
 use Rattle.snesl.specs.declared.code.Transducer.TheVariants.{Const, ConstBool, ToFlags, B2u, Usum, MapTwo, MapOneNot, ScanPlus, Distr, SumPlus, Pack, UPack}
-use Rattle.snesl.specs.declared.refusal.Refusal.TheVariants.{NoValue, NoRoom}
+use Rattle.snesl.specs.declared.refusal.Refusal.{Refusal}
 use Rattle.snesl.specs.declared.code.Kind.{Kind}
 use Rattle.snesl.specs.declared.code.Kind.TheVariants.{Ints, Bools, Flags, Units}
 use Rattle.snesl.specs.declared.code.Base.{Base}
@@ -30,13 +30,14 @@ use Rattle.snesl.specs.Programs.{define, done}
 use Rattle.snesl.specs.Machine.{State, Stop, full, unfitting, below_zero, out_of_range, Result, went, stopped, sum_of, work_of, fetch, push, skip, skipped, holding}
 use Rattle.snesl.specs.Outcome.{refusal_of}
 use Rattle.streams.specs.Answers.{answered}
-use Rattle.streams.specs.declared.output.Output as output
-use Rattle.streams.specs.declared.output.Output.TheVariants as out
-use Rattle.steps.specs.declared.Executed.{Executed}
-use Rattle.steps.specs.declared.Executed.TheVariants.{Made, Stopped}
+use Rattle.streams.specs.declared.output.Failure.{Failure}
+use Rattle.streams.specs.declared.output.Failure.TheVariants as failure
+use Rattle.std.specs.Prelude.{Ok, Err}
+use Rattle.std.specs.Prelude.{Result as Returned}
+use Rattle.environment.specs.declared.machine.Machine.{Machine}
 use Rattle.steps.specs.Walking.{stepped}
 use Rattle.steps.specs.declared.Spans.{Spans}
-use Rattle.steps.specs.Holding.{Held, counters, length_in, length_of, FlagsAt, OperandAt, OperandsAt, span_list, keeps, taking, Performable, Performed, Applies, Transduced, Grows, grown, most_streams}
+use Rattle.steps.specs.Holding.{Held, counters, length_in, length_of, FlagsAt, OperandAt, OperandsAt, span_list, keeps, taking, Performable, Performed, Applies, Transduced, Grows, grown, refusing, most_streams}
 use Rattle.steps.proofs.Stores.{nothing_written, contents-more, room-more, newest, ints-within, bools-within, flags-within}
 use Rattle.steps.proofs.Stepping.{same-state, output-made, concluded, step_is, concluded-went, work-is, count_f-most}
 use Rattle.streams.proofs.Store.{Holds}
@@ -72,43 +73,37 @@ module _ (σ : Store) (a : Stream) (buf : List ℤ) (c : take (room σ) buf ≡ 
       ∙ omega (arith, room-more σ a, length-drop (room σ + length (elements a)) buf))
 
 -- One more stream, and what was spent on it.
-module _ {m : State} {buf : List ℤ} {state : List ℕ} (h : Held m buf state) where
-  -- the machine's words, one by one
-  word : (i : ℕ) → i < 4 → get_or state i 0 ≡ get_or (counters m) i 0
-  word i l = sym (get_or-take 4 state i 0 l) ∙ ap (λ w. get_or w i 0) h.words
+module _ {m : State} {buf : List ℤ} {counts : Machine} (h : Held m buf counts) where
+  -- the machine's counters, one by one
+  pub next-id : counts.streams ≡ length m.store
+  next-id = ap (λ c. c.streams) h.counts-are
 
-  pub next-id : get_or state 0 0 ≡ length m.store
-  next-id = word 0 (omega arith)
+  pub next-element : counts.room ≡ room m.store
+  next-element = ap (λ c. c.room) h.counts-are
 
-  pub next-element : get_or state 1 0 ≡ room m.store
-  next-element = word 1 (omega arith)
+  pub spent-is : counts.work ≡ m.work
+  spent-is = ap (λ c. c.work) h.counts-are
 
-  pub spent-is : get_or state 2 0 ≡ m.work
-  spent-is = word 2 (omega arith)
+  pub counted_is : counts.steps ≡ m.steps
+  counted_is = ap (λ c. c.steps) h.counts-are
 
-  pub counted_is : get_or state 3 0 ≡ m.steps
-  counted_is = word 3 (omega arith)
-
-  pub four-words : 4 ≤ length state
-  four-words = omega (arith, simp length-take at (ap length h.words))
-
-  pub held_more : (a : Stream) (w c : ℕ) (new : List ℤ) (state' : List ℕ) → room m.store + length (elements a) ≤ length buf
+  pub held_more : (a : Stream) (w c : ℕ) (new : List ℤ) (counts' : Machine) → room m.store + length (elements a) ≤ length buf
       → length m.store < most_streams → w ≤ 196608 → c ≤ 1 → new ≡ written (room m.store) (elements a) buf
-      → state' ≡ grown state (length (elements a)) w c
+      → counts' ≡ grown counts (length (elements a)) w c
       → (m' : State) → m' ≡ record { store = m.store ++ a ∷ []; work = m.work + w; steps = m.steps + c }
-      → Held m' new state' × keeps m'.store buf new × (drop 4 state' ≡ drop 4 state)
-  held_more a w c new state' fits few cheap slow n s m' e =
+      → Held m' new counts' × keeps m'.store buf new
+  held_more a w c new counts' fits few cheap slow n s m' e =
       let σ : Store = m.store in
       let r : room (σ ++ a ∷ []) ≡ room σ + length (elements a) = room-more σ a in
       let l : length (σ ++ a ∷ []) ≡ length σ + 1 = length-append σ (a ∷ []) in
       let long : length new ≡ length buf = ap length n ∙ long-more σ a buf h.contents-are fits in
-      let words : take 4 state' ≡ length (σ ++ a ∷ []) ∷ room (σ ++ a ∷ []) ∷ (m.work + w) ∷ (m.steps + c) ∷ [] =
-      ap (take 4) s
-      ∙ (λ i. (next-id i + 1) ∷ (next-element i + length (elements a)) ∷ (spent-is i + w) ∷ (counted_is i + c) ∷ [])
-      ∙ ap₂ (λ x y. x ∷ y ∷ (m.work + w) ∷ (m.steps + c) ∷ []) (sym l) (sym r) in
-      subst (λ q. Held q new state' × keeps q.store buf new × (drop 4 state' ≡ drop 4 state)) (sym e) (
+      let are : counts' ≡ record { streams = length (σ ++ a ∷ []); room = room (σ ++ a ∷ []); work = m.work + w; steps = m.steps + c } =
+      s
+      ∙ (ap (λ k. grown k (length (elements a)) w c) h.counts-are
+      ∙ (λ i. record { streams = sym l i; room = sym r i; work = m.work + w; steps = m.steps + c })) in
+      subst (λ q. Held q new counts' × keeps q.store buf new) (sym e) (
         record {
-          words = words;
+          counts-are = are;
           contents-are = ap (take (room (σ ++ a ∷ []))) n ∙ front-more σ a buf h.contents-are fits;
           fits = omega arith;
           short = omega (arith, h.short);
@@ -117,17 +112,15 @@ module _ {m : State} {buf : List ℤ} {state : List ℕ} (h : Held m buf state) 
           cheap = omega (arith, h.cheap);
         },
         ap (drop (room (σ ++ a ∷ []))) n ∙ rest_more σ a buf h.contents-are fits,
-        ap (drop 4) s,
       )
 
-  pub grows : (r w c : ℕ) → r ≤ 65536 → w ≤ 196608 → c ≤ 1 → Grows state r w c
+  pub grows : (r w c : ℕ) → r ≤ 65536 → w ≤ 196608 → c ≤ 1 → Grows counts r w c
   grows r w c p q s =
       record {
-        four = four-words;
         ids = omega (arith, next-id, h.few);
         rooms = omega (arith, next-element, h.fits, h.short);
         works = omega (arith, spent-is, h.cheap, h.few);
-        counts = omega (arith, counted_is, h.slow, h.few);
+        steps-more = omega (arith, counted_is, h.slow, h.few);
       }
 
 -- ---- under an empty control
@@ -144,14 +137,14 @@ bare-len Bools = refl
 bare-len Flags = refl
 bare-len Units = refl
 
-module _ {t : Transducer} {w : Spans} {buf : List ℤ} {state : List ℕ} {m : State} (x : Performable t w buf state m) where
+module _ {t : Transducer} {w : Spans} {buf : List ℤ} {counts : Machine} {m : State} (x : Performable t w buf counts m) where
   none_written : buf ≡ written (room m.store) (elements (empty m.store t)) buf
   none_written = nothing_written (room m.store) buf ∙ ap (λ l. written (room m.store) l buf) (sym (bare-elements (signature (carried m.store t) t).output))
 
-  pub skipped-over : (cap k : ℕ) (state' : List ℕ) → k ≡ 0 → state' ≡ grown state 0 0 0
-      → Performed (stepped cap k t m) m buf buf state state' (Made 0)
+  pub skipped-over : (cap k : ℕ) (counts' : Machine) → k ≡ 0 → counts' ≡ grown counts 0 0 0
+      → Performed (stepped cap k t m) m buf buf counts' (Ok 0)
   unfolding stepped skipped
-  skipped-over cap zero state' z s =
+  skipped-over cap zero counts' z s =
       let none : length (elements (empty m.store t)) ≡ 0 = ap length (bare-elements (signature (carried m.store t) t).output) in
       record {
         went_on =
@@ -161,23 +154,20 @@ module _ {t : Transducer} {w : Spans} {buf : List ℤ} {state : List ℕ} {m : S
             let w : m.work + 0 ≡ m.work = add-zero m.work in
             let c : m.steps + 0 ≡ m.steps = add-zero m.steps in
             let both =
-            held_more x.held (empty m.store t) 0 0 buf state' (omega (arith, none, x.held.fits)) x.more (omega arith) (omega arith) none_written
-            (s ∙ ap (λ k. grown state k 0 0) (sym none)) m'
+            held_more x.held (empty m.store t) 0 0 buf counts' (omega (arith, none, x.held.fits)) x.more (omega arith) (omega arith) none_written
+            (s ∙ ap (λ k. grown counts k 0 0) (sym none)) m'
             (sym is ∙ (λ i. record { store = m.store ++ empty m.store t ∷ []; work = sym w i; steps = sym c i })) in
-            (ap Made (sym (bare-len (signature (carried m.store t) t).output) ∙ ap len a-is), both.0, both.1, both.2);
+            (ap Ok (sym (bare-len (signature (carried m.store t) t).output) ∙ ap len a-is), both.0, both.1);
         gave-up = λ why s e. never (cc);
       }
-  skipped-over cap (suc k) state' z s = absurd (omega arith)
+  skipped-over cap (suc k) counts' z s = absurd (omega arith)
 
 -- ---- executed
 
 -- what the run says of a transducer's answer where the next id is s
-abbrev pub told : (s : ℕ) → output.Output → Executed
-told s (out.Made k) = Made k
-told s (out.Unfit k) = Stopped (NoValue s)
-told s (out.Negative k) = Stopped (NoValue s)
-told s (out.Outside k) = Stopped (NoValue s)
-told s out.NoRoom = Stopped (NoRoom s)
+abbrev pub told : (s : ℕ) → Returned ℕ Failure → Returned ℕ Refusal
+told s (Ok k) = Ok k
+told s (Err f) = Err (refusing f s)
 
 module _ (cap : ℕ) (t : Transducer) (n : ℕ) (m : State) (f : room m.store ≤ cap) where
   -- the two tests for room agree
@@ -193,7 +183,7 @@ module _ (cap : ℕ) (t : Transducer) (n : ℕ) (m : State) (f : room m.store �
     pub is_made : x ≡ made output
     pub pushed : push t n output m ≡ m'
     pub fits : length (elements output) ≤ cap - room m.store
-    pub said : answered (cap - room m.store) x ≡ out.Made (len output)
+    pub said : answered (cap - room m.store) x ≡ Ok (len output)
 
   through : (x : Answer) (m' : State) → concluded cap t n m x ≡ went m' → Through x m'
   through (made a) m' e = go (leb (length (elements a)) (cap - room m.store)) refl
@@ -220,11 +210,11 @@ module _ (cap : ℕ) (t : Transducer) (n : ℕ) (m : State) (f : room m.store �
   through (outside k) m' e = never (cc)
 
   halted : (x : Answer) (why : Stop) (s : ℕ) → concluded cap t n m x ≡ stopped why s
-      → told (length m.store) (answered (cap - room m.store) x) ≡ Stopped (refusal_of why s)
+      → told (length m.store) (answered (cap - room m.store) x) ≡ Err (refusal_of why s)
   halted (made a) why s e = go (leb (length (elements a)) (cap - room m.store)) refl
     where
       go : (b : Bool) → leb (length (elements a)) (cap - room m.store) ≡ b
-          → told (length m.store) (elim b [ true ↦ out.Made (len a) | false ↦ out.NoRoom ]) ≡ Stopped (refusal_of why s)
+          → told (length m.store) (elim b [ true ↦ Ok (len a) | false ↦ Err failure.NoRoom ]) ≡ Err (refusal_of why s)
       go true q =
           let h : length (elements a) ≤ cap - room m.store = leb-true (length (elements a)) (cap - room m.store) q in
           let z : went (push t n a m) ≡ stopped why s =
@@ -236,19 +226,19 @@ module _ (cap : ℕ) (t : Transducer) (n : ℕ) (m : State) (f : room m.store �
           sym (λ i. elim (full-too a h i) [ true ↦ went (push t n a m) | false ↦ stopped full (length m.store) ]) ∙ e in
           let p : full ≡ why = cc in
           let r : length m.store ≡ s = cc in
-          ap Stopped (ap₂ refusal_of p r)
+          ap Err (ap₂ refusal_of p r)
   halted (unfit k) why s e =
       let p : unfitting k ≡ why = cc in
       let r : length m.store ≡ s = cc in
-      ap Stopped (ap₂ refusal_of p r)
+      ap Err (ap₂ refusal_of p r)
   halted (negative k) why s e =
       let p : below_zero k ≡ why = cc in
       let r : length m.store ≡ s = cc in
-      ap Stopped (ap₂ refusal_of p r)
+      ap Err (ap₂ refusal_of p r)
   halted (outside k) why s e =
       let p : out_of_range k ≡ why = cc in
       let r : length m.store ≡ s = cc in
-      ap Stopped (ap₂ refusal_of p r)
+      ap Err (ap₂ refusal_of p r)
 
 stepped-is : (cap : ℕ) (t : Transducer) (n : ℕ) (m : State) → 0 < n → stepped cap n t m ≡ concluded cap t n m (apply t n m.store)
 unfolding stepped
@@ -265,7 +255,7 @@ taken_is (units n) = refl
 as_long : (a : Stream) → taking (kind_of a) (len a) ≡ len a → len a ≡ length (elements a)
 as_long a e = sym e ∙ taken_is a
 
-pub data-takes : (b : Base) (n : ℕ) → taking (data_kind b) n ≡ n
+data-takes : (b : Base) (n : ℕ) → taking (data_kind b) n ≡ n
 data-takes base.Int n = refl
 data-takes base.Bool n = refl
 
@@ -317,25 +307,32 @@ module _ {σ : Store} {buf : List ℤ} (h : Holds buf σ) where
   output-most w b (Pack s t) o k a e = inr (as_long a (ap (λ c. taking c (len a)) (output-made (Pack s t) k σ a e) ∙ data-takes (base_in (σ ! t.0)) (len a)))
   output-most w b (UPack s t) o k a e = inr (as_long a (ap (λ c. taking c (len a)) (output-made (UPack s t) k σ a e)))
 
-module _ {t : Transducer} {w : Spans} {buf : List ℤ} {state : List ℕ} {m : State} (x : Performable t w buf state m) where
+module _ {t : Transducer} {w : Spans} {buf : List ℤ} {counts : Machine} {m : State} (x : Performable t w buf counts m) where
   holds : Holds buf m.store
   holds = record { content = x.held.contents-are; fits = x.held.fits }
 
-  pub applies : Applies t w (get_or state 1 0) buf m.store
-  applies =
+  pub applies : {held : List ℤ} → held ≡ take (counts.room) buf → Applies t w held m.store
+  applies e =
+      let is = e ∙ ap (λ r. take r buf) (next-element x.held) ∙ x.held.contents-are in
       record {
         base = x.spanned.base;
         stand = x.spanned.stand;
-        contents-are = x.held.contents-are;
-        fits = x.held.fits;
-        short = x.held.short;
-        next = next-element x.held;
+        inside = x.spanned.inside;
+        contents-are = is;
+        short = omega (arith, ap length is, x.held.fits, x.held.short);
       }
 
-  module _ (k : ℕ) {o : output.Output} {new : List ℤ} (v : Transduced (get_or state 1 0) buf (apply t k m.store) o new) where
+  module _ (k : ℕ) {o : Returned ℕ Failure} {free end new : List ℤ} (p : free ≡ drop (counts.room) buf) (q : new ≡ take (counts.room) buf ++ end)
+      (v : Transduced free (apply t k m.store) o end) where
+    behind : free ≡ drop (room m.store) buf
+    behind = p ∙ ap (λ r. drop r buf) (next-element x.held)
+
+    left : length free ≡ length buf - room m.store
+    left = ap length behind ∙ length-drop (room m.store) buf
+
     -- what was answered, of the machine
     says : o ≡ answered (length buf - room m.store) (apply t k m.store)
-    says = v.says ∙ ap (λ r. answered (length buf - r) (apply t k m.store)) (next-element x.held)
+    says = v.says ∙ ap (λ r. answered r (apply t k m.store)) left
 
     -- the output that was made
     module _ {m' : State} (g : Through (length buf) t k m x.held.fits (apply t k m.store) m') where
@@ -360,52 +357,56 @@ module _ {t : Transducer} {w : Spans} {buf : List ℤ} {state : List ℕ} {m : S
       takes-it = ap (λ c. taking c (len g.output)) (sym kind) ∙ taken_is g.output
 
       wrote : new ≡ written (room m.store) (elements g.output) buf
+      unfolding written
       wrote =
-          v.wrote g.output g.is_made (omega (arith, g.fits, next-element x.held))
-          ∙ ap (λ r. written r (elements g.output) buf) (next-element x.held)
+          q
+          ∙ ap (λ l. take (counts.room) buf ++ l) (v.wrote g.output g.is_made (omega (arith, g.fits, left)))
+          ∙ (λ i. take (next-element x.held i) buf ++ (elements g.output ++ drop (length (elements g.output)) (behind i)))
+          ∙ ap (λ l. take (room m.store) buf ++ (elements g.output ++ l)) (drop-drop (length (elements g.output)) (room m.store) buf)
+          ∙ sym (append_assoc (take (room m.store) buf) (elements g.output) (drop (room m.store + length (elements g.output)) buf))
 
     -- a stream that was made has an output behind it
-    gone : (j : ℕ) → o ≡ out.Made j → (m' : State) × Through (length buf) t k m x.held.fits (apply t k m.store) m'
+    gone : (j : ℕ) → o ≡ Ok j → (m' : State) × Through (length buf) t k m x.held.fits (apply t k m.store) m'
     gone j e = go (concluded (length buf) t k m (apply t k m.store)) refl
       where
         go : (r : Result) → concluded (length buf) t k m (apply t k m.store) ≡ r
             → (m' : State) × Through (length buf) t k m x.held.fits (apply t k m.store) m'
         go (went m') q = (m', through (length buf) t k m x.held.fits (apply t k m.store) m' q)
         go (stopped why s) q =
-            let h : told (length m.store) (answered (length buf - room m.store) (apply t k m.store)) ≡ Stopped (refusal_of why s) =
+            let h : told (length m.store) (answered (length buf - room m.store) (apply t k m.store)) ≡ Err (refusal_of why s) =
             halted (length buf) t k m x.held.fits (apply t k m.store) why s q in
-            let z : Made j ≡ Stopped (refusal_of why s) = ap (told (length m.store)) (sym e ∙ says) ∙ h in
+            let z : Ok j ≡ Err (refusal_of why s) = ap (told (length m.store)) (sym e ∙ says) ∙ h in
             never (cc)
 
     -- the words can grow by it
-    pub room_for : {r : ℕ} (j : ℕ) → o ≡ out.Made j → ((b : Base) → r ≡ taking (signature b t).output j) → Grows state r (w.first.length + w.second.length + j) 1
+    pub room_for : {r : ℕ} (j : ℕ) → o ≡ Ok j → ((b : Base) → r ≡ taking (signature b t).output j) → Grows counts r (w.first.length + w.second.length + j) 1
     room_for {r} j e q =
         let g = gone j e in
-        let same : out.Made j ≡ out.Made (len g.1.output) = sym e ∙ (says ∙ g.1.said) in
+        let same : Ok j ≡ Ok (len g.1.output) = sym e ∙ (says ∙ g.1.said) in
         let j-is : j ≡ len g.1.output = cc in
         let takes : taking (signature (carried m.store t) t).output j ≡ length (elements g.1.output) = ap (taking (signature (carried m.store t) t).output) j-is ∙ takes-it g.1 in
         grows x.held r (w.first.length + w.second.length + j) 1 (omega (arith, q (carried m.store t), fits g.1, x.held.short)) (omega (arith, cheap g.1)) (omega arith)
 
-    pub performed : {r : Executed} {state' : List ℕ} → 0 < k → r ≡ told (get_or state 0 0) o
-        → ((j : ℕ) → o ≡ out.Made j → state' ≡ grown state (taking (signature (carried m.store t) t).output j) (w.first.length + w.second.length + j) 1)
-        → Performed (stepped (length buf) k t m) m buf new state state' r
-    performed {r} {state'} some-units q s =
+    pub performed : {r : Returned ℕ Refusal} {counts' : Machine} → 0 < k → r ≡ told (counts.streams) o
+        → ((j : ℕ) → o ≡ Ok j → counts' ≡ grown counts (taking (signature (carried m.store t) t).output j) (w.first.length + w.second.length + j) 1)
+        → Performed (stepped (length buf) k t m) m buf new counts' r
+    performed {r} {counts'} some-units q s =
         let is : stepped (length buf) k t m ≡ concluded (length buf) t k m (apply t k m.store) = stepped-is (length buf) t k m some-units in
-        let id : told (get_or state 0 0) o ≡ told (length m.store) o = ap (λ i. told i o) (next-id x.held) in
+        let id : told (counts.streams) o ≡ told (length m.store) o = ap (λ i. told i o) (next-id x.held) in
         record {
           went_on =
               λ m' a e h.
               let g = through (length buf) t k m x.held.fits (apply t k m.store) m' (sym is ∙ e) in
               let b : Stream = g.output in
-              let o_is : o ≡ out.Made (len b) = says ∙ g.said in
+              let o_is : o ≡ Ok (len b) = says ∙ g.said in
               let a-is : b ≡ a = same-newest m.store b a (ap (λ u. u.store) g.pushed ∙ h) in
               let takes : taking (signature (carried m.store t) t).output (len b) ≡ length (elements b) = takes-it g in
               let spent : work_of k (fetch m.store (operands t)) b ≡ w.first.length + w.second.length + len b = work-is x.spanned k b in
               let both =
-              held_more x.held b (w.first.length + w.second.length + len b) 1 new state' (fits g) x.more (cheap g) (omega arith) (wrote g)
-              (s (len b) o_is ∙ ap (λ l. grown state l (w.first.length + w.second.length + len b) 1) takes) m'
+              held_more x.held b (w.first.length + w.second.length + len b) 1 new counts' (fits g) x.more (cheap g) (omega arith) (wrote g)
+              (s (len b) o_is ∙ ap (λ l. grown counts l (w.first.length + w.second.length + len b) 1) takes) m'
               (sym g.pushed ∙ (λ i. record { store = m.store ++ b ∷ []; work = m.work + spent i; steps = m.steps + 1 })) in
-              (q ∙ (ap (told (get_or state 0 0)) o_is ∙ ap (λ c. Made (len c)) a-is), both.0, both.1, both.2);
+              (q ∙ (ap (told (counts.streams)) o_is ∙ ap (λ c. Ok (len c)) a-is), both.0, both.1);
           gave-up =
               λ why j e.
               q
@@ -415,24 +416,19 @@ module _ {t : Transducer} {w : Spans} {buf : List ℤ} {state : List ℕ} {m : S
         }
 
     -- an output of j elements
-    module _ {j : ℕ} (e : o ≡ out.Made j) where
+    module _ {j : ℕ} (e : o ≡ Ok j) where
       pub costs : w.first.length + w.second.length + j ≤ 196608
       costs =
           let g = gone j e in
-          let same : out.Made j ≡ out.Made (len g.1.output) = sym e ∙ (says ∙ g.1.said) in
+          let same : Ok j ≡ Ok (len g.1.output) = sym e ∙ (says ∙ g.1.said) in
           let j-is : j ≡ len g.1.output = cc in
           omega (arith, cheap g.1)
 
-      pub performed-made : {state' : List ℕ} {r : ℕ} → 0 < k → ((b : Base) → r ≡ taking (signature b t).output j) → state' ≡ grown state r (w.first.length + w.second.length + j) 1
-          → Performed (stepped (length buf) k t m) m buf new state state' (Made j)
-      performed-made {state'} {r} h q s =
-          performed h (ap (told (get_or state 0 0)) (sym e))
+      pub performed-made : {counts' : Machine} {r : ℕ} → 0 < k → ((b : Base) → r ≡ taking (signature b t).output j) → counts' ≡ grown counts r (w.first.length + w.second.length + j) 1
+          → Performed (stepped (length buf) k t m) m buf new counts' (Ok j)
+      performed-made {counts'} {r} h q s =
+          performed h (ap (told (counts.streams)) (sym e))
           (λ i f.
-          let both : out.Made j ≡ out.Made i = sym e ∙ f in
+          let both : Ok j ≡ Ok i = sym e ∙ f in
           let same : j ≡ i = cc in
-          s ∙ (ap (λ u. grown state u (w.first.length + w.second.length + j) 1) (q (carried m.store t)) ∙ ap (λ u. grown state (taking (signature (carried m.store t) t).output u) (w.first.length + w.second.length + u) 1) same))
-
-    -- none, for a reason that says so
-    pub performed-none : (y : output.Output) → o ≡ y → ((j : ℕ) → y ≡ out.Made j → ⊥) → 0 < k
-        → Performed (stepped (length buf) k t m) m buf new state state (told (get_or state 0 0) y)
-    performed-none y e f h = performed h (ap (told (get_or state 0 0)) (sym e)) (λ j q. absurd (f j (sym e ∙ q)))
+          s ∙ (ap (λ u. grown counts u (w.first.length + w.second.length + j) 1) (q (carried m.store t)) ∙ ap (λ u. grown counts (taking (signature (carried m.store t) t).output u) (w.first.length + w.second.length + u) 1) same))

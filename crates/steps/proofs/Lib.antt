@@ -2,7 +2,6 @@ pub mod Stores
 pub mod Walking
 pub mod Stepping
 pub mod Applying
-pub mod Counting
 pub mod Executing
 pub mod Performing
 pub mod Spanning

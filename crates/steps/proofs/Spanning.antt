@@ -3,8 +3,8 @@ use Prim.Native.Nat.{ℕ, suc, ◌+◌, ◌≤◌}
 use mathlib.Core.List.{List, [], ◌∷◌, map}
 use mathlib.Core.Path.{◌≡◌, refl, sym, ◌∙◌, ap}
 use native.Mathlib.Omega.{arith}
-use lib.IntN.{ℤ}
 use lib.ListN.{length, get_or, length-take, length-drop}
+use lib.Seq.{take_all}
 use Rattle.laws.specs.Parts.{part}
 use Rattle.snesl.specs.declared.code.Kind.{Kind}
 use Rattle.snesl.specs.declared.code.Kind.TheVariants.{Ints, Bools, Flags, Units}
@@ -12,15 +12,16 @@ use Rattle.snesl.specs.declared.code.Base.{Base}
 use Rattle.snesl.specs.declared.code.Base.TheVariants as base
 use Rattle.snesl.specs.declared.code.Transducer.{Transducer}
 use Rattle.snesl.specs.declared.code.Transducer.TheVariants.{Const, ConstBool, ToFlags, B2u, Usum, MapTwo, MapOneNot, ScanPlus, Distr, SumPlus, Pack, UPack}
-use Rattle.snesl.specs.Streams.{Store}
+use Rattle.snesl.specs.Streams.{Store, contents, room}
+use Rattle.streams.proofs.Store.{Holds}
 use Rattle.snesl.specs.Transducers.{operands, signature}
-use Rattle.snesl.specs.Machine.{State, sum_of}
+use Rattle.snesl.specs.Machine.{sum_of}
 use Rattle.environment.specs.Words.{Place, place_words}
 use Rattle.environment.proofs.Entries.{first-is, second_is}
 use Rattle.steps.specs.declared.Operands.{Operands}
-use Rattle.steps.specs.declared.Spans.{Spans}
-use Rattle.steps.specs.Holding.{place, length_of, OperandAt, OperandsAt, Spanned, PlacedAt, Placed, positions, Executable, Performable}
+use Rattle.steps.specs.Holding.{place, length_of, OperandAt, OperandsAt, Spanned, PlacedAt, Placed, positions}
 use Rattle.steps.proofs.Stepping.{ints_of, bools-of, flags_of}
+use Rattle.steps.proofs.Stores.{ints-within, bools-within, flags-within}
 
 -- a place's words stand on the stack
 pub place-within : (env : List ℕ) (p : ℕ) (a : Place) → part p 3 env ≡ place_words a → p + 3 ≤ length env
@@ -56,6 +57,19 @@ others Ints ks t = t
 others Bools ks t = t
 others Flags ks t = t
 others Units ks t = absurd t
+
+-- an operand lies before the first free element
+within : (σ : Store) (k : Kind) (s at n : ℕ) → OperandAt σ k s at n → at + n ≤ room σ
+within σ k s at n = go k
+  where
+    own : Holds (contents σ) σ
+    own = record { content = take_all (room σ) (contents σ) (omega arith); fits = omega arith }
+
+    go : (k : Kind) → OperandAt σ k s at n → at + n ≤ room σ
+    go Ints o = ints-within own o
+    go Bools o = bools-within own o
+    go Flags o = flags-within own o
+    go Units o = absurd o
 
 module _ (σ : Store) (env : List ℕ) where
   long-is : {k : Kind} {s p : ℕ} → PlacedAt σ env k s p → get_or env (p + 2) 0 ≡ length_of σ s
@@ -99,13 +113,14 @@ module _ (σ : Store) (env : List ℕ) where
 
   stand-one : (ks : List Kind) (ss : List ℕ) (p : ℕ) (ps : List ℕ) (ws : List (ℕ × ℕ)) → Taken ks → Placed σ env ks ss (p ∷ ps) → length ss ≡ 1
       → OperandsAt σ ks ss ((get_or env (p + 1) 0, get_or env (p + 2) 0) ∷ ws) × (get_or env (p + 2) 0 ≡ sum_of (map (length_of σ) ss))
+      × (get_or env (p + 1) 0 + get_or env (p + 2) 0 ≤ room σ)
   unfolding sum_of
   stand-one [] [] p ps ws t o e = absurd (omega arith)
   stand-one [] (s ∷ ss) p ps ws t o e = absurd o
   stand-one (k ∷ ks) [] p ps ws t o e = absurd o
   stand-one (k ∷ ks) (s ∷ ss) p ps ws t o e =
       let r = stand-none ks ss ps ws o.1 (omega arith) in
-      ((operand k ks t o.0, r.0), omega (arith, long-is o.0, r.1))
+      ((operand k ks t o.0, r.0), omega (arith, long-is o.0, r.1), within σ k s _ _ (operand k ks t o.0))
 
   one_left : (ks : List Kind) (ss : List ℕ) (q : ℕ) → Placed σ env ks ss (q ∷ []) → (length ss ≡ 0 → ⊥) → length ss ≡ 1
   one_left [] [] q o e = absurd (e refl)
@@ -119,13 +134,15 @@ module _ (σ : Store) (env : List ℕ) where
   stand-two : (ks : List Kind) (ss : List ℕ) (p q : ℕ) → Taken ks → Placed σ env ks ss (p ∷ q ∷ []) → (length ss ≡ 0 → ⊥) → (length ss ≡ 1 → ⊥)
       → OperandsAt σ ks ss ((get_or env (p + 1) 0, get_or env (p + 2) 0) ∷ (get_or env (q + 1) 0, get_or env (q + 2) 0) ∷ [])
       × (get_or env (p + 2) 0 + get_or env (q + 2) 0 ≡ sum_of (map (length_of σ) ss))
+      × (get_or env (p + 1) 0 + get_or env (p + 2) 0 ≤ room σ)
+      × (get_or env (q + 1) 0 + get_or env (q + 2) 0 ≤ room σ)
   unfolding sum_of
   stand-two [] [] p q t o e f = absurd (e refl)
   stand-two [] (s ∷ ss) p q t o e f = absurd o
   stand-two (k ∷ ks) [] p q t o e f = absurd o
   stand-two (k ∷ ks) (s ∷ ss) p q t o e f =
       let r = stand-one ks ss q [] [] (others k ks t) o.1 (one_left ks ss q o.1 (λ z. f (ap suc z))) in
-      ((operand k ks t o.0, r.0), omega (arith, long-is o.0, r.1))
+      ((operand k ks t o.0, r.0), omega (arith, long-is o.0, r.1), within σ k s _ _ (operand k ks t o.0), r.2)
 
   -- the words that are read stand on the stack
   pub first-within : (ks : List Kind) (ss : List ℕ) (p : ℕ) (ps : List ℕ) → Placed σ env ks ss (p ∷ ps) → (length ss ≡ 0 → ⊥) → p + 3 ≤ length env
@@ -145,26 +162,22 @@ module _ (σ : Store) (env : List ℕ) (t : Transducer) (at : Operands) (b : Bas
   pub spanned-none : n ≡ 0 → Spanned σ t (record { first = record { start = 0; length = 0 }; second = record { start = 0; length = 0 } })
   spanned-none e =
       let r = stand-none σ env (signature b t).inputs (operands t) (positions at) ((0, 0) ∷ (0, 0) ∷ []) o (sym count ∙ e) in
-      record { base = b; stand = r.0; total = r.1 }
+      record { inside = (omega arith, omega arith); base = b; stand = r.0; total = r.1 }
 
   pub spanned-one : n ≡ 1
       → Spanned σ t (record { first = record { start = get_or env (at.first + 1) 0; length = get_or env (at.first + 2) 0 }; second = record { start = 0; length = 0 } })
   spanned-one e =
       let r = stand-one σ env (signature b t).inputs (operands t) at.first (at.second ∷ []) ((0, 0) ∷ []) (all-taken b t) o (sym count ∙ e) in
-      record { base = b; stand = r.0; total = omega (arith, r.1) }
+      record { inside = (r.2, omega arith); base = b; stand = r.0; total = omega (arith, r.1) }
 
   pub spanned-two : (n ≡ 0 → ⊥) → (n ≡ 1 → ⊥)
       → Spanned σ t (record { first = record { start = get_or env (at.first + 1) 0; length = get_or env (at.first + 2) 0 }; second = record { start = get_or env (at.second + 1) 0; length = get_or env (at.second + 2) 0 } })
   spanned-two e f =
       let r = stand-two σ env (signature b t).inputs (operands t) at.first at.second (all-taken b t) o (λ z. e (count ∙ z)) (λ z. f (count ∙ z)) in
-      record { base = b; stand = r.0; total = r.1 }
+      record { inside = (r.2, r.3); base = b; stand = r.0; total = r.1 }
 
   pub reads_first : (n ≡ 0 → ⊥) → at.first + 3 ≤ length env
   reads_first e = first-within σ env (signature b t).inputs (operands t) at.first (at.second ∷ []) o (λ z. e (count ∙ z))
 
   pub reads_second : (n ≡ 0 → ⊥) → (n ≡ 1 → ⊥) → at.second + 3 ≤ length env
   reads_second e f = second-within σ env (signature b t).inputs (operands t) at.first at.second [] o (λ z. e (count ∙ z)) (λ z. f (count ∙ z))
-
-pub performable : {t : Transducer} {at : Operands} {env : List ℕ} {buf : List ℤ} {state : List ℕ} {m : State} {w : Spans} → Executable t at env buf state m
-    → Spanned m.store t w → Performable t w buf state m
-performable x s = record { held = x.held; spanned = s; more = x.more }

@@ -1,22 +1,24 @@
--- A machine as the run keeps it: the streams one after another at the front of the stream buffer, and four words beside it. No stream's elements are
+-- A machine as the run keeps it: the streams one after another at the front of the stream buffer, and its counters beside it. No stream's elements are
 -- found by its id: an operand is given by where its place stands on the stack of words.
-use Rattle.std.specs.Prelude.{ℕ, ◌+◌, ◌*◌, ◌-◌, ◌≤◌, ◌<◌, ◌^◌, List, [], ◌∷◌, ◌++◌, map, ◌≡◌, ℤ, length, get_or, take, drop}
+use Rattle.std.specs.Prelude.{ℕ, ◌+◌, ◌*◌, ◌≤◌, ◌<◌, ◌^◌, List, [], ◌∷◌, ◌++◌, map, ◌≡◌, ℤ, length, get_or, take, drop, Ok, Err}
+use Rattle.std.specs.Prelude.{Result as Returned}
 use Rattle.std.proofs.Math.Option.{Option, some, none}
 use Rattle.snesl.specs.declared.code.Kind.{Kind}
 use Rattle.snesl.specs.declared.code.Kind.TheVariants.{Ints, Bools, Flags, Units}
 use Rattle.snesl.specs.declared.code.Base.{Base}
 use Rattle.snesl.specs.declared.code.Transducer.{Transducer}
 use Rattle.snesl.specs.declared.refusal.Refusal.{Refusal}
+use Rattle.snesl.specs.declared.refusal.Refusal.TheVariants.{NoValue, NoRoom}
 use Rattle.snesl.specs.Streams.{Stream, ints, bools, flags, kind_of, len, elements, Store, ◌!◌, contents, room}
-use Rattle.laws.specs.Parts.{part, written}
+use Rattle.laws.specs.Parts.{part}
+use Rattle.environment.specs.declared.machine.Machine.{Machine}
 use Rattle.environment.specs.Words.{Place, place_words}
 use Rattle.snesl.specs.Transducers.{Answer, made, operands, signature}
 use Rattle.streams.specs.Answers.{answered, widest_buffer}
-use Rattle.streams.specs.declared.output.Output.{Output}
+use Rattle.streams.specs.declared.output.Failure.{Failure}
+use Rattle.streams.specs.declared.output.Failure.TheVariants as failure
 use Rattle.snesl.specs.Machine.{State, Stop, Result, went, stopped, sum_of}
 use Rattle.snesl.specs.Outcome.{refusal_of}
-use Rattle.steps.specs.declared.Executed.{Executed}
-use Rattle.steps.specs.declared.Executed.TheVariants.{Made, Stopped}
 use Rattle.steps.specs.declared.Operands.{Operands}
 use Rattle.steps.specs.declared.Spans.{Spans}
 
@@ -39,14 +41,14 @@ length_of σ s = length_in (σ ! s)
 abbrev pub place : Store → ℕ → Place
 place σ s = record { id = s; first = start_of σ s; second = length_of σ s }
 
--- next id, room, work, steps
-abbrev pub counters : State → List ℕ
-counters m = length m.store ∷ room m.store ∷ m.work ∷ m.steps ∷ []
+-- what is counted of m
+abbrev pub counters : State → Machine
+counters m = record { streams = length m.store; room = room m.store; work = m.work; steps = m.steps }
 
--- The machine m stands in this buffer and in the first four of these words. An instruction takes one step and at most two operands and one output of work,
+-- The machine m stands in this buffer and in these counters. An instruction takes one step and at most two operands and one output of work,
 -- each of which stood in the buffer.
-pub record Held (m : State) (buf : List ℤ) (state : List ℕ) : Type 0 where
-  pub words : take 4 state ≡ counters m
+pub record Held (m : State) (buf : List ℤ) (counts : Machine) : Type 0 where
+  pub counts-are : counts ≡ counters m
   pub contents-are : take (room m.store) buf ≡ contents m.store
   pub fits : room m.store ≤ length buf
   pub short : length buf ≤ widest_buffer
@@ -91,8 +93,13 @@ OperandsAt σ (k ∷ ks) (s ∷ ss) (p ∷ ps) = OperandAt σ k s p.0 p.1 × Ope
 abbrev pub span_list : Spans → List (ℕ × ℕ)
 span_list w = (w.first.start, w.first.length) ∷ (w.second.start, w.second.length) ∷ []
 
+-- both spans lie before the first free element
+abbrev pub Inside : Store → Spans → Type 0
+Inside σ w = (w.first.start + w.first.length ≤ room σ) × (w.second.start + w.second.length ≤ room σ)
+
 -- the operands of t, which carries on data of this base if it carries on any, stand in these spans, and no others are counted
 pub record Spanned (σ : Store) (t : Transducer) (w : Spans) : Type 0 where
+  pub inside : Inside σ w
   pub base : Base
   pub stand : OperandsAt σ (signature base t).inputs (operands t) (span_list w)
   pub total : w.first.length + w.second.length ≡ sum_of (map (length_of σ) (operands t))
@@ -120,24 +127,24 @@ abbrev pub keeps : Store → List ℤ → List ℤ → Type 0
 keeps σ old new = drop (room σ) new ≡ drop (room σ) old
 
 -- what the run must be ready for when it executes t; the base is that of the data that t carries on, if it carries on any
-pub record Executable (t : Transducer) (at : Operands) (env : List ℕ) (buf : List ℤ) (state : List ℕ) (m : State) : Type 0 where
-  pub held : Held m buf state
+pub record Executable (t : Transducer) (at : Operands) (env : List ℕ) (buf : List ℤ) (counts : Machine) (m : State) : Type 0 where
+  pub held : Held m buf counts
   pub base : Base
   pub placed : Placed m.store env (signature base t).inputs (operands t) (positions at)
   pub more : length m.store < most_streams
 
 -- the same where the operands' spans were read
-pub record Performable (t : Transducer) (w : Spans) (buf : List ℤ) (state : List ℕ) (m : State) : Type 0 where
-  pub held : Held m buf state
+pub record Performable (t : Transducer) (w : Spans) (buf : List ℤ) (counts : Machine) (m : State) : Type 0 where
+  pub held : Held m buf counts
   pub spanned : Spanned m.store t w
   pub more : length m.store < most_streams
 
 -- What an instruction that ends like `res` answers and leaves: how long the stream is that it made, with the machine as it is then, and the elements behind
--- the streams and the words behind the machine's as they were; or the refusal.
-pub record Performed (res : Result) (m : State) (old new : List ℤ) (before state : List ℕ) (r : Executed) : Type 0 where
+-- the streams as they were; or the refusal.
+pub record Performed (res : Result) (m : State) (old new : List ℤ) (counts : Machine) (r : Returned ℕ Refusal) : Type 0 where
   pub went_on : (m' : State) (a : Stream) → res ≡ went m' → m'.store ≡ m.store ++ a ∷ []
-      → (r ≡ Made (len a)) × Held m' new state × keeps m'.store old new × (drop 4 state ≡ drop 4 before)
-  pub gave-up : (why : Stop) (s : ℕ) → res ≡ stopped why s → r ≡ Stopped (refusal_of why s)
+      → (r ≡ Ok (len a)) × Held m' new counts × keeps m'.store old new
+  pub gave-up : (why : Stop) (s : ℕ) → res ≡ stopped why s → r ≡ Err (refusal_of why s)
 
 -- a run that stops with this refusal
 pub record Stopping (res : Result) (q : Refusal) : Type 0 where
@@ -153,28 +160,32 @@ taking Bools n = n
 taking Flags n = n
 taking Units n = 0
 
--- what the buffer must hold when t is executed at `out`
-pub record Applies (t : Transducer) (w : Spans) (out : ℕ) (buf : List ℤ) (σ : Store) : Type 0 where
+-- what must be held when t is executed: the streams, and the operands among them
+pub record Applies (t : Transducer) (w : Spans) (held : List ℤ) (σ : Store) : Type 0 where
   pub base : Base
   pub stand : OperandsAt σ (signature base t).inputs (operands t) (span_list w)
-  pub contents-are : take (room σ) buf ≡ contents σ
-  pub fits : room σ ≤ length buf
-  pub short : length buf ≤ widest_buffer
-  pub next : out ≡ room σ
+  pub inside : Inside σ w
+  pub contents-are : held ≡ contents σ
+  pub short : length held ≤ widest_buffer
 
--- What a transducer whose answer is a says at `out`, and where it made its output and there was room, what it leaves of the buffer.
-pub record Transduced (out : ℕ) (old : List ℤ) (a : Answer) (r : Output) (new : List ℤ) : Type 0 where
-  pub says : r ≡ answered (length old - out) a
-  pub wrote : (s : Stream) → a ≡ made s → length (elements s) ≤ length old - out → new ≡ written out (elements s) old
+-- What a transducer whose answer is a says where it may write to `old`, and where it made its output and there was room, what it leaves there.
+pub record Transduced (old : List ℤ) (a : Answer) (r : Returned ℕ Failure) (new : List ℤ) : Type 0 where
+  pub says : r ≡ answered (length old) a
+  pub wrote : (s : Stream) → a ≡ made s → length (elements s) ≤ length old → new ≡ elements s ++ drop (length (elements s)) old
 
--- four words that can grow by so much
-pub record Grows (state : List ℕ) (room work steps : ℕ) : Type 0 where
-  pub four : 4 ≤ length state
-  pub ids : get_or state 0 0 + 1 < 2 ^ 64
-  pub rooms : get_or state 1 0 + room < 2 ^ 64
-  pub works : get_or state 2 0 + work < 2 ^ 64
-  pub counts : get_or state 3 0 + steps < 2 ^ 64
+-- why a run stops where the stream with this id isn't made
+abbrev pub refusing : Failure → (id : ℕ) → Refusal
+refusing (failure.Unfit k) id = NoValue id
+refusing (failure.Negative k) id = NoValue id
+refusing (failure.Outside k) id = NoValue id
+refusing failure.NoRoom id = NoRoom id
 
-abbrev pub grown : List ℕ → (room work steps : ℕ) → List ℕ
-grown l room work steps =
-    (get_or l 0 0 + 1) ∷ (get_or l 1 0 + room) ∷ (get_or l 2 0 + work) ∷ (get_or l 3 0 + steps) ∷ drop 4 l
+-- counters that can grow by so much
+pub record Grows (counts : Machine) (room work steps : ℕ) : Type 0 where
+  pub ids : counts.streams + 1 < 2 ^ 64
+  pub rooms : counts.room + room < 2 ^ 64
+  pub works : counts.work + work < 2 ^ 64
+  pub steps-more : counts.steps + steps < 2 ^ 64
+
+abbrev pub grown : Machine → (room work steps : ℕ) → Machine
+grown c room work steps = record { streams = c.streams + 1; room = c.room + room; work = c.work + work; steps = c.steps + steps }

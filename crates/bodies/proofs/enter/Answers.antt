@@ -5,6 +5,7 @@ use mathlib.Core.Path.{◌∙◌}
 use native.Mathlib.Omega.{arith}
 use Rattle.leaves.proofs.Operands.{sought}
 use Rattle.bodies.proofs.Entering.{depth-some, flags-fit, items-room, usum-ready, usum-stopped, distributing, distr-stopped, enters-inside}
+use Rattle.std.proofs.lemmas.Result.{err_from_is_err_and}
 use Rattle.bodies.proofs.enter.Goals as goal
 
 pub overflow_add-x : goal.overflow_add-x
@@ -129,40 +130,44 @@ make-requires c = (
 )
 
 pub distribute-requires : goal.distribute-requires
-distribute-requires c = distributing c.requires (c.find-p.ensures (sought c.requires.scene c.requires.pointer c.requires.finds)) c.move_words.ensures _ (c.make.ensures _ _ (usum-ready c.requires (c.find-p.ensures (sought c.requires.scene c.requires.pointer c.requires.finds)) c.move_words.ensures _)) c.in-Made.is c.make.auto.buf
+distribute-requires c = distributing c.requires (c.find-p.ensures (sought c.requires.scene c.requires.pointer c.requires.finds)) c.move_words.ensures _ (c.make.ensures _ _ (usum-ready c.requires (c.find-p.ensures (sought c.requires.scene c.requires.pointer c.requires.finds)) c.move_words.ensures _)) c.in_ok-units.was c.make.auto.buf
 
-pub overflow_add-p-in-Bound : goal.overflow_add-p-in-Bound
-overflow_add-p-in-Bound c = omega (
+pub overflow_add-p-3 : goal.overflow_add-p-3
+overflow_add-p-3 c = omega (
   arith,
   c.well_formed.1.1.1.1.0.0,
   flags-fit c.requires (c.find-p.ensures (sought c.requires.scene c.requires.pointer c.requires.finds)),
 )
 
-pub bind_items-requires : goal.bind_items-requires
-bind_items-requires c = items-room c.requires (c.find-p.ensures (sought c.requires.scene c.requires.pointer c.requires.finds)) (c.distribute.auto.env ∙ c.move_words.auto.env)
+pub bind_items-inner-requires : goal.bind_items-inner-requires
+bind_items-inner-requires c = items-room c.requires (c.find-p.ensures (sought c.requires.scene c.requires.pointer c.requires.finds)) (c.distribute.auto.env ∙ c.move_words.auto.env)
 
-pub shape_of-env-in-Bound : goal.shape_of-env-in-Bound
-shape_of-env-in-Bound c = c.bind_items.auto.env ∙ (c.distribute.auto.env ∙ c.move_words.auto.env)
+pub shape_of-env : goal.shape_of-env
+shape_of-env c = c.bind_items-inner.auto.env ∙ (c.distribute.auto.env ∙ c.move_words.auto.env)
 
-pub returns-in-Bound : goal.returns-in-Bound
-returns-in-Bound c = λ g. enters-inside g
+pub returns : goal.returns
+returns c = λ g. enters-inside g
     (c.find-p.ensures (sought g.scene g.pointer g.finds)) c.move_words.ensures _
     (c.make.ensures _ _ (usum-ready g
-    (c.find-p.ensures (sought g.scene g.pointer g.finds)) c.move_words.ensures _)) c.in-Made.is c.make.auto.buf
+    (c.find-p.ensures (sought g.scene g.pointer g.finds)) c.move_words.ensures _)) c.in_ok-units.was c.make.auto.buf
     (c.distribute.ensures (distributing g
     (c.find-p.ensures (sought g.scene g.pointer g.finds)) c.move_words.ensures _
     (c.make.ensures _ _ (usum-ready g
-    (c.find-p.ensures (sought g.scene g.pointer g.finds)) c.move_words.ensures _)) c.in-Made.is c.make.auto.buf)) c.in-Bound.is c.distribute.auto.env c.bind_items.ensures.0 c.bind_items.ensures.1
+    (c.find-p.ensures (sought g.scene g.pointer g.finds)) c.move_words.ensures _)) c.in_ok-units.was c.make.auto.buf)) c.in_ok-distribute.was c.distribute.auto.env c.bind_items-inner.ensures.0 c.bind_items-inner.ensures.1
 
-pub returns-in-Stopped-distribute : goal.returns-in-Stopped-distribute
-returns-in-Stopped-distribute c = λ g. distr-stopped g
+pub returns-in_err-distribute : goal.returns-in_err-distribute
+returns-in_err-distribute c = λ g.
+    let p = err_from_is_err_and c.from_residual-in_err-distribute.result c.from_residual-in_err-distribute.ensures.1 in rw (p.1, p.2)
+    (distr-stopped g
     (c.find-p.ensures (sought g.scene g.pointer g.finds)) c.move_words.ensures _
     (c.make.ensures _ _ (usum-ready g
-    (c.find-p.ensures (sought g.scene g.pointer g.finds)) c.move_words.ensures _)) c.in-Made.is c.make.auto.buf
+    (c.find-p.ensures (sought g.scene g.pointer g.finds)) c.move_words.ensures _)) c.in_ok-units.was c.make.auto.buf
     (c.distribute.ensures (distributing g
     (c.find-p.ensures (sought g.scene g.pointer g.finds)) c.move_words.ensures _
     (c.make.ensures _ _ (usum-ready g
-    (c.find-p.ensures (sought g.scene g.pointer g.finds)) c.move_words.ensures _)) c.in-Made.is c.make.auto.buf)) c.in-Stopped-distribute.is
+    (c.find-p.ensures (sought g.scene g.pointer g.finds)) c.move_words.ensures _)) c.in_ok-units.was c.make.auto.buf)) c.in_err-distribute.was)
 
-pub returns-in-Stopped : goal.returns-in-Stopped
-returns-in-Stopped c = λ g. usum-stopped g (c.find-p.ensures (sought g.scene g.pointer g.finds)) c.move_words.ensures _ (c.make.ensures _ _ (usum-ready g (c.find-p.ensures (sought g.scene g.pointer g.finds)) c.move_words.ensures _)) c.in-Stopped.is
+pub returns-in_err-units : goal.returns-in_err-units
+returns-in_err-units c = λ g.
+    let p = err_from_is_err_and c.from_residual.result c.from_residual.ensures.1 in rw (p.1, p.2)
+    (usum-stopped g (c.find-p.ensures (sought g.scene g.pointer g.finds)) c.move_words.ensures _ (c.make.ensures _ _ (usum-ready g (c.find-p.ensures (sought g.scene g.pointer g.finds)) c.move_words.ensures _)) c.in_err-units.was)

@@ -3,6 +3,7 @@ use Prim.Native.Nat.{◌-◌}
 use native.Mathlib.Omega.{arith}
 use Rattle.leaves.proofs.Operands.{sought}
 use Rattle.bodies.proofs.Distributing.{spread-ready, spread-push, spread-made, spread-stopped}
+use Rattle.std.proofs.lemmas.Result.{err_from_is_err_and}
 use Rattle.bodies.proofs.spread_one.Goals as goal
 
 pub find-p-requires : goal.find-p-requires
@@ -58,7 +59,7 @@ overflow_add-to c = omega (
 )
 
 pub push-requires : goal.push-requires
-push-requires c = let q = spread-push c.requires (c.find-p.ensures (sought c.requires.scene c.requires.pointer c.requires.finds)) _ (c.make.ensures _ _ (spread-ready c.requires (c.find-p.ensures (sought c.requires.scene c.requires.pointer c.requires.finds)))) c.in-Made.is in (
+push-requires c = let q = spread-push c.requires (c.find-p.ensures (sought c.requires.scene c.requires.pointer c.requires.finds)) _ (c.make.ensures _ _ (spread-ready c.requires (c.find-p.ensures (sought c.requires.scene c.requires.pointer c.requires.finds)))) c.in_ok-made.was in (
   omega arith,
   omega (
     arith,
@@ -70,11 +71,12 @@ push-requires c = let q = spread-push c.requires (c.find-p.ensures (sought c.req
   q.1,
   q.2,
   q.3,
-  q.4,
 )
 
-pub returns-in-Made : goal.returns-in-Made
-returns-in-Made c = λ g. spread-made g (c.find-p.ensures (sought g.scene g.pointer g.finds)) _ (c.make.ensures _ _ (spread-ready g (c.find-p.ensures (sought g.scene g.pointer g.finds)))) c.in-Made.is c.put_name.ensures c.push.ensures
+pub returns : goal.returns
+returns c = λ g. spread-made g (c.find-p.ensures (sought g.scene g.pointer g.finds)) _ (c.make.ensures _ _ (spread-ready g (c.find-p.ensures (sought g.scene g.pointer g.finds)))) c.in_ok-made.was c.put_name.ensures c.push.ensures
 
-pub returns-in-Stopped : goal.returns-in-Stopped
-returns-in-Stopped c = λ g. spread-stopped g (c.find-p.ensures (sought g.scene g.pointer g.finds)) _ (c.make.ensures _ _ (spread-ready g (c.find-p.ensures (sought g.scene g.pointer g.finds)))) c.in-Stopped.is
+pub returns-in_err-made : goal.returns-in_err-made
+returns-in_err-made c = λ g.
+    let p = err_from_is_err_and c.from_residual.result c.from_residual.ensures.1 in rw (p.1, p.2)
+    (spread-stopped g (c.find-p.ensures (sought g.scene g.pointer g.finds)) _ (c.make.ensures _ _ (spread-ready g (c.find-p.ensures (sought g.scene g.pointer g.finds)))) c.in_err-made.was)

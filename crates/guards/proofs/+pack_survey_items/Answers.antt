@@ -1,24 +1,14 @@
 -- A tree's packing, and the survey of one (proofs/Items.antt, Surveys.antt).
 use mathlib.Core.Path.{refl, ◌∙◌}
 use native.Mathlib.Omega.{arith}
+use borrow.Author.Rules.{rules}
 use Rattle.guards.proofs.Items.{leaf-ready, leaf-ends, node-ready, low-three, items-ready, again-ready, close-ready, level-stopped, node-stopped, node-whole}
-use Rattle.guards.proofs.Surveys.{five-words, some-streams, no_line, survey-ready, open-ready, line-told, never-stops}
+use Rattle.guards.proofs.Surveys.{some-streams, no_line, survey-ready, open-ready, line-told, never-stops}
+use Rattle.std.proofs.lemmas.Result.{err_from_is_err_and}
 use Rattle.guards.proofs.+pack_survey_items.Goals as goal
 
 pub pack-pack_data-requires : goal.pack-pack_data-requires
 pack-pack_data-requires t c = leaf-ready c.requires c.if-p-eq0.true
-
-pub pack-shape_of-env-then-p-eq0 : goal.pack-shape_of-env-then-p-eq0
-pack-shape_of-env-then-p-eq0 t c = c.pack_data.auto.env
-
-pub pack-shape_of-buf-then-p-eq0 : goal.pack-shape_of-buf-then-p-eq0
-pack-shape_of-buf-then-p-eq0 t c = c.pack_data.auto.buf
-
-pub pack-shape_of-state-then-p-eq0 : goal.pack-shape_of-state-then-p-eq0
-pack-shape_of-state-then-p-eq0 t c = c.pack_data.auto.state
-
-pub pack-shape_of-text-then-p-eq0 : goal.pack-shape_of-text-then-p-eq0
-pack-shape_of-text-then-p-eq0 t c = c.pack_data.auto.text
 
 pub pack-returns-then-p-eq0 : goal.pack-returns-then-p-eq0
 pack-returns-then-p-eq0 t c = leaf-ends c.pack_data.ensures c.if-p-eq0.true
@@ -42,7 +32,7 @@ pack-survey_items-requires t c = (
     c.requires,
     (low-three c.requires c.if-p-eq0.false).0,
   ),
-  items-ready c.pack_level.ensures c.if-p-eq0.false c.in-Made.is c.requires,
+  items-ready c.pack_level.ensures c.if-p-eq0.false c.in_ok-units.was c.requires,
 )
 
 pub pack-pack-requires : goal.pack-pack-requires
@@ -52,65 +42,27 @@ pack-pack-requires t c = (
     c.requires,
     (low-three c.requires c.if-p-eq0.false).0,
   ),
-  again-ready c.pack_level.ensures c.if-p-eq0.false c.in-Made.is c.survey_items.ensures c.survey_items.auto.env c.requires,
+  again-ready c.pack_level.ensures c.if-p-eq0.false c.in_ok-units.was c.survey_items.ensures c.survey_items.auto.env c.requires,
 )
 
 pub pack-tell-requires : goal.pack-tell-requires
-pack-tell-requires t c = close-ready c.pack_level.ensures c.if-p-eq0.false c.in-Made.is c.survey_items.ensures c.survey_items.auto.env c.pack.ensures (c.survey_items.auto.buf ∙ c.pack_level.auto.buf) c.requires c.in-Whole.is
+pack-tell-requires t c = close-ready c.pack_level.ensures c.if-p-eq0.false c.in_ok-units.was c.survey_items.ensures c.survey_items.auto.env c.pack.ensures (c.survey_items.auto.buf ∙ c.pack_level.auto.buf) c.requires c.in_ok-pack.was
 
-pub pack-shape_of-env-in-Whole : goal.pack-shape_of-env-in-Whole
-pack-shape_of-env-in-Whole t c = c.pack.auto.env ∙ (c.survey_items.auto.env ∙ c.pack_level.auto.env)
+pub pack-returns : goal.pack-returns
+pack-returns t c = node-whole c.pack_level.ensures c.if-p-eq0.false c.in_ok-units.was c.survey_items.ensures c.survey_items.auto.env c.pack.ensures (c.survey_items.auto.buf ∙ c.pack_level.auto.buf) c.in_ok-pack.was c.tell.ensures
 
-pub pack-shape_of-buf-in-Whole : goal.pack-shape_of-buf-in-Whole
-pack-shape_of-buf-in-Whole t c = c.pack.auto.buf ∙ (c.survey_items.auto.buf ∙ c.pack_level.auto.buf)
+pub pack-returns-in_err-pack : goal.pack-returns-in_err-pack
+pack-returns-in_err-pack t c =
+    let p = err_from_is_err_and c.from_residual-in_err-pack.result c.from_residual-in_err-pack.ensures.1 in rw (p.1, p.2)
+    (node-stopped c.pack_level.ensures c.if-p-eq0.false c.in_ok-units.was c.survey_items.ensures c.survey_items.auto.env c.pack.ensures (c.survey_items.auto.buf ∙ c.pack_level.auto.buf) c.in_err-pack.was)
 
-pub pack-shape_of-state-in-Whole : goal.pack-shape_of-state-in-Whole
-pack-shape_of-state-in-Whole t c = c.tell.auto.state ∙ (c.pack.auto.state ∙ (c.survey_items.auto.state ∙ c.pack_level.auto.state))
+pub pack-returns-in_err-units : goal.pack-returns-in_err-units
+pack-returns-in_err-units t c =
+    let p = err_from_is_err_and c.from_residual.result c.from_residual.ensures.1 in rw (p.1, p.2)
+    (level-stopped c.pack_level.ensures c.if-p-eq0.false c.in_err-units.was)
 
-pub pack-shape_of-text-in-Whole : goal.pack-shape_of-text-in-Whole
-pack-shape_of-text-in-Whole t c = c.tell.auto.text ∙ (c.pack.auto.text ∙ (c.survey_items.auto.text ∙ c.pack_level.auto.text))
-
-pub pack-returns-in-Whole : goal.pack-returns-in-Whole
-pack-returns-in-Whole t c = node-whole c.pack_level.ensures c.if-p-eq0.false c.in-Made.is c.survey_items.ensures c.survey_items.auto.env c.pack.ensures (c.survey_items.auto.buf ∙ c.pack_level.auto.buf) c.in-Whole.is c.tell.ensures
-
-pub pack-shape_of-env-in-Stopped-pack : goal.pack-shape_of-env-in-Stopped-pack
-pack-shape_of-env-in-Stopped-pack t c = c.pack.auto.env ∙ (c.survey_items.auto.env ∙ c.pack_level.auto.env)
-
-pub pack-shape_of-buf-in-Stopped-pack : goal.pack-shape_of-buf-in-Stopped-pack
-pack-shape_of-buf-in-Stopped-pack t c = c.pack.auto.buf ∙ (c.survey_items.auto.buf ∙ c.pack_level.auto.buf)
-
-pub pack-shape_of-state-in-Stopped-pack : goal.pack-shape_of-state-in-Stopped-pack
-pack-shape_of-state-in-Stopped-pack t c = c.pack.auto.state ∙ (c.survey_items.auto.state ∙ c.pack_level.auto.state)
-
-pub pack-shape_of-text-in-Stopped-pack : goal.pack-shape_of-text-in-Stopped-pack
-pack-shape_of-text-in-Stopped-pack t c = c.pack.auto.text ∙ (c.survey_items.auto.text ∙ c.pack_level.auto.text)
-
-pub pack-returns-in-Stopped-pack : goal.pack-returns-in-Stopped-pack
-pack-returns-in-Stopped-pack t c = node-stopped c.pack_level.ensures c.if-p-eq0.false c.in-Made.is c.survey_items.ensures c.survey_items.auto.env c.pack.ensures (c.survey_items.auto.buf ∙ c.pack_level.auto.buf) c.in-Stopped-pack.is
-
-pub pack-shape_of-env-in-Stopped : goal.pack-shape_of-env-in-Stopped
-pack-shape_of-env-in-Stopped t c = c.pack_level.auto.env
-
-pub pack-shape_of-buf-in-Stopped : goal.pack-shape_of-buf-in-Stopped
-pack-shape_of-buf-in-Stopped t c = c.pack_level.auto.buf
-
-pub pack-shape_of-state-in-Stopped : goal.pack-shape_of-state-in-Stopped
-pack-shape_of-state-in-Stopped t c = c.pack_level.auto.state
-
-pub pack-shape_of-text-in-Stopped : goal.pack-shape_of-text-in-Stopped
-pack-shape_of-text-in-Stopped t c = c.pack_level.auto.text
-
-pub pack-returns-in-Stopped : goal.pack-returns-in-Stopped
-pack-returns-in-Stopped t c = level-stopped c.pack_level.ensures c.if-p-eq0.false c.in-Stopped.is
-
-pub survey_items-bounds-state-4 : goal.survey_items-bounds-state-4
-survey_items-bounds-state-4 t c = omega (arith, five-words c.requires.6.sunk)
-
-pub survey_items-returns-then-state-ne-LISTING : goal.survey_items-returns-then-state-ne-LISTING
-survey_items-returns-then-state-ne-LISTING t c = λ d t b e m k g. no_line g c.if-state-ne-LISTING.true
-
-pub survey_items-bounds-state-0 : goal.survey_items-bounds-state-0
-survey_items-bounds-state-0 t c = omega (arith, five-words c.requires.6.sunk)
+pub survey_items-returns-then-ne : goal.survey_items-returns-then-ne
+survey_items-returns-then-ne t c = λ d t b e m k g. no_line g (search rules)
 
 pub survey_items-overflow_sub-control : goal.survey_items-overflow_sub-control
 survey_items-overflow_sub-control t c = omega (arith, some-streams c.requires.6)
@@ -128,40 +80,16 @@ survey_items-pack-requires t c = (
     _,
     _,
     _,
-    survey-ready c.requires.6 c.if-state-ne-LISTING.false c.begin_survey.ensures,
+    survey-ready c.requires.6 (search rules) c.begin_survey.ensures,
   ),
 )
 
 pub survey_items-open_body-requires : goal.survey_items-open_body-requires
-survey_items-open_body-requires t c = open-ready c.requires.6 c.if-state-ne-LISTING.false c.begin_survey.ensures (c.pack.ensures _ _ _ _ _
-    _ (survey-ready c.requires.6 c.if-state-ne-LISTING.false c.begin_survey.ensures)) c.pack.auto.env
+survey_items-open_body-requires t c = open-ready c.requires.6 (search rules) c.begin_survey.ensures (c.pack.ensures _ _ _ _ _
+    _ (survey-ready c.requires.6 (search rules) c.begin_survey.ensures)) c.pack.auto.env
 
-pub survey_items-shape_of-env-in-Whole : goal.survey_items-shape_of-env-in-Whole
-survey_items-shape_of-env-in-Whole t c = c.pack.auto.env
+pub survey_items-returns-then-is_ok : goal.survey_items-returns-then-is_ok
+survey_items-returns-then-is_ok t c = λ d t b e m k g. line-told g (search rules) c.begin_survey.ensures (c.pack.ensures _ _ _ _ _ _ (survey-ready g (search rules) c.begin_survey.ensures)) c.pack.auto.env refl c.open_body.ensures
 
-pub survey_items-shape_of-buf-in-Whole : goal.survey_items-shape_of-buf-in-Whole
-survey_items-shape_of-buf-in-Whole t c = c.pack.auto.buf
-
-pub survey_items-shape_of-state-in-Whole : goal.survey_items-shape_of-state-in-Whole
-survey_items-shape_of-state-in-Whole t c = c.open_body.auto.state ∙ (c.pack.auto.state ∙ c.begin_survey.auto.state)
-
-pub survey_items-shape_of-text-in-Whole : goal.survey_items-shape_of-text-in-Whole
-survey_items-shape_of-text-in-Whole t c = c.open_body.auto.text ∙ c.pack.auto.text
-
-pub survey_items-returns-in-Whole : goal.survey_items-returns-in-Whole
-survey_items-returns-in-Whole t c = λ d t b e m k g. line-told g c.if-state-ne-LISTING.false c.begin_survey.ensures (c.pack.ensures _ _ _ _ _ _ (survey-ready g c.if-state-ne-LISTING.false c.begin_survey.ensures)) c.pack.auto.env refl c.open_body.ensures
-
-pub survey_items-shape_of-env-in-Stopped : goal.survey_items-shape_of-env-in-Stopped
-survey_items-shape_of-env-in-Stopped t c = c.pack.auto.env
-
-pub survey_items-shape_of-buf-in-Stopped : goal.survey_items-shape_of-buf-in-Stopped
-survey_items-shape_of-buf-in-Stopped t c = c.pack.auto.buf
-
-pub survey_items-shape_of-state-in-Stopped : goal.survey_items-shape_of-state-in-Stopped
-survey_items-shape_of-state-in-Stopped t c = c.pack.auto.state ∙ c.begin_survey.auto.state
-
-pub survey_items-shape_of-text-in-Stopped : goal.survey_items-shape_of-text-in-Stopped
-survey_items-shape_of-text-in-Stopped t c = c.pack.auto.text
-
-pub survey_items-returns-in-Stopped : goal.survey_items-returns-in-Stopped
-survey_items-returns-in-Stopped t c = λ d t b e m k g. never-stops g c.if-state-ne-LISTING.false c.begin_survey.ensures (c.pack.ensures _ _ _ _ _ _ (survey-ready g c.if-state-ne-LISTING.false c.begin_survey.ensures)) c.in-Stopped.is
+pub survey_items-returns-else-is_ok : goal.survey_items-returns-else-is_ok
+survey_items-returns-else-is_ok t c = λ d t b e m k g. never-stops g (search rules) c.begin_survey.ensures (c.pack.ensures _ _ _ _ _ _ (survey-ready g (search rules) c.begin_survey.ensures)) c.if-is_ok.ensures.value

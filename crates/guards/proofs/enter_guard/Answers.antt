@@ -1,6 +1,7 @@
 -- The flags' place and units, and the entries of the listed variables (proofs/Entering.antt).
 use native.Mathlib.Omega.{arith}
 use Rattle.guards.proofs.Entering.{guard-sought, naming, room-enough, bools-within, asks, flags-refused, lists, packs-refused, guard-entered}
+use Rattle.std.proofs.lemmas.Result.{err_from_is_err_and}
 use Rattle.guards.proofs.enter_guard.Goals as goal
 
 pub overflow_add-bools : goal.overflow_add-bools
@@ -21,27 +22,29 @@ pack_listed-requires c = let g = c.requires in
     let a = c.count_true.ensures _ _ _ (asks g e) in
     let l = c.count_true.auto.buf in
     let w = c.listed_words.ensures (naming g) in
-    lists g e _ a c.in-Made.is l w
+    lists g e _ a c.in_ok-units.was l w
 
-pub returns-in-Whole : goal.returns-in-Whole
-returns-in-Whole c = λ g.
+pub returns : goal.returns
+returns c = λ g.
     let e = c.find-bools.ensures (guard-sought g) in
     let a = c.count_true.ensures _ _ _ (asks g e) in
-    let u = c.in-Made.is in
+    let u = c.in_ok-units.was in
     let l = c.count_true.auto.buf in
     let w = c.listed_words.ensures (naming g) in
-    guard-entered g e _ a u l w (c.pack_listed.ensures (lists g e _ a u l w)) c.in-Whole.is c.pack_listed.auto.env
+    guard-entered g e _ a u l w (c.pack_listed.ensures (lists g e _ a u l w)) c.in_ok-pack_listed.was c.pack_listed.auto.env
 
-pub returns-in-Stopped-pack_listed : goal.returns-in-Stopped-pack_listed
-returns-in-Stopped-pack_listed c = λ g.
-    let e = c.find-bools.ensures (guard-sought g) in
+pub returns-in_err-pack_listed : goal.returns-in_err-pack_listed
+returns-in_err-pack_listed c = λ g.
+    let p = err_from_is_err_and c.from_residual-in_err-pack_listed.result c.from_residual-in_err-pack_listed.ensures.1 in rw (p.1, p.2)
+    (let e = c.find-bools.ensures (guard-sought g) in
     let a = c.count_true.ensures _ _ _ (asks g e) in
-    let u = c.in-Made.is in
+    let u = c.in_ok-units.was in
     let l = c.count_true.auto.buf in
     let w = c.listed_words.ensures (naming g) in
-    packs-refused g e _ a u l w (c.pack_listed.ensures (lists g e _ a u l w)) c.in-Stopped-pack_listed.is
+    packs-refused g e _ a u l w (c.pack_listed.ensures (lists g e _ a u l w)) c.in_err-pack_listed.was)
 
-pub returns-in-Stopped : goal.returns-in-Stopped
-returns-in-Stopped c = λ g.
-    let e = c.find-bools.ensures (guard-sought g) in
-    flags-refused g e _ (c.count_true.ensures _ _ _ (asks g e)) c.in-Stopped.is
+pub returns-in_err-units : goal.returns-in_err-units
+returns-in_err-units c = λ g.
+    let p = err_from_is_err_and c.from_residual.result c.from_residual.ensures.1 in rw (p.1, p.2)
+    (let e = c.find-bools.ensures (guard-sought g) in
+    flags-refused g e _ (c.count_true.ensures _ _ _ (asks g e)) c.in_err-units.was)

@@ -1,6 +1,7 @@
 -- One instruction (proofs/Data.antt).
 use native.Mathlib.Omega.{arith}
 use Rattle.guards.proofs.Data.{data-ready, data-stopped, data-whole}
+use Rattle.std.proofs.lemmas.Result.{err_from_is_err_and}
 use Rattle.guards.proofs.pack_data.Goals as goal
 
 pub bounds-env-b : goal.bounds-env-b
@@ -23,32 +24,10 @@ put-requires c = (
       c.requires.5,
 )
 
-pub shape_of-env-in-Made : goal.shape_of-env-in-Made
-shape_of-env-in-Made c = c.put.auto.env
+pub returns : goal.returns
+returns c = λ s b e m k g. data-whole g _ (c.put.ensures _ _ (data-ready g)) c.in_ok-put.was
 
-pub shape_of-buf-in-Made : goal.shape_of-buf-in-Made
-shape_of-buf-in-Made c = c.put.auto.buf
-
-pub shape_of-state-in-Made : goal.shape_of-state-in-Made
-shape_of-state-in-Made c = c.put.auto.state
-
-pub shape_of-text-in-Made : goal.shape_of-text-in-Made
-shape_of-text-in-Made c = c.put.auto.text
-
-pub returns-in-Made : goal.returns-in-Made
-returns-in-Made c = λ s b e m k g. data-whole g _ (c.put.ensures _ _ (data-ready g)) c.in-Made.is
-
-pub shape_of-env-in-Stopped : goal.shape_of-env-in-Stopped
-shape_of-env-in-Stopped c = c.put.auto.env
-
-pub shape_of-buf-in-Stopped : goal.shape_of-buf-in-Stopped
-shape_of-buf-in-Stopped c = c.put.auto.buf
-
-pub shape_of-state-in-Stopped : goal.shape_of-state-in-Stopped
-shape_of-state-in-Stopped c = c.put.auto.state
-
-pub shape_of-text-in-Stopped : goal.shape_of-text-in-Stopped
-shape_of-text-in-Stopped c = c.put.auto.text
-
-pub returns-in-Stopped : goal.returns-in-Stopped
-returns-in-Stopped c = λ s b e m k g. data-stopped g _ (c.put.ensures _ _ (data-ready g)) c.in-Stopped.is
+pub returns-in_err-put : goal.returns-in_err-put
+returns-in_err-put c = λ s b e m k g.
+    let p = err_from_is_err_and c.from_residual.result c.from_residual.ensures.1 in rw (p.1, p.2)
+    (data-stopped g _ (c.put.ensures _ _ (data-ready g)) c.in_err-put.was)

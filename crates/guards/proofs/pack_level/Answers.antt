@@ -3,6 +3,7 @@ use mathlib.Core.Path.{◌∙◌}
 use Prim.Native.Nat.{◌+◌, ◌*◌}
 use native.Mathlib.Omega.{arith}
 use Rattle.guards.proofs.Levels.{flags-within, low-enough, packs-fit, first-ready, second-ready, third-ready, first-stopped, second-stopped, level-ends}
+use Rattle.std.proofs.lemmas.Result.{err_from_is_err_and}
 use Rattle.guards.proofs.pack_level.Goals as goal
 
 pub overflow_mul-f : goal.overflow_mul-f
@@ -42,11 +43,11 @@ overflow_sub-p c = omega (
   low-enough c.requires.7,
 )
 
-pub put-requires-in-Made : goal.put-requires-in-Made
-put-requires-in-Made c = (
+pub put-requires-2 : goal.put-requires-2
+put-requires-2 c = (
   _,
   _,
-  second-ready c.requires.7 _ (c.put.ensures _ _ (first-ready c.requires.7)) c.in-Made.is,
+  second-ready c.requires.7 _ (c.put.ensures _ _ (first-ready c.requires.7)) c.in_ok-put.was,
 )
 
 pub make-requires : goal.make-requires
@@ -54,55 +55,22 @@ make-requires c = (
   _,
   _,
   third-ready c.requires.7 _
-      (c.put.ensures _ _ (first-ready c.requires.7)) c.in-Made.is c.put.auto.buf (c.put-in-Made.ensures _ _ (second-ready c.requires.7 _ (c.put.ensures _ _ (first-ready c.requires.7)) c.in-Made.is)) c.in-Made-put.is,
+      (c.put.ensures _ _ (first-ready c.requires.7)) c.in_ok-put.was c.put.auto.buf (c.put-2.ensures _ _ (second-ready c.requires.7 _ (c.put.ensures _ _ (first-ready c.requires.7)) c.in_ok-put.was)) c.in_ok-put-2.was,
 )
 
-pub shape_of-env-in-Made-put : goal.shape_of-env-in-Made-put
-shape_of-env-in-Made-put c = c.put-in-Made.auto.env ∙
-    c.put.auto.env
+pub returns : goal.returns
+returns c = λ d t f b e m k g. level-ends g _ (c.put.ensures _ _ (first-ready g)) c.in_ok-put.was c.put.auto.buf
+    (c.put-2.ensures _ _ (second-ready g _ (c.put.ensures _ _ (first-ready g)) c.in_ok-put.was)) c.in_ok-put-2.was (c.put-2.auto.buf ∙ c.put.auto.buf)
+    (c.make.ensures _ _ (third-ready g _ (c.put.ensures _ _ (first-ready g)) c.in_ok-put.was c.put.auto.buf
+    (c.put-2.ensures _ _ (second-ready g _ (c.put.ensures _ _ (first-ready g)) c.in_ok-put.was)) c.in_ok-put-2.was))
 
-pub shape_of-buf-in-Made-put : goal.shape_of-buf-in-Made-put
-shape_of-buf-in-Made-put c = c.make.auto.buf ∙ (c.put-in-Made.auto.buf ∙ c.put.auto.buf)
+pub returns-in_err-put-2 : goal.returns-in_err-put-2
+returns-in_err-put-2 c = λ d t f b e m k g.
+    let p = err_from_is_err_and c.from_residual-in_err-put-2.result c.from_residual-in_err-put-2.ensures.1 in rw (p.1, p.2)
+    (second-stopped g _ (c.put.ensures _ _ (first-ready g)) c.in_ok-put.was c.put.auto.buf (c.put-2.ensures _ _
+    (second-ready g _ (c.put.ensures _ _ (first-ready g)) c.in_ok-put.was)) c.in_err-put-2.was)
 
-pub shape_of-state-in-Made-put : goal.shape_of-state-in-Made-put
-shape_of-state-in-Made-put c = c.make.auto.state ∙ (c.put-in-Made.auto.state ∙ c.put.auto.state)
-
-pub shape_of-text-in-Made-put : goal.shape_of-text-in-Made-put
-shape_of-text-in-Made-put c = c.make.auto.text ∙ (c.put-in-Made.auto.text ∙ c.put.auto.text)
-
-pub returns-in-Made-put : goal.returns-in-Made-put
-returns-in-Made-put c = λ d t f b e m k g. level-ends g _ (c.put.ensures _ _ (first-ready g)) c.in-Made.is c.put.auto.buf
-    (c.put-in-Made.ensures _ _ (second-ready g _ (c.put.ensures _ _ (first-ready g)) c.in-Made.is)) c.in-Made-put.is (c.put-in-Made.auto.buf ∙ c.put.auto.buf)
-    (c.make.ensures _ _ (third-ready g _ (c.put.ensures _ _ (first-ready g)) c.in-Made.is c.put.auto.buf
-    (c.put-in-Made.ensures _ _ (second-ready g _ (c.put.ensures _ _ (first-ready g)) c.in-Made.is)) c.in-Made-put.is))
-
-pub shape_of-env-in-Stopped-put : goal.shape_of-env-in-Stopped-put
-shape_of-env-in-Stopped-put c = c.put-in-Made.auto.env ∙ c.put.auto.env
-
-pub shape_of-buf-in-Stopped-put : goal.shape_of-buf-in-Stopped-put
-shape_of-buf-in-Stopped-put c = c.put-in-Made.auto.buf ∙ c.put.auto.buf
-
-pub shape_of-state-in-Stopped-put : goal.shape_of-state-in-Stopped-put
-shape_of-state-in-Stopped-put c = c.put-in-Made.auto.state ∙ c.put.auto.state
-
-pub shape_of-text-in-Stopped-put : goal.shape_of-text-in-Stopped-put
-shape_of-text-in-Stopped-put c = c.put-in-Made.auto.text ∙ c.put.auto.text
-
-pub returns-in-Stopped-put : goal.returns-in-Stopped-put
-returns-in-Stopped-put c = λ d t f b e m k g. second-stopped g _ (c.put.ensures _ _ (first-ready g)) c.in-Made.is c.put.auto.buf (c.put-in-Made.ensures _ _
-    (second-ready g _ (c.put.ensures _ _ (first-ready g)) c.in-Made.is)) c.in-Stopped-put.is
-
-pub shape_of-env-in-Stopped : goal.shape_of-env-in-Stopped
-shape_of-env-in-Stopped c = c.put.auto.env
-
-pub shape_of-buf-in-Stopped : goal.shape_of-buf-in-Stopped
-shape_of-buf-in-Stopped c = c.put.auto.buf
-
-pub shape_of-state-in-Stopped : goal.shape_of-state-in-Stopped
-shape_of-state-in-Stopped c = c.put.auto.state
-
-pub shape_of-text-in-Stopped : goal.shape_of-text-in-Stopped
-shape_of-text-in-Stopped c = c.put.auto.text
-
-pub returns-in-Stopped : goal.returns-in-Stopped
-returns-in-Stopped c = λ d t f b e m k g. first-stopped g _ (c.put.ensures _ _ (first-ready g)) c.in-Stopped.is
+pub returns-in_err-put : goal.returns-in_err-put
+returns-in_err-put c = λ d t f b e m k g.
+    let p = err_from_is_err_and c.from_residual.result c.from_residual.ensures.1 in rw (p.1, p.2)
+    (first-stopped g _ (c.put.ensures _ _ (first-ready g)) c.in_err-put.was)

@@ -1,13 +1,9 @@
 -- At each turn what is left to pack is known, and that with it all is done (proofs/All.antt).
-use Prim.Native.Nat.{◌+◌}
+use Prim.Native.Nat.{◌+◌, ◌-◌}
 use Rattle.snesl.specs.Records.{byte_at}
-use Rattle.bodies.proofs.Distributing.{Lengths}
 use Rattle.guards.specs.Lists.{Lists}
 use Rattle.guards.proofs.All.{Rest}
 use Rattle.guards.proofs.pack_listed.Given as goal
 
-abbrev pub invariant-loop-left : goal.invariant-loop-left
-invariant-loop-left l = ((g : Lists l.bytes (l.at + 1) (byte_at l.bytes l.at) l.q.base l.q l.initial.env l.initial.buf l.initial.state l.initial.text) → Rest g l.n l.k l.left l.to l.env l.buf l.state l.text) × Lengths l.initial.env l.initial.buf l.initial.state l.initial.text l.env l.buf l.state l.text
-
-abbrev pub decreases-loop-left : goal.decreases-loop-left
-decreases-loop-left l = l.left
+abbrev pub invariant-loop-i : goal.invariant-loop-i
+invariant-loop-i l = (g : Lists l.bytes (l.at + 1) (byte_at l.bytes l.at) l.q.base l.q l.initial.env l.initial.buf l.initial.state l.initial.text) → Rest g l.n (l.at + 1 + l.i) (byte_at l.bytes l.at - l.i) l.to l.env l.buf l.state l.text

@@ -3,6 +3,7 @@ use Prim.Native.Nat.{◌+◌}
 use mathlib.Core.Path.{◌∙◌}
 use native.Mathlib.Omega.{arith}
 use Rattle.guards.proofs.Ones.{one-sought, name-fits, depth-few, next_fits, one-ready, one-stopped, one-whole}
+use Rattle.std.proofs.lemmas.Result.{err_from_is_err_and}
 use Rattle.guards.proofs.pack_one.Goals as goal
 
 pub find-p-requires : goal.find-p-requires
@@ -59,40 +60,18 @@ overflow_mul-result c = omega (
   depth-few c.requires (c.find-p.ensures (one-sought c.requires)),
 )
 
-pub overflow_add-result-in-Whole : goal.overflow_add-result-in-Whole
-overflow_add-result-in-Whole c = omega (
+pub overflow_add-result-2 : goal.overflow_add-result-2
+overflow_add-result-2 c = omega (
   arith,
   next_fits c.requires (c.find-p.ensures (one-sought c.requires)),
   c.well_formed.1.1.1.1.0.0,
 )
 
-pub shape_of-env-in-Whole : goal.shape_of-env-in-Whole
-shape_of-env-in-Whole c = c.pack.auto.env ∙ c.put_name.auto.env
+pub returns : goal.returns
+returns c = λ g. one-whole g (c.find-p.ensures
+    (one-sought g)) c.put_name.ensures _ (c.pack.ensures _ _ _ _ _ _ (one-ready g (c.find-p.ensures (one-sought g)) c.put_name.ensures)) c.in_ok-pack.was
 
-pub shape_of-buf-in-Whole : goal.shape_of-buf-in-Whole
-shape_of-buf-in-Whole c = c.pack.auto.buf
-
-pub shape_of-state-in-Whole : goal.shape_of-state-in-Whole
-shape_of-state-in-Whole c = c.pack.auto.state
-
-pub shape_of-text-in-Whole : goal.shape_of-text-in-Whole
-shape_of-text-in-Whole c = c.pack.auto.text
-
-pub returns-in-Whole : goal.returns-in-Whole
-returns-in-Whole c = λ g. one-whole g (c.find-p.ensures
-    (one-sought g)) c.put_name.ensures _ (c.pack.ensures _ _ _ _ _ _ (one-ready g (c.find-p.ensures (one-sought g)) c.put_name.ensures)) c.in-Whole.is
-
-pub shape_of-env-in-Stopped : goal.shape_of-env-in-Stopped
-shape_of-env-in-Stopped c = c.pack.auto.env ∙ c.put_name.auto.env
-
-pub shape_of-buf-in-Stopped : goal.shape_of-buf-in-Stopped
-shape_of-buf-in-Stopped c = c.pack.auto.buf
-
-pub shape_of-state-in-Stopped : goal.shape_of-state-in-Stopped
-shape_of-state-in-Stopped c = c.pack.auto.state
-
-pub shape_of-text-in-Stopped : goal.shape_of-text-in-Stopped
-shape_of-text-in-Stopped c = c.pack.auto.text
-
-pub returns-in-Stopped : goal.returns-in-Stopped
-returns-in-Stopped c = λ g. one-stopped g (c.find-p.ensures (one-sought g)) c.put_name.ensures _ (c.pack.ensures _ _ _ _ _ _ (one-ready g (c.find-p.ensures (one-sought g)) c.put_name.ensures)) c.in-Stopped.is
+pub returns-in_err-pack : goal.returns-in_err-pack
+returns-in_err-pack c = λ g.
+    let p = err_from_is_err_and c.from_residual.result c.from_residual.ensures.1 in rw (p.1, p.2)
+    (one-stopped g (c.find-p.ensures (one-sought g)) c.put_name.ensures _ (c.pack.ensures _ _ _ _ _ _ (one-ready g (c.find-p.ensures (one-sought g)) c.put_name.ensures)) c.in_err-pack.was)

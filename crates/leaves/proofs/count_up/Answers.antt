@@ -2,12 +2,9 @@
 use Prim.Native.Nat.{◌+◌}
 use mathlib.Core.Path.{ap}
 use native.Mathlib.Omega.{arith}
-use Rattle.steps.proofs.Executing.{four-words}
 use Rattle.leaves.proofs.CountingUp.{flags-id, some_id, units-ready, units-stopped, fill-ready, ones-stopped, scan-ready, scanned}
+use Rattle.std.proofs.lemmas.Result.{err_from_is_err_and}
 use Rattle.leaves.proofs.count_up.Goals as goal
-
-pub bounds-state-0 : goal.bounds-state-0
-bounds-state-0 c = omega (arith, four-words c.requires.3.held)
 
 pub overflow_sub-a : goal.overflow_sub-a
 overflow_sub-a c = omega (arith, some_id c.args.n c.requires.3)
@@ -33,7 +30,7 @@ pub fill-requires : goal.fill-requires
 fill-requires c = (
   _,
   _,
-  fill-ready c.args.n c.requires.3 (flags-id c.args.n c.requires.3) (c.make.ensures _ _ (units-ready c.args.n c.requires.3 _ (flags-id c.args.n c.requires.3))) c.make.auto.buf c.in-Made.is,
+  fill-ready c.args.n c.requires.3 (flags-id c.args.n c.requires.3) (c.make.ensures _ _ (units-ready c.args.n c.requires.3 _ (flags-id c.args.n c.requires.3))) c.make.auto.buf c.in_ok-units.was,
 )
 
 pub overflow_add-t : goal.overflow_add-t
@@ -44,26 +41,30 @@ overflow_add-t c = omega (
   c.requires.3.few,
 )
 
-pub make-requires-in-Made-fill : goal.make-requires-in-Made-fill
-make-requires-in-Made-fill c = (
+pub make-requires-2 : goal.make-requires-2
+make-requires-2 c = (
   _,
   _,
   scan-ready c.args.n c.requires.3 (flags-id c.args.n c.requires.3)
-      (c.make.ensures _ _ (units-ready c.args.n c.requires.3 _ (flags-id c.args.n c.requires.3))) c.make.auto.buf c.in-Made.is
+      (c.make.ensures _ _ (units-ready c.args.n c.requires.3 _ (flags-id c.args.n c.requires.3))) c.make.auto.buf c.in_ok-units.was
       (c.fill.ensures _ _ (fill-ready c.args.n c.requires.3 (flags-id c.args.n c.requires.3)
-      (c.make.ensures _ _ (units-ready c.args.n c.requires.3 _ (flags-id c.args.n c.requires.3))) c.make.auto.buf c.in-Made.is)) c.in-Made-fill.is (flags-id c.args.n c.requires.3) (ap (λ i. i + 2) (flags-id c.args.n c.requires.3)),
+      (c.make.ensures _ _ (units-ready c.args.n c.requires.3 _ (flags-id c.args.n c.requires.3))) c.make.auto.buf c.in_ok-units.was)) c.in_ok-fill.was (flags-id c.args.n c.requires.3) (ap (λ i. i + 2) (flags-id c.args.n c.requires.3)),
 )
 
-pub returns-in-Made-fill : goal.returns-in-Made-fill
-returns-in-Made-fill c = λ a m k g. let f = (flags-id c.args.n g) in let
-    p = (c.make.ensures _ _ (units-ready c.args.n g _ (flags-id c.args.n g))) in let q = (c.fill.ensures _ _ (fill-ready c.args.n g (flags-id c.args.n g) (c.make.ensures _ _ (units-ready c.args.n g _ (flags-id c.args.n g))) c.make.auto.buf c.in-Made.is)) in
-    scanned c.args.n g f p c.make.auto.buf c.in-Made.is q c.in-Made-fill.is f (ap (λ i. i + 2) f) c.fill.auto.buf
-    (c.make-in-Made-fill.ensures _ _ (scan-ready c.args.n g f p c.make.auto.buf c.in-Made.is q c.in-Made-fill.is f (ap (λ i. i + 2) f)))
+pub returns : goal.returns
+returns c = λ a m k g. let f = (flags-id c.args.n g) in let
+    p = (c.make.ensures _ _ (units-ready c.args.n g _ (flags-id c.args.n g))) in let q = (c.fill.ensures _ _ (fill-ready c.args.n g (flags-id c.args.n g) (c.make.ensures _ _ (units-ready c.args.n g _ (flags-id c.args.n g))) c.make.auto.buf c.in_ok-units.was)) in
+    scanned c.args.n g f p c.make.auto.buf c.in_ok-units.was q c.in_ok-fill.was f (ap (λ i. i + 2) f) c.fill.auto.buf
+    (c.make-2.ensures _ _ (scan-ready c.args.n g f p c.make.auto.buf c.in_ok-units.was q c.in_ok-fill.was f (ap (λ i. i + 2) f)))
 
-pub returns-in-Stopped-fill : goal.returns-in-Stopped-fill
-returns-in-Stopped-fill c = λ a m k g. ones-stopped c.args.n g (flags-id c.args.n g)
-    (c.make.ensures _ _ (units-ready c.args.n g _ (flags-id c.args.n g))) c.make.auto.buf c.in-Made.is (c.fill.ensures _ _ (fill-ready c.args.n g (flags-id c.args.n g) (c.make.ensures _ _ (units-ready c.args.n g _ (flags-id c.args.n g))) c.make.auto.buf c.in-Made.is)) c.in-Stopped-fill.is
+pub returns-in_err-fill : goal.returns-in_err-fill
+returns-in_err-fill c = λ a m k g.
+    let p = err_from_is_err_and c.from_residual-in_err-fill.result c.from_residual-in_err-fill.ensures.1 in rw (p.1, p.2)
+    (ones-stopped c.args.n g (flags-id c.args.n g)
+    (c.make.ensures _ _ (units-ready c.args.n g _ (flags-id c.args.n g))) c.make.auto.buf c.in_ok-units.was (c.fill.ensures _ _ (fill-ready c.args.n g (flags-id c.args.n g) (c.make.ensures _ _ (units-ready c.args.n g _ (flags-id c.args.n g))) c.make.auto.buf c.in_ok-units.was)) c.in_err-fill.was)
 
-pub returns-in-Stopped : goal.returns-in-Stopped
-returns-in-Stopped c = λ a m k g. units-stopped c.args.n g (flags-id
-    c.args.n g) (c.make.ensures _ _ (units-ready c.args.n g _ (flags-id c.args.n g))) c.make.auto.buf c.in-Stopped.is
+pub returns-in_err-units : goal.returns-in_err-units
+returns-in_err-units c = λ a m k g.
+    let p = err_from_is_err_and c.from_residual.result c.from_residual.ensures.1 in rw (p.1, p.2)
+    (units-stopped c.args.n g (flags-id
+    c.args.n g) (c.make.ensures _ _ (units-ready c.args.n g _ (flags-id c.args.n g))) c.make.auto.buf c.in_err-units.was)

@@ -2,6 +2,7 @@
 use native.Mathlib.Omega.{arith}
 use Rattle.leaves.proofs.Operands.{sought}
 use Rattle.leaves.proofs.Iotas.{flags-ready, flags-push, flagged, iota-push, iota-runs, count-stopped, flags-stopped}
+use Rattle.std.proofs.lemmas.Result.{err_from_is_err_and}
 use Rattle.leaves.proofs.iota.Goals as goal
 
 pub find-p-requires : goal.find-p-requires
@@ -26,7 +27,7 @@ make-requires c = (
 
 pub push-requires : goal.push-requires
 push-requires c = let q = flags-push c.requires (c.find-p.ensures (sought c.requires.scene c.requires.pointer c.requires.finds)) _ (c.make.ensures _ _ (flags-ready c.requires (c.find-p.ensures (sought c.requires.scene c.requires.pointer
-    c.requires.finds)) _)) c.in-Made.is in (
+    c.requires.finds)) _)) c.in_ok-flags.was in (
       omega (
         arith,
         c.requires.low,
@@ -36,7 +37,6 @@ push-requires c = let q = flags-push c.requires (c.find-p.ensures (sought c.requ
       q.1,
       q.2,
       q.3,
-      q.4,
     )
 
 pub count_up-requires : goal.count_up-requires
@@ -44,7 +44,7 @@ count_up-requires c = (
   _,
   _,
   _,
-  flagged c.requires (c.find-p.ensures (sought c.requires.scene c.requires.pointer c.requires.finds)) _ (c.make.ensures _ _ (flags-ready c.requires (c.find-p.ensures (sought c.requires.scene c.requires.pointer c.requires.finds)) _)) c.in-Made.is c.push.ensures,
+  flagged c.requires (c.find-p.ensures (sought c.requires.scene c.requires.pointer c.requires.finds)) _ (c.make.ensures _ _ (flags-ready c.requires (c.find-p.ensures (sought c.requires.scene c.requires.pointer c.requires.finds)) _)) c.in_ok-flags.was c.push.ensures,
 )
 
 pub overflow_sub-sp : goal.overflow_sub-sp
@@ -53,15 +53,15 @@ overflow_sub-sp c = omega (
   c.requires.low,
 )
 
-pub push-requires-in-Made-count_up : goal.push-requires-in-Made-count_up
-push-requires-in-Made-count_up c = let q = iota-push c.requires
+pub push-requires-2 : goal.push-requires-2
+push-requires-2 c = let q = iota-push c.requires
     (c.find-p.ensures (sought c.requires.scene c.requires.pointer c.requires.finds)) _
     (c.make.ensures _ _ (flags-ready c.requires
-    (c.find-p.ensures (sought c.requires.scene c.requires.pointer c.requires.finds)) _)) c.in-Made.is c.push.ensures c.make.auto.buf
+    (c.find-p.ensures (sought c.requires.scene c.requires.pointer c.requires.finds)) _)) c.in_ok-flags.was c.push.ensures c.make.auto.buf
     (c.count_up.ensures _ _ _ (flagged c.requires
     (c.find-p.ensures (sought c.requires.scene c.requires.pointer c.requires.finds)) _
     (c.make.ensures _ _ (flags-ready c.requires
-    (c.find-p.ensures (sought c.requires.scene c.requires.pointer c.requires.finds)) _)) c.in-Made.is c.push.ensures)) c.in-Made-count_up.is in (
+    (c.find-p.ensures (sought c.requires.scene c.requires.pointer c.requires.finds)) _)) c.in_ok-flags.was c.push.ensures)) c.in_ok-made.was in (
       omega (
         arith,
         c.requires.low,
@@ -76,23 +76,26 @@ push-requires-in-Made-count_up c = let q = iota-push c.requires
       q.1,
       q.2,
       q.3,
-      q.4,
     )
 
-pub returns-in-Made-count_up : goal.returns-in-Made-count_up
-returns-in-Made-count_up c = λ g. iota-runs g (c.find-p.ensures (sought g.scene g.pointer g.finds)) _ (c.make.ensures _ _ (flags-ready g (c.find-p.ensures (sought g.scene g.pointer g.finds)) _)) c.in-Made.is c.push.ensures c.make.auto.buf (c.count_up.ensures _
+pub returns : goal.returns
+returns c = λ g. iota-runs g (c.find-p.ensures (sought g.scene g.pointer g.finds)) _ (c.make.ensures _ _ (flags-ready g (c.find-p.ensures (sought g.scene g.pointer g.finds)) _)) c.in_ok-flags.was c.push.ensures c.make.auto.buf (c.count_up.ensures _
     _ _ (flagged g (c.find-p.ensures (sought g.scene g.pointer g.finds))
-    _ (c.make.ensures _ _ (flags-ready g (c.find-p.ensures (sought g.scene g.pointer g.finds)) _)) c.in-Made.is c.push.ensures)) c.in-Made-count_up.is _ c.count_up.auto.env c.push-in-Made-count_up.ensures
+    _ (c.make.ensures _ _ (flags-ready g (c.find-p.ensures (sought g.scene g.pointer g.finds)) _)) c.in_ok-flags.was c.push.ensures)) c.in_ok-made.was _ c.count_up.auto.env c.push-2.ensures
 
-pub returns-in-Stopped-count_up : goal.returns-in-Stopped-count_up
-returns-in-Stopped-count_up c = λ g. count-stopped g
+pub returns-in_err-made : goal.returns-in_err-made
+returns-in_err-made c = λ g.
+    let p = err_from_is_err_and c.from_residual-in_err-made.result c.from_residual-in_err-made.ensures.1 in rw (p.1, p.2)
+    (count-stopped g
     (c.find-p.ensures (sought g.scene g.pointer g.finds)) _
     (c.make.ensures _ _ (flags-ready g
-    (c.find-p.ensures (sought g.scene g.pointer g.finds)) _)) c.in-Made.is c.push.ensures c.make.auto.buf
+    (c.find-p.ensures (sought g.scene g.pointer g.finds)) _)) c.in_ok-flags.was c.push.ensures c.make.auto.buf
     (c.count_up.ensures _ _ _ (flagged g
     (c.find-p.ensures (sought g.scene g.pointer g.finds)) _
     (c.make.ensures _ _ (flags-ready g
-    (c.find-p.ensures (sought g.scene g.pointer g.finds)) _)) c.in-Made.is c.push.ensures)) _ c.in-Stopped-count_up.is
+    (c.find-p.ensures (sought g.scene g.pointer g.finds)) _)) c.in_ok-flags.was c.push.ensures)) _ c.in_err-made.was)
 
-pub returns-in-Stopped : goal.returns-in-Stopped
-returns-in-Stopped c = λ g. flags-stopped g (c.find-p.ensures (sought g.scene g.pointer g.finds)) _ (c.make.ensures _ _ (flags-ready g (c.find-p.ensures (sought g.scene g.pointer g.finds)) _)) _ c.in-Stopped.is
+pub returns-in_err-flags : goal.returns-in_err-flags
+returns-in_err-flags c = λ g.
+    let p = err_from_is_err_and c.from_residual.result c.from_residual.ensures.1 in rw (p.1, p.2)
+    (flags-stopped g (c.find-p.ensures (sought g.scene g.pointer g.finds)) _ (c.make.ensures _ _ (flags-ready g (c.find-p.ensures (sought g.scene g.pointer g.finds)) _)) _ c.in_err-flags.was)

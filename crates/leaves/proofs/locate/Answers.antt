@@ -1,6 +1,6 @@
 -- An entry for each variable that the form names (proofs/Singles.antt).
 use native.Mathlib.Omega.{arith}
-use Rattle.leaves.proofs.Singles.{const-located, truth-located, operation-located, negation-located, sum-located, left-sought, right-sought, negation-sought, sum-sought}
+use Rattle.leaves.proofs.Singles.{constant-located, operation-located, negation-located, sum-located, left-sought, right-sought, negation-sought, sum-sought}
 use Rattle.leaves.proofs.locate.Goals as goal
 
 pub find-requires : goal.find-requires
@@ -31,10 +31,7 @@ pub overflow_add-result-in-Sum : goal.overflow_add-result-in-Sum
 overflow_add-result-in-Sum c = omega (arith, (c.find-p.ensures (sum-sought c.requires.3 c.in-Sum.is)).within)
 
 pub returns-in-Const : goal.returns-in-Const
-returns-in-Const c = λ b s t g. const-located g _ c.in-Const.is
-
-pub returns-in-Truth : goal.returns-in-Truth
-returns-in-Truth c = λ b s t g. truth-located g _ c.in-Truth.is
+returns-in-Const c = λ b s t g. constant-located g _ c.in-Const.is
 
 pub returns-in-Operation : goal.returns-in-Operation
 returns-in-Operation c = λ b s t g. operation-located g c.in-Operation.is c.find.ensures c.find-in-Operation.ensures

@@ -1,7 +1,8 @@
 -- Turn by turn, what is left to tell of all inputs is told of those that follow.
 use Prim.Native.Nat.{◌*◌, ◌-◌}
-use mathlib.Core.Logic.{inl, inr}
-use mathlib.Core.Path.{refl, ap, sym, ◌∙◌}
+use mathlib.Core.Path.{◌≡◌, refl, ap, sym, ◌∙◌}
+use Rattle.std.proofs.Common.{Err, rules}
+use Rattle.valuetext.specs.declared.storing.Unmeasured.TheVariants.{NoValue}
 use native.Mathlib.Omega.{arith}
 use borrow.Rule.Slice.PartMut.{same_len_mid}
 use lib.ListN.{length, drop, length-take, length-drop}
@@ -49,40 +50,31 @@ pub slice_bounds-measure_text-end-in-loop-i : goal.slice_bounds-measure_text-end
 slice_bounds-measure_text-end-in-loop-i c = let told = c.loop-i.invariant.1 c.requires.read.inputs c.requires.read.spans (inputs-supplied c.requires.read) in
     omega (arith, c.loop-i-test.true, told.space)
 
-pub measure_text-requires : goal.measure_text-requires
-measure_text-requires c = let told = c.loop-i.invariant.1 c.requires.read.inputs c.requires.read.spans (inputs-supplied c.requires.read) in
+pub measure_text-measured-requires : goal.measure_text-measured-requires
+measure_text-measured-requires c = let told = c.loop-i.invariant.1 c.requires.read.inputs c.requires.read.spans (inputs-supplied c.requires.read) in
     let within = bounds told c.loop-i-test.true in
     let depth = ap (λ (r : Declaration). r.depth) c.declared-input.ensures in (
       omega (arith, within.shallow, depth),
       omega (arith, within.shallow, depth, told.space, c.loop-i-test.true, length-take (length c.loop-i.counts - 9 * c.loop-i.i) (drop (9 * c.loop-i.i) c.loop-i.counts), length-drop (9 * c.loop-i.i) c.loop-i.counts),
     )
 
-pub shape_of-counts-in-No : goal.shape_of-counts-in-No
-shape_of-counts-in-No c = same_len_mid (9 * c.loop-i.i) (length c.loop-i.counts - 9 * c.loop-i.i) c.loop-i.counts c.measure_text.new.counts c.measure_text.auto.counts ∙ c.loop-i.invariant.0
-
-pub returns-in-No : goal.returns-in-No
-returns-in-No c = let none = sym c.in-No.is ∙ c.measure_text.ensures.value in
-    let back = counts-back c.declared-input.result.base c.declared-input.result.depth (text_from c.args.job.now c.loop-i.k c.text_end-next.result) c.loop-i.counts c.loop-i.i c.measure_text.ensures.counts_after in
+pub returns-then-eq : goal.returns-then-eq
+returns-then-eq c = let same : c.measure_text-measured.result ≡ Err NoValue = search rules in let none = sym same ∙ c.measure_text-measured.ensures.value in
+    let back = counts-back c.declared-input.result.base c.declared-input.result.depth (text_from c.args.job.now c.loop-i.k c.text_end-next.result) c.loop-i.counts c.loop-i.i c.measure_text-measured.ensures.counts_after in
     let base = ap (λ (r : Declaration). r.base) c.declared-input.ensures in
     let depth = ap (λ (r : Declaration). r.depth) c.declared-input.ensures in record {
       value = λ g. (told-bad (c.loop-i.invariant.1 g.inputs g.spans (inputs-supplied g)) c.loop-i-test.true c.text_end-next.result c.text_end-next.ensures base depth back none).0;
       counts_after = λ g. (told-bad (c.loop-i.invariant.1 g.inputs g.spans (inputs-supplied g)) c.loop-i-test.true c.text_end-next.result c.text_end-next.ensures base depth back none).1;
     }
 
-pub overflow_add-i : goal.overflow_add-i
-overflow_add-i c = omega (arith, c.loop-i-test.true)
-
-pub loop-i-smaller : goal.loop-i-smaller
-loop-i-smaller c = omega (arith, c.loop-i-test.true)
-
 pub loop-i-preserved : goal.loop-i-preserved
-loop-i-preserved c = let back = counts-back c.declared-input.result.base c.declared-input.result.depth (text_from c.args.job.now c.loop-i.k c.text_end-next.result) c.loop-i.counts c.loop-i.i c.measure_text.ensures.counts_after in
+loop-i-preserved c = let back = counts-back c.declared-input.result.base c.declared-input.result.depth (text_from c.args.job.now c.loop-i.k c.text_end-next.result) c.loop-i.counts c.loop-i.i c.measure_text-measured.ensures.counts_after in
     let base = ap (λ (r : Declaration). r.base) c.declared-input.ensures in
     let depth = ap (λ (r : Declaration). r.depth) c.declared-input.ensures in
-    let long = same_len_mid (9 * c.loop-i.i) (length c.loop-i.counts - 9 * c.loop-i.i) c.loop-i.counts c.measure_text.new.counts c.measure_text.auto.counts in (
+    let long = same_len_mid (9 * c.loop-i.i) (length c.loop-i.counts - 9 * c.loop-i.i) c.loop-i.counts c.measure_text-measured.new.counts c.measure_text-measured.auto.counts in (
       long ∙ c.loop-i.invariant.0,
       λ is ss s. told-on (c.loop-i.invariant.1 is ss s) c.loop-i-test.true c.text_end-next.result c.text_end-next.ensures base depth back
-          c.measure_text.result c.measure_text.ensures.value (λ e. elim c.in-Elements.is [ inl w ↦ cc (w.1) | inr w ↦ cc ]) long,
+          c.measure_text-measured.result c.measure_text-measured.ensures.value (search rules) long,
     )
 
 pub shape_of-counts : goal.shape_of-counts
