@@ -12,43 +12,37 @@ use Rattle.snesl.specs.Outcome.{Outcome, refusal, value, outcome}
 use Rattle.snesl.specs.Demands.{shows, declines, told_of, Demands}
 use Rattle.snesl.proofs.Jobs.OneAnswer.{demands-determine}
 use Rattle.lister.specs.Lists.{listed_answer}
-use Rattle.lister.specs.declared.list.Listed.TheVariants as listed
 use Rattle.sheet.specs.Runs.{told}
 use Rattle.sheet.specs.declared.Counts.{Counts}
-use Rattle.sheet.specs.declared.Ran.{Ran}
-use Rattle.sheet.specs.declared.Ran.TheVariants as ran
-use Rattle.hailspindle.specs.Replies.{Reply, accepts, refuses, noted, list_reply}
+use Rattle.std.specs.Prelude.{Result, Ok, Err}
+use Rattle.hailspindle.specs.Replies.{Reply, refuses, noted, counted_reply, list_reply}
 use Rattle.hailspindle.specs.Runs.{run_reply, told_reply, Exact, Keeps}
 
-pub list-refused : (l : listing.Listed) (r : Refusal) → listed.Refused r ≡ listed_answer l → refuses 0 r ≡ list_reply l
-list-refused (listing.unlisted s) r e = let same : r ≡ s = cc in ap (refuses 0) same
-list-refused (listing.listed text) r e = never (cc)
-
-pub list-listed : (l : listing.Listed) (n : ℕ) → listed.Length n ≡ listed_answer l → accepts (n ∷ []) ≡ list_reply l
-list-listed (listing.unlisted s) n e = never (cc)
-list-listed (listing.listed text) n e = ap (λ k. accepts (k ∷ [])) cc
+pub list_replied : (l : listing.Listed) → counted_reply (listed_answer l) ≡ list_reply l
+list_replied (listing.unlisted r) = refl
+list_replied (listing.listed text) = refl
 
 -- ---- a run: what it keeps is kept by its number and figures, and `exact` says no more than that
 
-module _ {t : List ℕ} {streams streams' : List ℤ} {answer answer' figures figures' : List ℕ} {r : Ran}
+module _ {t : List ℕ} {streams streams' : List ℤ} {answer answer' figures figures' : List ℕ} {r : Result Counts Refusal}
     (d : Demands t streams streams' answer answer' (told r)) where
-  pub refused-keeps : {n p : ℕ} (x : Refusal) → r ≡ ran.Refused x → n ≡ refusals.number x → p ≡ refusals.place x
-      → figures' ≡ noted (p ∷ 0 ∷ 0 ∷ 0 ∷ []) figures
+  pub refused-keeps : {n : ℕ} (x : Refusal) → r ≡ Err x → n ≡ refusals.number x
+      → figures' ≡ noted (refuses 3 x).figures figures
       → Keeps t streams streams' answer answer' figures figures' n
-  refused-keeps x e n p f =
+  refused-keeps x e n f =
       record {
         told = declines x;
-        demands = subst (λ (r : Ran). Demands t streams streams' answer answer' (told r)) e d;
+        demands = subst (λ (r : Result Counts Refusal). Demands t streams streams' answer answer' (told r)) e d;
         numbered = n;
-        noted-down = f ∙ ap (λ p. noted (p ∷ 0 ∷ 0 ∷ 0 ∷ []) figures) p;
+        noted-down = f;
       }
 
-  pub valued-keeps : (c : Counts) → r ≡ ran.Value c → figures' ≡ noted (c.text ∷ c.work ∷ c.steps ∷ c.room ∷ []) figures
+  pub valued-keeps : (c : Counts) → r ≡ Ok c → figures' ≡ noted (c.text ∷ c.work ∷ c.steps ∷ c.room ∷ []) figures
       → Keeps t streams streams' answer answer' figures figures' 0
   valued-keeps c e f =
       record {
         told = shows c.text c.work c.steps c.room;
-        demands = subst (λ (r : Ran). Demands t streams streams' answer answer' (told r)) e d;
+        demands = subst (λ (r : Result Counts Refusal). Demands t streams streams' answer answer' (told r)) e d;
         numbered = refl;
         noted-down = f;
       }

@@ -4,14 +4,7 @@ ghost use Rattle.hailspindle.specs.Bases.{byte_of, base_from};
 
 use snesl::code::Base;
 
-// What a byte says of a base.
-#[derive(Clone, Copy)]
-pub enum Read {
-    Known(Base),
-    No,
-}
-
-pub fn base_byte(base: Base) -> usize
+pub fn base_byte(base: Base) -> u64
     ensures { result ≡ byte_of base }
 {
     match base {
@@ -20,12 +13,12 @@ pub fn base_byte(base: Base) -> usize
     }
 }
 
-pub fn base_from(byte: u8) -> Read
+pub fn base_from(byte: u8) -> Option<Base>
     ensures { result ≡ base_from byte }
 {
     match byte {
-        0 => Read::Known(Base::Int),
-        1 => Read::Known(Base::Bool),
-        _ => Read::No,
+        0 => Some(Base::Int),
+        1 => Some(Base::Bool),
+        _ => None,
     }
 }

@@ -5,11 +5,10 @@ ghost use Rattle.lister.specs.Lists.{text_after};
 ghost use Rattle.hailspindle.specs.Replies.{noted, check_reply, list_reply, find_reply};
 
 use crate::bases::base_byte;
-use crate::figures::{one, refuse, two};
-use checking::check::{Checked, check};
+use crate::figures::{note, refuse, reply};
+use checking::check::check;
 use finder::find::locate;
-use lister::list::{Listed, list};
-use refusals::line::{number, place};
+use lister::list::list;
 
 // Two figures: the depth of the formula's type and its base, or the refusal's place and 0.
 pub fn hailspindle_check(formula: &[u8], figures: &mut [u64]) -> u64
@@ -17,17 +16,11 @@ pub fn hailspindle_check(formula: &[u8], figures: &mut [u64]) -> u64
     ensures figures_after { figures.new ≡ noted (check_reply formula.now).figures figures.old }
 {
     match check(formula) {
-        Checked::Refused(refusal) => {
-            two(figures, place(refusal), 0);
-            number(refusal)
-        }
-        Checked::Typed(named) => {
-            let levels = named.depth as usize;
-            let base = named.base;
-            let byte = base_byte(base);
-            two(figures, levels, byte);
+        Ok(found) => {
+            note(figures, &[found.depth as u64, base_byte(found.base)]);
             0
         }
+        Err(refusal) => refuse(figures, refusal, 1),
     }
 }
 
@@ -37,13 +30,8 @@ pub fn hailspindle_list(formula: &[u8], text: &mut [u8], figures: &mut [u64]) ->
     ensures figures_after { figures.new ≡ noted (list_reply (listing (length text.old) formula.now)).figures figures.old }
     ensures text_after { text.new ≡ text_after text.old (listing (length text.old) formula.now) }
 {
-    match list(formula, text) {
-        Listed::Refused(refusal) => refuse(figures, refusal),
-        Listed::Length(bytes) => {
-            one(figures, bytes);
-            0
-        }
-    }
+    let listed = list(formula, text);
+    reply(figures, listed)
 }
 
 // Two figures: where in the job the text of input number `input` starts, from 0 on, and its bytes; both 0 where there is none. Nothing is refused.
@@ -52,6 +40,6 @@ pub fn hailspindle_find(job: &[u8], input: usize, figures: &mut [u64]) -> u64
     ensures figures_after { figures.new ≡ noted (find_reply input job.now).figures figures.old }
 {
     let part = locate(job, input);
-    two(figures, part.start, part.bytes);
+    note(figures, &[part.start as u64, part.bytes as u64]);
     0
 }

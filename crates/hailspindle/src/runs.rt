@@ -1,9 +1,8 @@
 // Running a job.
 ghost use Rattle.hailspindle.specs.Runs.{Exact, Keeps};
 
-use crate::figures::four;
-use refusals::line::{number, place};
-use sheet::{Ran, run};
+use crate::figures::{note, refuse};
+use sheet::{Counts, run};
 
 // Four figures: the answer's bytes, work, steps and room, or the refusal's place and three times 0.
 pub fn hailspindle_run(
@@ -16,14 +15,19 @@ pub fn hailspindle_run(
     ensures demands { Keeps job.now streams.old streams.new answer.old answer.new figures.old figures.new result }
 {
     match run(job, streams, answer) {
-        Ran::Refused(refusal) => {
-            let at = place(refusal);
-            four(figures, at, 0, 0, 0);
-            number(refusal)
-        }
-        Ran::Value(counts) => {
-            four(figures, counts.text, counts.work, counts.steps, counts.room);
+        Ok(counts) => {
+            let Counts {
+                text,
+                work,
+                steps,
+                room,
+            } = counts;
+            note(
+                figures,
+                &[text as u64, work as u64, steps as u64, room as u64],
+            );
             0
         }
+        Err(refusal) => refuse(figures, refusal, 3),
     }
 }

@@ -4,10 +4,8 @@
 ghost use Rattle.std.specs.Prelude.{◌≡◌, length};
 ghost use Rattle.snesl.specs.Listing.{listing};
 ghost use Rattle.lister.specs.Lists.{text_after};
-ghost use Rattle.valuetext.specs.Storing.{to_streams};
-ghost use Rattle.rendering.specs.Rendering.{to_text};
 ghost use Rattle.hailspindle.specs.Bases.{base_from};
-ghost use Rattle.hailspindle.specs.Replies.{noted, check_reply, list_reply, find_reply, to_streams_by, store_reply, to_text_by, text_reply};
+ghost use Rattle.hailspindle.specs.Replies.{noted, check_reply, list_reply, find_reply, to_streams_by, to_text_by, counted_reply};
 ghost use Rattle.hailspindle.specs.Runs.{Exact, Keeps};
 
 use hailspindle::{conversions, formulas, runs};
@@ -64,8 +62,8 @@ pub extern "C" fn hailspindle_text_to_streams(
     lengths: &mut [usize],
     figures: &mut [u64],
 ) -> u64
-    ensures value { result ≡ (store_reply (to_streams_by (base_from base) text.now depth elements.old lengths.old).answer).number }
-    ensures figures_after { figures.new ≡ noted (store_reply (to_streams_by (base_from base) text.now depth elements.old lengths.old).answer).figures figures.old }
+    ensures value { result ≡ (counted_reply (to_streams_by (base_from base) text.now depth elements.old lengths.old).answer).number }
+    ensures figures_after { figures.new ≡ noted (counted_reply (to_streams_by (base_from base) text.now depth elements.old lengths.old).answer).figures figures.old }
     ensures elements_after { elements.new ≡ (to_streams_by (base_from base) text.now depth elements.old lengths.old).elements }
     ensures lengths_after { lengths.new ≡ (to_streams_by (base_from base) text.now depth elements.old lengths.old).lengths }
 {
@@ -82,8 +80,8 @@ pub extern "C" fn hailspindle_streams_to_text(
     answer: &mut [u8],
     figures: &mut [u64],
 ) -> u64
-    ensures value { result ≡ (text_reply (to_text_by (base_from base) elements.now lengths.now depth answer.old).answer).number }
-    ensures figures_after { figures.new ≡ noted (text_reply (to_text_by (base_from base) elements.now lengths.now depth answer.old).answer).figures figures.old }
+    ensures value { result ≡ (counted_reply (to_text_by (base_from base) elements.now lengths.now depth answer.old).answer).number }
+    ensures figures_after { figures.new ≡ noted (counted_reply (to_text_by (base_from base) elements.now lengths.now depth answer.old).answer).figures figures.old }
     ensures answer_after { answer.new ≡ (to_text_by (base_from base) elements.now lengths.now depth answer.old).bytes }
 {
     conversions::hailspindle_streams_to_text(elements, lengths, base, depth, answer, figures)

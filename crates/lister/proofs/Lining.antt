@@ -1,10 +1,12 @@
 -- The walk that lists: under no units it goes through, and the sink that it was told into has the lines of the expression's code.
 use Prim.Native.Nat.{ℕ, suc, ◌+◌, ◌-◌, ◌≤◌}
 use native.Mathlib.Omega.{arith}
-use mathlib.Core.List.{List, [], ◌∷◌, ◌++◌, append-nil}
+use mathlib.Core.List.{List, [], ◌++◌, append-nil}
 use mathlib.Core.Path.{◌≡◌, refl, sym, ap, ◌∙◌, subst}
+use Rattle.std.specs.Prelude.{Result, Ok}
+use Rattle.std.specs.Result.{IsOk}
 use lib.IntN.{ℤ}
-use lib.ListN.{length, get_or, take, drop, replicate, length-append}
+use lib.ListN.{length, take, drop, length-append}
 use Rattle.snesl.specs.declared.refusal.Refusal.{Refusal}
 use Rattle.snesl.specs.Limits.{most_nesting}
 use Rattle.snesl.specs.Values.{depth_of}
@@ -16,26 +18,32 @@ use Rattle.snesl.specs.Listing.{lines_of, result_line}
 use Rattle.snesl.specs.Trees.{map_tree}
 use Rattle.decimals.specs.Writing.{Writes}
 use Rattle.environment.specs.Words.{spelled, tree_words, tree_size}
-use Rattle.sink.specs.Sinks.{Sink, listing, far, feed}
-use Rattle.sink.specs.Sunk.{Sunk}
-use Rattle.sink.proofs.Sinking.{landed, at-word}
+use Rattle.environment.specs.declared.machine.Machine.{Machine}
+use Rattle.sink.specs.declared.state.Mode.TheVariants.{Listing}
+use Rattle.sink.specs.declared.state.Walk.{Walk}
+use Rattle.sink.specs.Sinks.{Sink, far, feed}
+use Rattle.sink.specs.Sunk.{Sunk, starting}
+use Rattle.sink.proofs.Sinking.{landed}
 use Rattle.sink.proofs.Feeding.{feed-listing}
 use Rattle.steps.specs.Holding.{Held, place}
 use Rattle.steps.specs.Walking.{walked}
 use Rattle.leaves.specs.Places.{places}
-use Rattle.leaves.specs.Scenes.{Scene, Left, answer, Runs}
+use Rattle.leaves.specs.Scenes.{Scene, Left, reached, answer, Runs}
 use Rattle.leaves.specs.declared.Walked.{Walked}
-use Rattle.leaves.specs.declared.Walked.TheVariants as walks
 use Rattle.runner.specs.Walks.{Ready}
 use Rattle.lister.specs.Lists.{WholeReady, Lined, whole_text}
 use Rattle.lister.proofs.Bare.{bare-contents, bare-places}
 
--- the sink of a listing that begins, and its words behind a machine whose next id is s
-abbrev beginning : List ℕ → Sink
-beginning text = record { mode = listing; text = text; at = 0; own = 0; taken = []; most = 72 }
+-- nothing is counted but so many streams
+abbrev pub counting : ℕ → Machine
+counting s = record { streams = s; room = 0; work = 0; steps = 0 }
 
-abbrev pub start : ℕ → List ℕ
-start s = s ∷ 0 ∷ 0 ∷ 0 ∷ 1 ∷ 0 ∷ 0 ∷ 0 ∷ replicate 72 0
+-- a walk whose machine has so many streams
+abbrev begun : ℕ → Walk → Walk
+begun s w = record { machine = record { streams = s; room = w.machine.room; work = w.machine.work; steps = w.machine.steps }; sink = w.sink }
+
+abbrev beginning : List ℕ → Sink
+beginning text = starting Listing text
 
 module _ {t : List ℕ} {k : ℕ} {env : List ℕ} {sp s : ℕ} (g : WholeReady t k env sp s) where
   abbrev machine : State
@@ -47,12 +55,19 @@ module _ {t : List ℕ} {k : ℕ} {env : List ℕ} {sp s : ℕ} (g : WholeReady 
   none : contents g.store ≡ []
   none = bare-contents g.bare
 
-  module _ (buf : List ℤ) (one : length buf ≡ 1) (text : List ℕ) where
-    held : Held machine buf (start s)
+  -- a new walk with the inputs' streams, at the start of the text
+  module _ {new : Walk} (none_counted : new.machine ≡ counting 0) (sunk_at : (text : List ℕ) → Sunk (beginning text) text new.sink) (text : List ℕ) where
+    abbrev w : Walk
+    w = begun s new
+
+    counts : w.machine ≡ counting s
+    counts = ap (λ (m : Machine). record { streams = s; room = m.room; work = m.work; steps = m.steps }) none_counted
+
+    held : Held machine [] w.machine
     held =
         record {
-          words = ap (λ n. n ∷ 0 ∷ 0 ∷ 0 ∷ []) (sym g.number) ∙ ap (λ l. length g.store ∷ length l ∷ 0 ∷ 0 ∷ []) (sym none);
-          contents-are = ap (λ l. take (length l) buf) none ∙ sym none;
+          counts-are = counts ∙ (ap (λ n. counting n) (sym g.number) ∙ ap (λ l. record { streams = length g.store; room = length l; work = 0; steps = 0 }) (sym none));
+          contents-are = ap (λ l. take (length l) []) none ∙ sym none;
           fits = omega (arith, ap length none);
           short = omega arith;
           few = omega (arith, g.few, g.number);
@@ -60,20 +75,7 @@ module _ {t : List ℕ} {k : ℕ} {env : List ℕ} {sp s : ℕ} (g : WholeReady 
           cheap = omega arith;
         }
 
-    sunk : Sunk (beginning text) text (start s)
-    sunk =
-        record {
-          rest = replicate 72 0;
-          words = refl;
-          whole = refl;
-          kept = omega arith;
-          small = omega arith;
-          near = omega arith;
-          text-is = refl;
-          plain = λ e. record { own = refl; taken = refl };
-        }
-
-    scene : Scene env sp buf (start s) text
+    scene : Scene env sp [] w text
     scene =
         record {
           context = g.context;
@@ -87,11 +89,11 @@ module _ {t : List ℕ} {k : ℕ} {env : List ℕ} {sp s : ℕ} (g : WholeReady 
           held = held;
           within = g.within;
           sink = beginning text;
-          sunk = sunk;
+          sunk = sunk_at text;
           wide = record { room = λ e. omega arith };
         }
 
-    pub ready : Ready t k sp env buf (start s) text
+    pub ready : Ready t k sp env [] w text
     unfolding scene
     ready =
         record {
@@ -107,23 +109,23 @@ module _ {t : List ℕ} {k : ℕ} {env : List ℕ} {sp s : ℕ} (g : WholeReady 
         }
 
     -- what the walk has left
-    module _ {env₁ : List ℕ} {buf₁ : List ℤ} {state₁ text₁ : List ℕ} {r : Walked}
-        (F : (h : Ready t k sp env buf (start s) text) → Runs h.scene h.term 0 h.next env₁ buf₁ state₁ text₁ r) where
+    module _ {env₁ : List ℕ} {buf₁ : List ℤ} {state₁ : Walk} {text₁ : List ℕ} {r : Result Walked Refusal}
+        (F : (h : Ready t k sp env [] w text) → Runs h.scene h.term 0 h.next env₁ buf₁ state₁ text₁ r) where
       ran : Runs ready.scene ready.term 0 ready.next env₁ buf₁ state₁ text₁ r
       ran = F ready
 
-      through : walked (length buf) 0 p machine ≡ went (skip p machine)
+      through : walked (length {A = ℤ} []) 0 p machine ≡ went (skip p machine)
       unfolding walked
       through = refl
 
-      says : r ≡ walks.Tree (depth_of g.type) g.next
+      says : r ≡ reached (depth_of g.type) g.next
       unfolding ready scene
       says = ran.says ∙ ap (answer (depth_of g.type) g.next) through
 
-      pub never-stopped : {q : Refusal} → r ≡ walks.Stopped q → ⊥
-      never-stopped e = let z : ◌≡◌ {A = ℕ} 0 1 = cc (says) in omega arith
+      pub never-stopped : IsOk r
+      never-stopped = subst IsOk (sym says) refl
 
-      left : Left (skip p machine) (feed (length g.store) p (beginning text)) g.type (tree g.term g.trees (length g.store)) sp env env₁ buf buf₁ state₁ text₁
+      left : Left (skip p machine) (feed (length g.store) p (beginning text)) g.type (tree g.term g.trees (length g.store)) sp env env₁ [] buf₁ state₁ text₁
       unfolding ready scene
       left = ran.leaves (skip p machine) through
 
@@ -135,17 +137,17 @@ module _ {t : List ℕ} {k : ℕ} {env : List ℕ} {sp s : ℕ} (g : WholeReady 
       fed : feed (length g.store) p (beginning text) ≡ landed (lines_of (length g.store) p) (beginning text)
       fed = feed-listing (length g.store) p (beginning text) refl lines-near
 
-      told : Sunk (landed (lines_of (length g.store) p) (beginning text)) text₁ state₁
-      told = subst (λ a. Sunk a text₁ state₁) fed left.sunk
+      told : Sunk (landed (lines_of (length g.store) p) (beginning text)) text₁ state₁.sink
+      told = subst (λ a. Sunk a text₁ state₁.sink) fed left.sunk
 
-      pub lined : {d n : ℕ} → r ≡ walks.Tree d n → Lined g env₁ text text₁ (record { depth = d; at = get_or state₁ 5 0 })
-      lined {d} e =
-          let same : d ≡ depth_of g.type = cc (says) in
+      pub lined : {v : Walked} → r ≡ Ok v → Lined g env₁ text text₁ (record { depth = v.depth; at = state₁.sink.at })
+      lined {v} e =
+          let same : v.depth ≡ depth_of g.type = cc (says) in
           record {
             depth = same;
             writes =
-                subst (λ n. Writes text text₁ 0 (lines_of n (code g.term g.trees n)) (get_or state₁ 5 0)) g.number
-                (record { content = told.text-is; count = at-word told });
+                subst (λ n. Writes text text₁ 0 (lines_of n (code g.term g.trees n)) (state₁.sink.at)) g.number
+                (record { content = told.text-is; count = told.at-is });
             placing = record { place = place (skip p machine).store; named = λ u. refl };
             words =
                 subst (λ n. drop (sp - tree_size (depth_of g.type)) env₁ ≡ tree_words (map_tree (place (skip p machine).store) (tree g.term g.trees n)) ++ drop sp env) g.number left.words;

@@ -31,10 +31,8 @@ use Rattle.snesl.proofs.Compiled.Freshness.{defined-next, result-ids}
 use Rattle.snesl.proofs.Formed.{FrontRead, FormulaFormed, formula-read, formula-formed}
 use Rattle.decimals.specs.Writing.{Writes}
 use Rattle.decimals.proofs.Stores.{sets-none}
-use Rattle.formula.specs.declared.read.FormulaRead.TheVariants as read
 use Rattle.formula.specs.Reading.{formula_of}
-use Rattle.checking.specs.declared.check.Judged.TheVariants as judged
-use Rattle.checking.specs.declared.types.ValueType as types
+use Rattle.checking.specs.declared.check.Judged.{Judged}
 use Rattle.checking.specs.Checks.{judged_of, judge_front}
 use Rattle.checking.proofs.Entering.{few}
 use Rattle.environment.specs.Words.{spelled}
@@ -43,7 +41,7 @@ use Rattle.sink.specs.Sinks.{far}
 use Rattle.leaves.specs.Places.{Shallow, shallow-none, shallow-more, shaped-none, most_words}
 use Rattle.runner.proofs.Measures.{spans, shallow-type, words-most}
 use Rattle.lister.specs.declared.inputs.Inputs.{Inputs}
-use Rattle.lister.specs.declared.list.Listed.TheVariants.{Length, Refused}
+use Rattle.std.specs.Prelude.{Result, Ok, Err}
 use Rattle.lister.specs.Inputs.{places_in, Declares, Enters}
 use Rattle.lister.specs.Lists.{whole_text, WholeReady, Found, listed_answer, text_after}
 use Rattle.lister.proofs.Declaring.{first_of}
@@ -237,23 +235,23 @@ module _ {t : List ℕ} {inputs k enough : ℕ} (g : Found t inputs k enough) wh
       back old = ap (λ l. l ++ old) nothing
 
       pub unlisted : (old : List ℕ) → length (last ++ old) < needed
-          → (Refused (NoAnswerRoom needed) ≡ listed_answer (listing.listing (length old) t)) × (last ++ old ≡ text_after old (listing.listing (length old) t))
+          → (Err (NoAnswerRoom needed) ≡ listed_answer (listing.listing (length old) t)) × (last ++ old ≡ text_after old (listing.listing (length old) t))
       unlisted old h =
           let none : listing.listing (length old) t ≡ listing.unlisted (NoAnswerRoom (length (whole_text g.term trees start))) =
           listing-is (length old) ∙ no_room (whole_text g.term trees start) (length old) (omega (arith, needs, ap length (back old))) in
-          (ap (λ n. Refused (NoAnswerRoom n)) needs ∙ ap listed_answer (sym none), back old ∙ ap (text_after old) (sym none))
+          (ap (λ n. Err (NoAnswerRoom n)) needs ∙ ap listed_answer (sym none), back old ∙ ap (text_after old) (sym none))
 
       -- written
       pub listed : (old : List ℕ) {new : List ℕ} (env₃ : List ℕ) {end : ℕ} → needed ≤ length (last ++ old)
           → ((h : WholeReady t k env₂ r.sp r.id) → Writes (last ++ old) new 0 (whole_text h.term h.trees r.id) end × (drop r.sp env₃ ≡ drop r.sp env₂))
           → length env₂ ≡ length env₁
-          → (Length needed ≡ listed_answer (listing.listing (length old) t)) × (new ≡ text_after old (listing.listing (length old) t))
+          → (Ok needed ≡ listed_answer (listing.listing (length old) t)) × (new ≡ text_after old (listing.listing (length old) t))
       unfolding whole_ready
       listed old env₃ h F same =
           let some : listing.listing (length old) t ≡ listing.listed (whole_text g.term trees start) =
           listing-is (length old) ∙ room (whole_text g.term trees start) (length old) (omega (arith, needs, ap length (back old))) in
           let w = (F (whole_ready env₂ kept same)).0 in (
-            ap Length needs ∙ ap listed_answer (sym some),
+            ap Ok needs ∙ ap listed_answer (sym some),
             w.content
                 ∙ (ap (λ l. sets l 0 (whole_text g.term trees r.id)) (back old)
                 ∙ (ap (λ n. sets old 0 (whole_text g.term trees n)) id-is
@@ -264,64 +262,40 @@ module _ {t : List ℕ} {inputs k enough : ℕ} (g : Found t inputs k enough) wh
 
 module _ (t : List ℕ) where
   -- a formula that is read as a whole is judged as the front of its bytes
-  judged-read : {f : Formula} → read.Found f ≡ formula_of (read_formula t) → judge_front (front_of t) ≡ judge_front (read_formula t)
+  judged-read : {f : Formula} → Ok f ≡ formula_of (read_formula t) → judge_front (front_of t) ≡ judge_front (read_formula t)
   judged-read {f} = go (front_of t)
     where
       last : (is : List Input) (k : ℕ) (e : Raw) (next : ℕ) (b : Bool)
-          → read.Found f ≡ formula_of (elim b [ true ↦ front is k e next | false ↦ Front.refused (NoRecord next) ])
+          → Ok f ≡ formula_of (elim b [ true ↦ front is k e next | false ↦ Front.refused (NoRecord next) ])
           → judge_front (front is k e next) ≡ judge_front (elim b [ true ↦ front is k e next | false ↦ Front.refused (NoRecord next) ])
       last is k e next true q = refl
       last is k e next false q = let z : ◌≡◌ {A = ℕ} 0 1 = cc in absurd (omega arith)
 
-      go : (x : Front) → read.Found f ≡ formula_of (formula_end t x) → judge_front x ≡ judge_front (formula_end t x)
+      go : (x : Front) → Ok f ≡ formula_of (formula_end t x) → judge_front x ≡ judge_front (formula_end t x)
       go (Front.refused r) q = refl
       go (front is k e next) q = last is k e next (eqb next (length t)) q
 
-  -- a refusal of theirs is the listing's
-  pub refused-listing : (lent : ℕ) {f : Formula} {r : Refusal} → read.Found f ≡ formula_of (read_formula t) → judged.Refused r ≡ judge_front (front_of t)
-      → listing.listing lent t ≡ listing.unlisted r
-  refused-listing lent {r = r} b a = go (read_formula t) (a ∙ judged-read b)
-    where
-      typings : (is : List Input) (y : Typed (context is)) → judged.Refused r ≡ judged_of y → listed_typed lent is y ≡ listing.unlisted r
-      typings is (Typed.refused q) e = let same : q ≡ r = cc in ap listing.unlisted same
-      typings is (typed d e') e = let z : ◌≡◌ {A = ℕ} 0 1 = cc in absurd (omega arith)
-
-      go : (f : Front) → judged.Refused r ≡ judge_front f → listed_front lent f ≡ listing.unlisted r
-      go (Front.refused q) e = let same : q ≡ r = cc in ap listing.unlisted same
-      go (front is k e' next) e = typings is (check_formula is e') e
-
-  pub unread-listing : (lent : ℕ) {r : Refusal} → read.Refused r ≡ formula_of (read_formula t) → listing.listing lent t ≡ listing.unlisted r
-  unread-listing lent {r} = go (read_formula t)
-    where
-      go : (f : Front) → read.Refused r ≡ formula_of f → listed_front lent f ≡ listing.unlisted r
-      go (Front.refused q) e = let same : q ≡ r = cc in ap listing.unlisted same
-      go (front is k e' next) e = let z : ◌≡◌ {A = ℕ} 0 1 = cc in absurd (omega arith)
-
-  pub refused-text : (old : List ℕ) {r : Refusal} → listing.listing (length old) t ≡ listing.unlisted r
-      → (Refused r ≡ listed_answer (listing.listing (length old) t)) × (old ≡ text_after old (listing.listing (length old) t))
-  refused-text old e = (ap listed_answer (sym e), ap (text_after old) (sym e))
-
   -- what was found: the words that its walk takes are told, and with its inputs' they are no more than the most
-  pub found : {y : types.ValueType} {n : ℕ} {f : Formula} → read.Found f ≡ formula_of (read_formula t) → judged.Typed y n ≡ judge_front (front_of t)
-      → Found t f.inputs f.expression (n + 29 * f.inputs) × (n + 29 * f.inputs ≤ most_words)
-  found {y} {n} {f} b a = go (read_formula t) refl b (a ∙ judged-read b)
+  pub found : {j : Judged} {f : Formula} → Ok f ≡ formula_of (read_formula t) → Ok j ≡ judge_front (front_of t)
+      → Found t f.inputs f.expression (j.words + 29 * f.inputs) × (j.words + 29 * f.inputs ≤ most_words)
+  found {j} {f} b a = go (read_formula t) refl b (a ∙ judged-read b)
     where
       typings : (is : List Input) {k : ℕ} {e : Raw} {next : ℕ} (c : Typed (context is)) → read_formula t ≡ front is k e next → check_formula is e ≡ c
-          → read.Found f ≡ read.Found (record { inputs = length is; expression = k; end = next })
-          → judged.Typed y n ≡ judged_of c
-          → Found t f.inputs f.expression (n + 29 * f.inputs) × (n + 29 * f.inputs ≤ most_words)
+          → ◌≡◌ {A = Result Formula Refusal} (Ok f) (Ok (record { inputs = length is; expression = k; end = next }))
+          → ◌≡◌ {A = Result Judged Refusal} (Ok j) (judged_of c)
+          → Found t f.inputs f.expression (j.words + 29 * f.inputs) × (j.words + 29 * f.inputs ≤ most_words)
       typings is (Typed.refused q) r c b a = let z : ◌≡◌ {A = ℕ} 0 1 = cc in absurd (omega arith)
       typings is {k} {e} {next} (typed τ e') r q b a =
           let same : f ≡ record { inputs = length is; expression = k; end = next } = cc in
-          let told : words e' ≡ n = cc in
-          let g : Found t (length is) k (n + 29 * length is) =
+          let told : words e' ≡ j.words = cc in
+          let g : Found t (length is) k (j.words + 29 * length is) =
           record { all = is; raw = e; next = next; type = τ; term = e'; read = r; checked = q; number = refl; room = omega (arith, told) } in
           let most = words-most (formed g).formed (shallow g) in
-          subst (λ (u : Formula). Found t u.inputs u.expression (n + 29 * u.inputs) × (n + 29 * u.inputs ≤ most_words)) (sym same)
+          subst (λ (u : Formula). Found t u.inputs u.expression (j.words + 29 * u.inputs) × (j.words + 29 * u.inputs ≤ most_words)) (sym same)
           (g, omega (arith, told, most, number-few g))
 
-      go : (u : Front) → read_formula t ≡ u → read.Found f ≡ formula_of u → judged.Typed y n ≡ judge_front u
-          → Found t f.inputs f.expression (n + 29 * f.inputs) × (n + 29 * f.inputs ≤ most_words)
+      go : (u : Front) → read_formula t ≡ u → Ok f ≡ formula_of u → Ok j ≡ judge_front u
+          → Found t f.inputs f.expression (j.words + 29 * f.inputs) × (j.words + 29 * f.inputs ≤ most_words)
       go (Front.refused q) r b a = let z : ◌≡◌ {A = ℕ} 0 1 = cc in absurd (omega arith)
       go (front is k e next) r b a = typings is (check_formula is e) r refl b a
 

@@ -16,7 +16,7 @@ use Rattle.snesl.specs.Listing as listing
 use Rattle.snesl.specs.Listing.{listing, room_for, listed_typed, listed_front}
 use Rattle.snesl.specs.Report.{refusal_line, list_lines}
 use Rattle.decimals.specs.Writing.{Writes}
-use Rattle.lister.specs.declared.list.Listed.TheVariants.{Length, Refused}
+use Rattle.std.specs.Prelude.{Ok, Err}
 use Rattle.lister.specs.Lists.{listed_answer, text_after}
 use Rattle.lister.proofs.Listing.{stored}
 
@@ -46,12 +46,12 @@ abbrev Prints : (old new : List ℕ) → listing.Listed → ℕ → Type 0
 Prints old new l n = Writes old new 0 (list_lines l) n × (53 ≤ length old → n ≤ length old)
 
 pub listed-printed : (t old : List ℕ) {new : List ℕ} {n : ℕ}
-    → Length n ≡ listed_answer (listing (length old) t)
+    → Ok n ≡ listed_answer (listing (length old) t)
     → new ≡ text_after old (listing (length old) t)
     → Prints old new (listing (length old) t) n
 listed-printed t old {new} {n} = go (listing (length old) t) (λ w. listed-fits (length old) t)
   where
-    go : (l : listing.Listed) → ((w : List ℕ) → l ≡ listing.listed w → length w ≤ length old) → Length n ≡ listed_answer l → new ≡ text_after old l → Prints old new l n
+    go : (l : listing.Listed) → ((w : List ℕ) → l ≡ listing.listed w → length w ≤ length old) → Ok n ≡ listed_answer l → new ≡ text_after old l → Prints old new l n
     go (listing.unlisted r) f e h = let z : ◌≡◌ {A = ℕ} 0 1 = cc in absurd (omega arith)
     go (listing.listed w) f e h =
         let fits = f w refl in
@@ -59,13 +59,13 @@ listed-printed t old {new} {n} = go (listing (length old) t) (λ w. listed-fits 
         (record { content = h ∙ sym (stored w old fits); count = omega arith }, λ _. omega arith)
 
 pub refusal-printed : (t old : List ℕ) {r : Refusal} {mid new : List ℕ} {n : ℕ}
-    → Refused r ≡ listed_answer (listing (length old) t)
+    → Err r ≡ listed_answer (listing (length old) t)
     → mid ≡ text_after old (listing (length old) t)
     → Writes mid new 0 (refusal_line r) n × (n ≤ 53)
     → Prints old new (listing (length old) t) n
 refusal-printed t old {r} {mid} {new} {n} = go (listing (length old) t)
   where
-    go : (l : listing.Listed) → Refused r ≡ listed_answer l → mid ≡ text_after old l → Writes mid new 0 (refusal_line r) n × (n ≤ 53) → Prints old new l n
+    go : (l : listing.Listed) → Err r ≡ listed_answer l → mid ≡ text_after old l → Writes mid new 0 (refusal_line r) n × (n ≤ 53) → Prints old new l n
     go (listing.unlisted q) e h w =
         let same : r ≡ q = cc in
         (subst (λ (m : List ℕ). Writes m new 0 (refusal_line q) n) h (subst (λ (p : Refusal). Writes mid new 0 (refusal_line p) n) same w.0), λ enough. omega (arith, w.1))

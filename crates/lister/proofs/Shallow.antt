@@ -26,12 +26,12 @@ pub record Using (own : ℕ) (us : List Variable) (b : ℕ) : Type 0 where
 
 pub listing-few : (t : List ℕ) (k : ℕ) {x y : Variable} {us : List Variable} {b : ℕ} → head_at t k ≡ eaching x y us b → Using 5 us b
 listing-few t k {x} {y} {us} {b} h =
-    let n = told t k (Each x y (length us)) (ap head_of (sym h)) in
+    let n = told t k (Each x y (length us)) (ap (head_of k) (sym h)) in
     let e : b ≡ 5 + length us = cc (h, n.0) in
     record { few = n.2; bytes = e }
 
 pub guard-few : (t : List ℕ) (k : ℕ) {g : Variable} {us : List Variable} {b : ℕ} → head_at t k ≡ guarding g us b → Using 4 us b
 guard-few t k {g} {us} {b} h =
-    let n = told t k (Guard g (length us)) (ap head_of (sym h)) in
+    let n = told t k (Guard g (length us)) (ap (head_of k) (sym h)) in
     let e : b ≡ 4 + length us = cc (h, n.0) in
     record { few = n.2; bytes = e }

@@ -12,6 +12,8 @@ use lib.Dec.{ltb}
 use lib.IntN.{ℤ, pos, negsuc}
 use lib.ListN.{length, get_or, length-append}
 use lib.Signed.{mag}
+use Rattle.std.specs.Prelude.{Result}
+use Rattle.snesl.specs.declared.refusal.Refusal.{Refusal}
 use Rattle.snesl.specs.declared.code.Transducer.{Transducer}
 use Rattle.snesl.specs.declared.code.Transducer.TheVariants.{Const, ConstBool, ToFlags, B2u, Usum, MapTwo, MapOneNot, ScanPlus, Distr, SumPlus, Pack, UPack}
 use Rattle.snesl.specs.declared.code.Operation.TheVariants.{Plus, LessEqual, Equal}
@@ -35,7 +37,6 @@ use Rattle.snesl.proofs.Compiled.Freshness.{copies, front, code-each, lead, ones
 use Rattle.snesl.proofs.Compiled.Packing.{count-pack, defined-pack, free-pack}
 use Rattle.snesl.proofs.Compiled.WellFormed.{below-result, below-within, below-packed}
 use Rattle.decimals.proofs.NumberWriting.{at-most-20}
-use Rattle.records.specs.declared.head.Shape.{Shape}
 use Rattle.records.proofs.Heads.{Reading, none, beyond, a_var, a_let, a_const, a_truth, an_iota, an_operation, a_negation, a_sum, an_each, a_guard, reading}
 use Rattle.sink.proofs.Shorts.{Small, id-short, ids_short, ascending-length}
 use Rattle.sink.proofs.Using.{none-small, one-small, two-small}
@@ -148,7 +149,7 @@ module _ (t : List ℕ) (bytes : (i : ℕ) → get_or t i 0 < 256) where
       let u = get_or t k 0 + get_or t (k + 1) 0 * 256 + get_or t (k + 2) 0 * 65536 + get_or t (k + 3) 0 * 16777216 in
       signed-held u (omega (arith, bytes k, bytes (k + 1), bytes (k + 2), bytes (k + 3)))
 
-  constant-held : {k m : ℕ} {s : Shape} {h : records.Head} {z : ℤ} → Reading t k m s h → h ≡ single (records.const k z) 6 → Held z
+  constant-held : {k m : ℕ} {s : Result Unit Refusal} {h : records.Head} {z : ℤ} → Reading t k m s h → h ≡ single (records.const k z) 6 → Held z
   constant-held none e = let z : ◌≡◌ {A = ℕ} 0 1 = cc in absurd (omega arith)
   constant-held beyond e = let z : ◌≡◌ {A = ℕ} 0 1 = cc in absurd (omega arith)
   constant-held (a_var q l) e = let z : ◌≡◌ {A = ℕ} 0 1 = cc in absurd (omega arith)

@@ -1,11 +1,12 @@
 -- What `list` answers, and what stands in the slice lent then.
-use Rattle.std.specs.Prelude.{ℕ, suc, ◌+◌, ◌*◌, ◌-◌, ◌≤◌, List, [], ◌∷◌, ◌++◌, ◌≡◌, length, drop}
+use Rattle.std.specs.Prelude.{ℕ, suc, ◌+◌, ◌*◌, ◌-◌, ◌≤◌, List, [], ◌∷◌, ◌++◌, ◌≡◌, length, drop, Result, Ok, Err}
 use Rattle.snesl.specs.Limits.{most_nesting, most_bytes}
 use Rattle.snesl.specs.Values.{ValueType, depth_of}
 use Rattle.snesl.specs.Terms.{Term, All}
 use Rattle.snesl.specs.Trees.{IdTree, map_tree}
 use Rattle.snesl.specs.Streams.{Store, bare}
 use Rattle.snesl.specs.declared.code.Kind.{Kind}
+use Rattle.snesl.specs.declared.refusal.Refusal.{Refusal}
 use Rattle.snesl.specs.Translation.{tree, code}
 use Rattle.snesl.specs.Records.{Input, Raw, front, read_formula}
 use Rattle.snesl.specs.Checking.{Name, context, typed, check_formula}
@@ -21,8 +22,6 @@ use Rattle.steps.specs.Holding.{most_streams}
 use Rattle.leaves.specs.Places.{Shaped, Shallow}
 use Rattle.lister.specs.Inputs.{places_in}
 use Rattle.lister.specs.declared.list.Lines.{Lines}
-use Rattle.lister.specs.declared.list.Listed.{Listed}
-use Rattle.lister.specs.declared.list.Listed.TheVariants.{Length, Refused}
 
 -- every stream is empty
 pub data Bare : Store → Type 0 where
@@ -61,13 +60,6 @@ pub record Lined {t : List ℕ} {k : ℕ} {env : List ℕ} {sp s : ℕ} (g : Who
   pub placing : Placing
   pub words : drop (sp - tree_size (depth_of g.type)) env' ≡ tree_words (map_tree placing.place (tree g.term g.trees s)) ++ drop sp env
 
--- the words of the arrays that a listing lends itself one of; a third has the most (leaves' most_words)
-abbrev pub small_words : ℕ
-small_words = 512
-
-abbrev pub middle_words : ℕ
-middle_words = 4096
-
 -- a formula that was read and checked, where so many words are enough for its inputs' bindings, 29 each, and the walk of its expression
 pub record Found (t : List ℕ) (inputs expression enough : ℕ) : Type 0 where
   pub all : List Input
@@ -80,9 +72,9 @@ pub record Found (t : List ℕ) (inputs expression enough : ℕ) : Type 0 where
   pub number : length all ≡ inputs
   pub room : words term + 29 * inputs ≤ enough
 
-abbrev pub listed_answer : listing.Listed → Listed
-listed_answer (listing.unlisted r) = Refused r
-listed_answer (listing.listed text) = Length (length text)
+abbrev pub listed_answer : listing.Listed → Result ℕ Refusal
+listed_answer (listing.unlisted r) = Err r
+listed_answer (listing.listed text) = Ok (length text)
 
 abbrev pub text_after : List ℕ → listing.Listed → List ℕ
 text_after old (listing.unlisted r) = old

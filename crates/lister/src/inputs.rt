@@ -9,7 +9,7 @@ use environment::{put_name, put_place};
 use snesl::code::Variable;
 
 // Where the inputs' bindings start, and the first id behind theirs.
-#[derive(Clone, Copy)]
+#[derive(Clone, Copy, Debug, PartialEq, Eq)]
 pub struct Inputs {
     pub sp: usize,
     pub id: usize,
@@ -20,10 +20,8 @@ fn put_places(env: &mut [u32], at: usize, id: usize, depth: usize)
     requires { (at + (3 * depth + 3) ≤ length env.old) × (id + depth < 4294967296) }
     ensures { env.new ≡ written at (tree_words (places_of (input_tree id depth))) env.old }
 {
-    let mut i = 0;
-    while i <= depth {
+    for i in 0..=depth {
         put_place(env, at + 3 * i, id + i, 0, 0);
-        i += 1;
     }
 }
 
@@ -34,16 +32,14 @@ pub fn enter_inputs(bytes: &[u8], inputs: usize, env: &mut [u32]) -> Inputs
 {
     let mut sp = env.len();
     let mut id = 0;
-    let mut i = 0;
-    while i < inputs {
+    for i in 0..inputs {
         let x = Variable(bytes[4 * i + 2]);
         let depth = bytes[4 * i + 3] as usize;
         let at = sp - (3 * depth + 3);
         put_places(env, at, id, depth);
         put_name(env, at - 2, x, depth);
         sp = at - 2;
-        id = id + (depth + 1);
-        i += 1;
+        id += depth + 1;
     }
-    Inputs { sp: sp, id: id }
+    Inputs { sp, id }
 }

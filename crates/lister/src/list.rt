@@ -3,47 +3,21 @@ ghost use Rattle.std.specs.Prelude.{◌≡◌, ◌+◌, ◌*◌, ◌≤◌, leng
 ghost use Rattle.snesl.specs.Listing.{listing};
 ghost use Rattle.decimals.specs.Writing.{Writes};
 ghost use Rattle.leaves.specs.Places.{most_words};
-ghost use Rattle.lister.specs.Lists.{WholeReady, whole_text, Lined, Found, small_words, middle_words, listed_answer, text_after};
+ghost use Rattle.lister.specs.Lists.{WholeReady, whole_text, Lined, Found, listed_answer, text_after};
 
 use crate::inputs::enter_inputs;
-use checking::check::{Judged, check_front};
+use checking::check::check_front;
 use decimals::numbers::put;
-use formula::read::{FormulaRead, read_formula};
-use leaves::Walked;
+use environment::stacks::{INPUT_WORDS, LARGEST, MIDDLE, SMALL};
+use formula::read::read_formula;
 use lines::pieces::put_bytes;
 use runner::walk;
+use sink::state::{Mode, Walk};
 use sink::trees::put_tree;
-use sink::words::{AT, FIXED, LISTING, MODE};
-use snesl::limits::Formula;
 use snesl::refusal::Refusal;
 
-#[derive(Clone, Copy)]
-pub enum Listed {
-    Length(usize),
-    Refused(Refusal),
-}
-
-// The most words that an input's binding takes, those that a nesting of the walk takes, and those of the bools spread over a value's levels while it is packed.
-const INPUT_WORDS: usize = 29;
-
-const NESTING_WORDS: usize = 235;
-
-const SPREAD_WORDS: usize = 24;
-
-// The stacks of words that a listing may lend itself: the largest is that of the deepest walk over the most inputs.
-const SMALL: usize = 512;
-
-const MIDDLE: usize = 4096;
-
-const LARGEST: usize = NESTING_WORDS * (Formula::NESTING + 1)
-    + SPREAD_WORDS
-    + INPUT_WORDS * Formula::INPUTS;
-
-// The counters of a walk that lists, with room for the ids that a body takes in: at most those of the listed variables of a GU, each of the deepest type.
-const COUNTERS: usize = FIXED + Formula::LISTED * (Formula::DEPTH as usize + 1);
-
 // The depth of the expression's result, and where its lines end.
-#[derive(Clone, Copy)]
+#[derive(Clone, Copy, Debug, PartialEq, Eq)]
 pub struct Lines {
     pub depth: usize,
     pub at: usize,
@@ -61,16 +35,13 @@ fn put_lines(
     requires { WholeReady bytes.now k env.old sp id }
     ensures { (g : WholeReady bytes.now k env.old sp id) → Lined g env.new text.old text.new result }
 {
-    let mut none = [0i32; 1];
-    let mut state = [0usize; COUNTERS];
-    state[0] = id;
-    state[MODE] = LISTING;
-    match walk(bytes, k, 0, sp, env, &mut none, &mut state, text) {
-        Walked::Tree(depth, _) => Lines {
-            depth: depth,
-            at: state[AT],
-        },
-        Walked::Stopped(_) => Lines { depth: 0, at: 0 },
+    let mut state = Walk::new(Mode::Listing);
+    state.machine.streams = id;
+    // Under no units nothing stops the walk.
+    let walked = walk(bytes, k, 0, sp, env, &mut [], &mut state, text).unwrap();
+    Lines {
+        depth: walked.depth,
+        at: state.sink.at,
     }
 }
 
@@ -100,7 +71,7 @@ fn list_found(
     expression: usize,
     env: &mut [u32],
     text: &mut [u8],
-) -> Listed
+) -> Result<usize, Refusal>
     requires { Found formula.now inputs expression (length env.old) × (length env.old ≤ 65536) }
     ensures { (result ≡ listed_answer (listing (length text.old) formula.now)) × (text.new ≡ text_after text.old (listing (length text.old) formula.now)) }
 {
@@ -109,96 +80,56 @@ fn list_found(
     let id = e.id;
     let needed = put_whole(formula, expression, env, sp, id, &mut text[..0]);
     if text.len() < needed {
-        return Listed::Refused(Refusal::NoAnswerRoom(needed));
+        return Err(Refusal::NoAnswerRoom(needed));
     }
     put_whole(formula, expression, env, sp, id, text);
-    Listed::Length(needed)
+    Ok(needed)
 }
 
-// Listed on a small stack of words. The call of itself behind it is never made, as so many words are enough; but a function that calls itself is not folded
-// into its callers, and so each array is on the machine's stack only while it is lent. The words and the inputs are handed on, not their sum: of a sum that
-// `lend` has compared already the compiler knows that the call is never made.
-fn lend_small(
+// Listed on a stack of `WORDS` words. It is not folded into its caller, so that no stack but the one lent takes room on the machine's.
+#[inline(never)]
+fn lend_words<const WORDS: usize>(
     formula: &[u8],
     inputs: usize,
     expression: usize,
     words: usize,
     text: &mut [u8],
-) -> Listed
-    requires { Found formula.now inputs expression (words + 29 * inputs) × (words + 29 * inputs ≤ small_words) }
+) -> Result<usize, Refusal>
+    requires found { Found formula.now inputs expression (words + 29 * inputs) }
+    requires enough { (words + 29 * inputs ≤ WORDS) × (WORDS ≤ most_words) }
     ensures { (result ≡ listed_answer (listing (length text.old) formula.now)) × (text.new ≡ text_after text.old (listing (length text.old) formula.now)) }
 {
-    let mut env = [0u32; SMALL];
-    let listed = list_found(formula, inputs, expression, &mut env, text);
-    if SMALL < words + INPUT_WORDS * inputs {
-        return lend_small(formula, inputs, expression, words, text);
-    }
-    listed
-}
-
-// On a middle one, in the same form.
-fn lend_middle(
-    formula: &[u8],
-    inputs: usize,
-    expression: usize,
-    words: usize,
-    text: &mut [u8],
-) -> Listed
-    requires { Found formula.now inputs expression (words + 29 * inputs) × (words + 29 * inputs ≤ middle_words) }
-    ensures { (result ≡ listed_answer (listing (length text.old) formula.now)) × (text.new ≡ text_after text.old (listing (length text.old) formula.now)) }
-{
-    let mut env = [0u32; MIDDLE];
-    let listed = list_found(formula, inputs, expression, &mut env, text);
-    if MIDDLE < words + INPUT_WORDS * inputs {
-        return lend_middle(formula, inputs, expression, words, text);
-    }
-    listed
-}
-
-// On the largest, in the same form.
-fn lend_largest(
-    formula: &[u8],
-    inputs: usize,
-    expression: usize,
-    words: usize,
-    text: &mut [u8],
-) -> Listed
-    requires { Found formula.now inputs expression (words + 29 * inputs) × (words + 29 * inputs ≤ most_words) }
-    ensures { (result ≡ listed_answer (listing (length text.old) formula.now)) × (text.new ≡ text_after text.old (listing (length text.old) formula.now)) }
-{
-    let mut env = [0u32; LARGEST];
-    let listed = list_found(formula, inputs, expression, &mut env, text);
-    if LARGEST < words + INPUT_WORDS * inputs {
-        return lend_largest(formula, inputs, expression, words, text);
-    }
-    listed
+    let mut env = [0u32; WORDS];
+    list_found(formula, inputs, expression, &mut env, text)
 }
 
 // On the smallest of the three that has the words of the expression and a binding for each input.
-fn lend(formula: &[u8], inputs: usize, expression: usize, words: usize, text: &mut [u8]) -> Listed
+fn lend(
+    formula: &[u8],
+    inputs: usize,
+    expression: usize,
+    words: usize,
+    text: &mut [u8],
+) -> Result<usize, Refusal>
     requires { Found formula.now inputs expression (words + 29 * inputs) × (words + 29 * inputs ≤ most_words) }
     ensures { (result ≡ listed_answer (listing (length text.old) formula.now)) × (text.new ≡ text_after text.old (listing (length text.old) formula.now)) }
 {
     let need = words + INPUT_WORDS * inputs;
     if need <= SMALL {
-        return lend_small(formula, inputs, expression, words, text);
+        return lend_words::<SMALL>(formula, inputs, expression, words, text);
     }
     if need <= MIDDLE {
-        return lend_middle(formula, inputs, expression, words, text);
+        return lend_words::<MIDDLE>(formula, inputs, expression, words, text);
     }
-    lend_largest(formula, inputs, expression, words, text)
+    lend_words::<LARGEST>(formula, inputs, expression, words, text)
 }
 
 // The listing of a formula, from the start of the slice lent on: its length, or one of 1 to 6, or 10 at the bytes that it needs. Refused, nothing is
 // written; listed, the rest of the slice keeps its content.
-pub fn list(formula: &[u8], text: &mut [u8]) -> Listed
+pub fn list(formula: &[u8], text: &mut [u8]) -> Result<usize, Refusal>
     ensures { (result ≡ listed_answer (listing (length text.old) formula.now)) × (text.new ≡ text_after text.old (listing (length text.old) formula.now)) }
 {
-    match read_formula(formula) {
-        FormulaRead::Refused(refusal) => Listed::Refused(refusal),
-        FormulaRead::Found(found) => match check_front(formula, found) {
-            Judged::Refused(refusal) => Listed::Refused(refusal),
-            Judged::Typed(_, words) => lend(formula, found.inputs, found.expression, words, text),
-        },
-    }
+    let found = read_formula(formula)?;
+    let judged = check_front(formula, found)?;
+    lend(formula, found.inputs, found.expression, judged.words, text)
 }

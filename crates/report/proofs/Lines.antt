@@ -12,8 +12,7 @@ use Rattle.snesl.specs.Text.{show_number}
 use Rattle.snesl.specs.Report.{refusal_line, run_lines, room_line, steps_line, work_line}
 use Rattle.snesl.specs.Outcome.{Outcome, refusal, value, outcome, streams_after, answer_after}
 use Rattle.sheet.specs.declared.Counts.{Counts}
-use Rattle.sheet.specs.declared.Ran.{Ran}
-use Rattle.sheet.specs.declared.Ran.TheVariants.{Value, Refused}
+use Rattle.std.specs.Prelude.{Result, Ok, Err}
 use Rattle.sheet.specs.Runs.{ran_of, Exact}
 use Rattle.decimals.specs.Writing.{Writes}
 use Rattle.decimals.proofs.NumberWriting.{at-most-20}
@@ -46,7 +45,7 @@ value_written text work steps room {t₅ = t₅} {t₆ = t₆} {e = e} {f = f} w
 
 -- ---- an outcome from what was answered
 
-refused-is : (o : Outcome) {r : Refusal} → Refused r ≡ ran_of o → o ≡ refusal r
+refused-is : (o : Outcome) {r : Refusal} → Err r ≡ ran_of o → o ≡ refusal r
 refused-is (refusal q) e = cc
 refused-is (value text work steps room held) e = let z : ◌≡◌ {A = ℕ} 0 1 = cc in absurd (omega arith)
 
@@ -56,7 +55,7 @@ record ValueIs (o : Outcome) (k : Counts) : Type 0 where
   is : o ≡ value text k.work k.steps k.room held
   long : k.text ≡ length text
 
-value-is : (o : Outcome) {k : Counts} → Value k ≡ ran_of o → ValueIs o k
+value-is : (o : Outcome) {k : Counts} → Ok k ≡ ran_of o → ValueIs o k
 value-is (refusal q) e = let z : ◌≡◌ {A = ℕ} 0 1 = cc in absurd (omega arith)
 value-is (value text work steps room held) {k} e =
     let p : k ≡ record { text = length text; work = work; steps = steps; room = room } = cc in
@@ -81,7 +80,7 @@ module _ (answer front : List ℕ) (lent : ℕ) (same : length front ≡ length 
       ap (λ (l : List ℕ). l ++ drop lent answer) e
       ∙ (append_assoc text (drop (length text) (take lent answer)) (drop lent answer) ∙ ap (λ (l : List ℕ). text ++ l) back)
 
-module _ {job : List ℕ} {streams streams' : List ℤ} {front : List ℕ} {ran : Ran} (answer : List ℕ) (lent : ℕ) (all : lent ≡ answer_lent (length answer))
+module _ {job : List ℕ} {streams streams' : List ℤ} {front : List ℕ} {ran : Result Counts Refusal} (answer : List ℕ) (lent : ℕ) (all : lent ≡ answer_lent (length answer))
     (same : length front ≡ length (take lent answer)) (x : Exact job streams streams' (take lent answer) front ran) where
   lent_length : length (take lent answer) ≡ answer_lent (length answer)
   lent_length = length-take-le lent answer (omega arith) ∙ all
@@ -101,7 +100,7 @@ module _ {job : List ℕ} {streams streams' : List ℤ} {front : List ℕ} {ran 
   answer-left : front ++ drop lent answer ≡ answer_after answer (outcome_over job streams answer)
   answer-left = put_back answer front lent same (outcome_over job streams answer) front-is
 
-  pub refused : {r : Refusal} {text text' : List ℕ} {n : ℕ} → ran ≡ Refused r → Writes text text' 0 (refusal_line r) n × (n ≤ 53)
+  pub refused : {r : Refusal} {text text' : List ℕ} {n : ℕ} → ran ≡ Err r → Writes text text' 0 (refusal_line r) n × (n ≤ 53)
       → Prints job streams streams' answer (front ++ drop lent answer) text text' n
   refused {text = text} {text'} {n} e (w, l) =
       record {
@@ -111,7 +110,7 @@ module _ {job : List ℕ} {streams streams' : List ℤ} {front : List ℕ} {ran 
         short = omega arith;
       }
 
-  module _ {k : Counts} (e : ran ≡ Value k) where
+  module _ {k : Counts} (e : ran ≡ Ok k) where
     known : ValueIs (outcome_over job streams answer) k
     known = value-is (outcome_over job streams answer) (sym e ∙ says)
 

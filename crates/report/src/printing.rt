@@ -1,27 +1,18 @@
 // The run program's lines: the value and the three counts, or the one line of the refusal.
-ghost use Rattle.std.specs.Prelude.{◌≡◌, ◌+◌, ◌≤◌, length};
+ghost use Rattle.std.specs.Prelude.{◌+◌, ◌≤◌, length};
 ghost use Rattle.decimals.specs.Writing.{Writes};
-ghost use Rattle.report.specs.Printing.{most_answer, answer_lent, count_line, value_lines, Prints};
+ghost use Rattle.report.specs.Printing.{most_answer, count_line, value_lines, Prints};
 
 use decimals::numbers::{put, write_number};
 use lines::pieces::put_bytes;
 use refusals::line::refusal_line;
-use sheet::{Counts, Ran, run};
+use sheet::{Counts, run};
 
 // What the programs lend for an answer. A longer buffer's rest is not used, so that every position of the lines is a small number.
 pub const ANSWER: usize = 65_536;
 
 // The most bytes of the lines beyond those of the answer.
 pub const BESIDE: usize = 86;
-
-fn lent_of(have: usize) -> usize
-    ensures { result ≡ answer_lent have }
-{
-    if have < ANSWER {
-        return have;
-    }
-    ANSWER
-}
 
 // A count behind its name, and a line feed.
 fn put_count(text: &mut [u8], at: usize, name: &[u8], count: usize) -> usize
@@ -50,10 +41,10 @@ fn value_lines(value: &[u8], counts: Counts, text: &mut [u8]) -> usize
 pub fn run_lines(job: &[u8], streams: &mut [i32], answer: &mut [u8], text: &mut [u8]) -> usize
     ensures { Prints job.now streams.old streams.new answer.old answer.new text.old text.new result }
 {
-    let lent = lent_of(answer.len());
+    let lent = answer.len().min(ANSWER);
     match run(job, streams, &mut answer[..lent]) {
-        Ran::Refused(refusal) => refusal_line(refusal, text),
-        Ran::Value(counts) => {
+        Err(refusal) => refusal_line(refusal, text),
+        Ok(counts) => {
             let length = counts.text;
             value_lines(&answer[..length], counts, text)
         }

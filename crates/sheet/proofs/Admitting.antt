@@ -24,21 +24,16 @@ use Rattle.snesl.specs.Outcome.{refusal, outcome_read, outcome_typed, valued, ou
 use Rattle.snesl.proofs.Formed.{job-formed}
 use Rattle.snesl.proofs.Jobs.EarlyRefusals.{early-keeps, reading-refuses-early, checking-refuses-early}
 use Rattle.formula.specs.Reading.{formula_of, job_of}
-use Rattle.formula.specs.declared.read.JobRead.TheVariants as found
-use Rattle.formula.specs.declared.read.FormulaRead.TheVariants as formula
-use Rattle.checking.specs.Types.{told}
+use Rattle.scopes.specs.Types.{told}
 use Rattle.checking.specs.Checks.{judged_of, judge_front}
-use Rattle.checking.specs.declared.check.Judged.TheVariants as judged
-use Rattle.checking.specs.declared.types.ValueType.{ValueType as Found}
+use Rattle.checking.specs.declared.check.Judged.{Judged}
 use Rattle.environment.specs.Needs.{words}
 use Rattle.leaves.specs.Places.{shallow-none, most_words}
 use Rattle.runner.proofs.Measures.{words-most}
 use Rattle.inputs.specs.Supply.{Read, texts_of, tallied}
 use Rattle.inputs.proofs.Supplying.{inputs-supplied, inputs-few}
-use Rattle.inputs.specs.declared.texts.Texts.TheVariants as texts
 use Rattle.sheet.specs.declared.admission.Task.{Task}
-use Rattle.sheet.specs.declared.admission.Admission.{Admission}
-use Rattle.sheet.specs.declared.admission.Admission.TheVariants.{Admitted, Refused}
+use Rattle.std.specs.Prelude.{Result, Ok, Err}
 use Rattle.sheet.specs.Admission.{admission_valued, admission_typed, admission_read, admission, counts_typed, counts_read, admission_counts}
 use Rattle.sheet.specs.Runs as runs
 use Rattle.sheet.proofs.Needing.{inputs-shallow}
@@ -46,24 +41,24 @@ use Rattle.sheet.proofs.Needing.{inputs-shallow}
 -- ---- step by step
 
 module _ (t : List ℕ) where
-  pub refused-read : (r : Refusal) → found.Refused r ≡ job_of t (read_job t) → Refused r ≡ admission t
+  pub refused-read : (r : Refusal) → Err r ≡ job_of t (read_job t) → Err r ≡ admission t
   refused-read r e = go (read_job t) e
     where
-      go : (j : JobRead) → found.Refused r ≡ job_of t j → Refused r ≡ admission_read t j
-      go (records.JobRead.refused s) q = let same : r ≡ s = cc in ap Refused same
+      go : (j : JobRead) → Err r ≡ job_of t j → Err r ≡ admission_read t j
+      go (records.JobRead.refused s) q = let same : r ≡ s = cc in ap Err same
       go (job is k e next ss) q = never (cc)
 
-  pub kept_read : (r : Refusal) → found.Refused r ≡ job_of t (read_job t) → (cs : List ℕ) → cs ≡ admission_counts t cs
+  pub kept_read : (r : Refusal) → Err r ≡ job_of t (read_job t) → (cs : List ℕ) → cs ≡ admission_counts t cs
   kept_read r e cs = go (read_job t) e
     where
-      go : (j : JobRead) → found.Refused r ≡ job_of t j → cs ≡ counts_read t j cs
+      go : (j : JobRead) → Err r ≡ job_of t j → cs ≡ counts_read t j cs
       go (records.JobRead.refused s) q = refl
       go (job is k e next ss) q = never (cc)
 
-  pub job-found : (j : Job) → found.Found j ≡ job_of t (read_job t) → Read t j.formula
+  pub job-found : (j : Job) → Ok j ≡ job_of t (read_job t) → Read t j.formula
   job-found j e = go (read_job t) refl e
     where
-      go : (x : JobRead) → read_job t ≡ x → found.Found j ≡ job_of t x → Read t j.formula
+      go : (x : JobRead) → read_job t ≡ x → Ok j ≡ job_of t x → Read t j.formula
       go (records.JobRead.refused s) p q = never (cc)
       go (job is k e next ss) p q =
           let same : j ≡ record { formula = record { inputs = length is; expression = k; end = next }; end = length t } = cc in
@@ -106,64 +101,63 @@ module _ (t : List ℕ) where
     the-front : front_of t ≡ front g.inputs g.expression g.raw g.next
     the-front = front_of_lem g.inputs g.expression g.raw g.next g.spans g.read
 
-    pub front-found : formula.Found f ≡ formula_of (front_of t)
-    front-found = ap formula.Found g.formula ∙ sym (ap formula_of the-front)
+    pub front-found : Ok f ≡ formula_of (front_of t)
+    front-found = ap Ok g.formula ∙ sym (ap formula_of the-front)
 
     admission-is : admission t ≡ admission_typed t f g.inputs g.spans (check_formula g.inputs g.raw)
     admission-is =
         ap (admission_read t) g.read
         ∙ ap (λ (h : Formula). admission_typed t h g.inputs g.spans (check_formula g.inputs g.raw)) (sym g.formula)
 
-    pub refused-typed : (r : Refusal) → judged.Refused r ≡ judge_front (front_of t) → Refused r ≡ admission t
+    pub refused-typed : (r : Refusal) → Err r ≡ judge_front (front_of t) → Err r ≡ admission t
     refused-typed r e = go (check_formula g.inputs g.raw) (e ∙ ap judge_front the-front) ∙ sym admission-is
       where
-        go : (y : Typed (context g.inputs)) → judged.Refused r ≡ judged_of y → Refused r ≡ admission_typed t f g.inputs g.spans y
-        go (checking.Typed.refused s) q = let same : r ≡ s = cc in ap Refused same
+        go : (y : Typed (context g.inputs)) → Err r ≡ judged_of y → Err r ≡ admission_typed t f g.inputs g.spans y
+        go (checking.Typed.refused s) q = let same : r ≡ s = cc in ap Err same
         go (typed τ e) q = never (cc)
 
     counts-are : (cs : List ℕ) → admission_counts t cs ≡ counts_typed t g.inputs g.spans (check_formula g.inputs g.raw) cs
     counts-are cs = ap (λ (j : JobRead). counts_read t j cs) g.read
 
-    pub kept-typed : (r : Refusal) → judged.Refused r ≡ judge_front (front_of t) → (cs : List ℕ) → cs ≡ admission_counts t cs
+    pub kept-typed : (r : Refusal) → Err r ≡ judge_front (front_of t) → (cs : List ℕ) → cs ≡ admission_counts t cs
     kept-typed r e cs = go (check_formula g.inputs g.raw) (e ∙ ap judge_front the-front) ∙ sym (counts-are cs)
       where
-        go : (y : Typed (context g.inputs)) → judged.Refused r ≡ judged_of y → cs ≡ counts_typed t g.inputs g.spans y cs
+        go : (y : Typed (context g.inputs)) → Err r ≡ judged_of y → cs ≡ counts_typed t g.inputs g.spans y cs
         go (checking.Typed.refused s) q = refl
         go (typed τ e) q = never (cc)
 
-    module _ (r : Found) (n : ℕ) (e : judged.Typed r n ≡ judge_front (front_of t)) where
+    module _ (j : Judged) (e : Ok j ≡ judge_front (front_of t)) where
       abbrev pub task : Task
-      task = record { formula = f; base = r.base; words = n }
+      task = record { formula = f; base = j.found.base; words = j.words }
 
       pub tallied-all : (cs : List ℕ) → tallied t g.inputs g.spans cs ≡ admission_counts t cs
       tallied-all cs = go (check_formula g.inputs g.raw) (e ∙ ap judge_front the-front) ∙ sym (counts-are cs)
         where
-          go : (y : Typed (context g.inputs)) → judged.Typed r n ≡ judged_of y → tallied t g.inputs g.spans cs ≡ counts_typed t g.inputs g.spans y cs
+          go : (y : Typed (context g.inputs)) → Ok j ≡ judged_of y → tallied t g.inputs g.spans cs ≡ counts_typed t g.inputs g.spans y cs
           go (checking.Typed.refused s) q = never (cc)
           go (typed τ e) q = refl
 
       valued-is : admission t ≡ admission_valued task (input_values t g.inputs g.spans)
       valued-is = admission-is ∙ go (check_formula g.inputs g.raw) (e ∙ ap judge_front the-front)
         where
-          go : (y : Typed (context g.inputs)) → judged.Typed r n ≡ judged_of y
+          go : (y : Typed (context g.inputs)) → Ok j ≡ judged_of y
               → admission_typed t f g.inputs g.spans y ≡ admission_valued task (input_values t g.inputs g.spans)
           go (checking.Typed.refused s) q = never (cc)
           go (typed τ e) q =
-              let told-as : told τ ≡ r = cc in
-              let same : words e ≡ n = cc in
-              λ i. admission_valued (record { formula = f; base = (told-as i).base; words = same i }) (input_values t g.inputs g.spans)
+              let same : record { found = told τ; words = words e } ≡ j = cc in
+              λ i. admission_valued (record { formula = f; base = (same i).found.base; words = (same i).words }) (input_values t g.inputs g.spans)
 
-      pub refused-valued : (p : ℕ) → texts.Bad p ≡ texts_of (input_values t g.inputs g.spans) → Refused (NoValueText p) ≡ admission t
-      refused-valued p q = go (input_values t g.inputs g.spans) q ∙ sym valued-is
+      pub refused-valued : (r : Refusal) → Err r ≡ texts_of (input_values t g.inputs g.spans) → Err r ≡ admission t
+      refused-valued r q = go (input_values t g.inputs g.spans) q ∙ sym valued-is
         where
-          go : (v : Values (input_types g.inputs)) → texts.Bad p ≡ texts_of v → Refused (NoValueText p) ≡ admission_valued task v
-          go (wrong k) q = let same : p ≡ k = cc in ap (λ (i : ℕ). Refused (NoValueText i)) same
+          go : (v : Values (input_types g.inputs)) → Err r ≡ texts_of v → Err r ≡ admission_valued task v
+          go (wrong k) q = let same : r ≡ NoValueText k = cc in ap Err same
           go (right vs) q = never (cc)
 
-      pub admitted : texts.Good ≡ texts_of (input_values t g.inputs g.spans) → Admitted task ≡ admission t
+      pub admitted : Ok tt ≡ texts_of (input_values t g.inputs g.spans) → Ok task ≡ admission t
       admitted q = go (input_values t g.inputs g.spans) q ∙ sym valued-is
         where
-          go : (v : Values (input_types g.inputs)) → texts.Good ≡ texts_of v → Admitted task ≡ admission_valued task v
+          go : (v : Values (input_types g.inputs)) → Ok tt ≡ texts_of v → Ok task ≡ admission_valued task v
           go (wrong k) q = never (cc)
           go (right vs) q = refl
 
@@ -180,9 +174,9 @@ pub record Turned (t : List ℕ) (r : Refusal) : Type 0 where
 
 module _ (t : List ℕ) where
   -- by the way to the admission
-  abbrev Says : Admission → Type 0
-  Says (Refused r) = Turned t r
-  Says (Admitted a) = Enough t a
+  abbrev Says : Result Task Refusal → Type 0
+  Says (Err r) = Turned t r
+  Says (Ok a) = Enough t a
 
   says : Says (admission t)
   says = read (read_job t) refl
@@ -244,8 +238,8 @@ module _ (t : List ℕ) where
           }
       read (job is k e next ss) r = types is k e next ss r (check_formula is e) refl
 
-  pub turned : (r : Refusal) → Refused r ≡ admission t → Turned t r
+  pub turned : (r : Refusal) → Err r ≡ admission t → Turned t r
   turned r e = subst Says (sym e) says
 
-  pub taken_in : (a : Task) → Admitted a ≡ admission t → Enough t a
+  pub taken_in : (a : Task) → Ok a ≡ admission t → Enough t a
   taken_in a e = subst Says (sym e) says

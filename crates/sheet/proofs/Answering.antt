@@ -8,6 +8,7 @@ use borrow.Author.Tests.{le-leb, lt-leb}
 use lib.IntN.{ℤ}
 use lib.ListN.{length, get_or, drop}
 use lib.Seq.{sets-eq}
+use Rattle.environment.specs.declared.machine.Machine.{Machine}
 use Rattle.environment.specs.Words.{tree_words, tree_size}
 use Rattle.environment.proofs.Finding.{length-tree}
 use Rattle.environment.proofs.Stack.{front-within}
@@ -18,7 +19,7 @@ use Rattle.snesl.specs.Values.{ValueType, depth_of, type_of, Val}
 use Rattle.snesl.specs.Trees.{IdTree, map_tree}
 use Rattle.snesl.specs.Streams.{Store, ◌!◌, contents, room}
 use Rattle.snesl.specs.Representation.{represent, Holds, values}
-use Rattle.steps.proofs.Executing.{next-element, spent-is, counted_is, four-words}
+use Rattle.steps.proofs.Executing.{next-element, spent-is, counted_is}
 use Rattle.steps.specs.Holding.{place}
 use Rattle.snesl.specs.Machine.{State}
 use Rattle.snesl.specs.Text.{show}
@@ -28,7 +29,7 @@ use Rattle.snesl.proofs.Representing.Representation.{holds-streams, values-repre
 use Rattle.snesl.proofs.Representing.Trees.{map_tree-map_tree}
 use Rattle.rendering.specs.Standing.{Stands}
 use Rattle.rendering.specs.Rendering.{ValueStands, ShowsValue}
-use Rattle.sheet.specs.declared.Ran.TheVariants.{Value, Refused}
+use Rattle.std.specs.Prelude.{Result, Ok, Err}
 use Rattle.sheet.specs.Runs.{ran_of, Finished, Shows}
 use Rattle.sheet.proofs.Starts.{tree-stands}
 
@@ -47,11 +48,7 @@ module _ (lent : ℕ) (text : List ℕ) (m : State) where
   passes : lent < length text → answered lent text m ≡ refusal (NoAnswerRoom (length text))
   passes h = rw (lt-leb (length text) lent h, answered)
 
--- the machine's words are there
-pub four : {τ : ValueType} {from : ℕ} {env : List ℕ} {buf : List ℤ} {state : List ℕ} → Finished τ from env buf state → 4 ≤ length state
-four g = four-words g.held
-
-module _ (β : Base) (d : ℕ) {from : ℕ} {env : List ℕ} {buf : List ℤ} {state : List ℕ} (g : Finished (type_of β d) from env buf state) where
+module _ (β : Base) (d : ℕ) {from : ℕ} {env : List ℕ} {buf : List ℤ} {counts : Machine} (g : Finished (type_of β d) from env buf counts) where
   pub shallow : d ≤ most_depth
   shallow = omega (arith, g.shallow, depth-of-type β d)
 
@@ -87,33 +84,33 @@ module _ (β : Base) (d : ℕ) {from : ℕ} {env : List ℕ} {buf : List ℤ} {s
       long = omega (arith, (w.written g.result stands).count)
 
       pub too_long : (answer : List ℕ) → length answer < n
-          → Shows (answered (length answer) (answer_text (type_of β d) g.tree g.machine.store) g.machine) answer answer (Refused (NoAnswerRoom n))
+          → Shows (answered (length answer) (answer_text (type_of β d) g.tree g.machine.store) g.machine) answer answer (Err (NoAnswerRoom n))
       too_long answer h =
           let o : answered (length answer) (answer_text (type_of β d) g.tree g.machine.store) g.machine ≡ refusal (NoAnswerRoom (length (show (type_of β d) g.result))) =
           ap (λ (t : List ℕ). answered (length answer) t g.machine) text-is
           ∙ passes (length answer) (show (type_of β d) g.result) g.machine (omega (arith, long)) in
           record {
-            says = ap (λ (k : ℕ). Refused (NoAnswerRoom k)) long ∙ sym (ap ran_of o);
+            says = ap (λ (k : ℕ). Err (NoAnswerRoom k)) long ∙ sym (ap ran_of o);
             answer-is = sym (ap (answer_after answer) o);
           }
 
       pub written : (answer new : List ℕ) {k : ℕ} → n ≤ length answer → ShowsValue β d buf places answer new k
           → Shows (answered (length answer) (answer_text (type_of β d) g.tree g.machine.store) g.machine) answer new
-          (Value (record { text = n; work = get_or state 2 0; steps = get_or state 3 0; room = get_or state 1 0 }))
+          (Ok (record { text = n; work = counts.work; steps = counts.steps; room = counts.room }))
       written answer new h u =
           let text = show (type_of β d) g.result in
           let o : answered (length answer) (answer_text (type_of β d) g.tree g.machine.store) g.machine
           ≡ value text g.machine.work g.machine.steps (room g.machine.store) (contents g.machine.store) =
           ap (λ (t : List ℕ). answered (length answer) t g.machine) text-is
           ∙ fits (length answer) text g.machine (omega (arith, long)) in
-          let work : get_or state 2 0 ≡ g.machine.work = spent-is g.held in
-          let steps : get_or state 3 0 ≡ g.machine.steps = counted_is g.held in
-          let roomy : get_or state 1 0 ≡ room g.machine.store = next-element g.held in
+          let work : counts.work ≡ g.machine.work = spent-is g.held in
+          let steps : counts.steps ≡ g.machine.steps = counted_is g.held in
+          let roomy : counts.room ≡ room g.machine.store = next-element g.held in
           let all : 0 + length text ≤ length answer = omega (arith, long) in
           let start : 0 + length text ≡ length text = omega arith in
           record {
             says =
-                (λ i. Value (record { text = long i; work = work i; steps = steps i; room = roomy i }))
+                (λ i. Ok (record { text = long i; work = work i; steps = steps i; room = roomy i }))
                 ∙ sym (ap ran_of o);
             answer-is =
                 (u.written g.result stands).content

@@ -40,21 +40,21 @@ use Rattle.steps.proofs.Stores.{room-append}
 use Rattle.leaves.specs.Places.{places}
 use Rattle.environment.specs.Words.{tree_size}
 use Rattle.environment.specs.Needs.{words}
-use Rattle.sink.specs.Sinks.{Sink, running, feed}
-use Rattle.sink.specs.Sunk.{Sunk}
+use Rattle.sink.specs.declared.state.Mode.TheVariants.{Running}
+use Rattle.sink.specs.declared.state.Walk.{Walk}
+use Rattle.sink.specs.Sinks.{Sink, feed}
+use Rattle.sink.specs.Sunk.{Sunk, starting}
+use Rattle.environment.specs.declared.machine.Machine.{Machine}
 use Rattle.leaves.specs.Scenes.{Scene, answer, Left, Runs}
 use Rattle.runner.specs.Walks.{Ready}
 use Rattle.leaves.specs.declared.Walked.{Walked}
-use Rattle.leaves.specs.declared.Walked.TheVariants as walks
 use Rattle.runner.proofs.Measures.{shallow-type, words-hold}
 use Rattle.inputs.specs.Supply.{Valued, per_input, Counted}
 use Rattle.inputs.proofs.Counting.{counted-all}
 use Rattle.inputs.specs.Loading.{binding_words, inputs_bound, Stands, Loads, loads, fills}
-use Rattle.inputs.specs.declared.loading.Loaded.{Loaded}
-use Rattle.inputs.specs.declared.loading.Loaded.TheVariants.{At, Full}
 use Rattle.sheet.specs.declared.admission.Task.{Task}
-use Rattle.sheet.specs.declared.Ran.{Ran as Ran-answer}
-use Rattle.sheet.specs.declared.Ran.TheVariants.{Value, Refused}
+use Rattle.std.specs.Prelude.{Result as Returned, Ok, Err}
+use Rattle.sheet.specs.declared.Counts.{Counts}
 use Rattle.sheet.specs.Admission.{counts_typed, counts_read, admission_counts}
 use Rattle.sheet.specs.Runs.{ran_of, Admitted, execution, Finished, Shows, LeftBy, Performs, spoiled_from, Executes}
 use Rattle.sheet.proofs.Needing.{spelled-few, context-long}
@@ -89,18 +89,18 @@ counted_of {t} g cs₀ e =
     ∙ ap (λ (y : Typed (context g.accepted.inputs)). counts_typed t g.accepted.inputs g.accepted.spans y cs₀) g.accepted.checked)
 
 -- all inputs are loaded
-pub record Laid {t : List ℕ} {f : Formula} (g : Valued t f) (env env₁ : List ℕ) (buf buf₁ : List ℤ) (state₁ : List ℕ) (o : Option ℕ) (sp : ℕ) : Type 0 where
+pub record Laid {t : List ℕ} {f : Formula} (g : Valued t f) (env env₁ : List ℕ) (buf buf₁ : List ℤ) (counts : Machine) (o : Option ℕ) (sp : ℕ) : Type 0 where
   pub fitting : o ≡ none
-  pub stands : Stands (inputs_bound g.job.inputs) (input_streams g.given) env₁ sp buf₁ state₁
+  pub stands : Stands (inputs_bound g.job.inputs) (input_streams g.given) env₁ sp buf₁ counts
   pub kept : keeps (input_streams g.given) buf buf₁
   pub space : length env ≤ sp + binding_words * most_inputs
   pub few : length (input_streams g.given) ≤ suc most_depth * most_inputs
 
-module _ {t : List ℕ} {f : Formula} {g : Valued t f} {env env₁ : List ℕ} {buf buf₁ : List ℤ} {state₁ : List ℕ} where
-  over-full : {o : Option ℕ} {s : ℕ} → Loads g env env₁ buf buf₁ state₁ o (Full s) → o ≡ some s
-  over-full fills = refl
+module _ {t : List ℕ} {f : Formula} {g : Valued t f} {env env₁ : List ℕ} {buf buf₁ : List ℤ} {counts : Machine} where
+  over-full : {o : Option ℕ} {why : Refusal} → Loads g env env₁ buf buf₁ counts o (Err why) → (s : ℕ) × (why ≡ NoRoom s) × (o ≡ some s)
+  over-full (fills {s = s}) = (s, refl, refl)
 
-  laid : {o : Option ℕ} {sp : ℕ} → Loads g env env₁ buf buf₁ state₁ o (At sp) → Laid g env env₁ buf buf₁ state₁ o sp
+  laid : {o : Option ℕ} {sp : ℕ} → Loads g env env₁ buf buf₁ counts o (Ok sp) → Laid g env env₁ buf buf₁ counts o sp
   laid (loads s k p n) = record { fitting = refl; stands = s; kept = k; space = p; few = n }
 
 -- the inputs' streams and their trees
@@ -112,7 +112,7 @@ trees_of g = turned ∅ (input_trees 0 (input_types g.accepted.inputs))
 
 -- ---- an outcome, and what is left where it is one
 
-performs-refused : {o : Outcome} (r : Refusal) (buf buf₁ : List ℤ) (ans : List ℕ) → o ≡ refusal r → Performs o buf buf₁ ans ans (Refused r)
+performs-refused : {o : Outcome} (r : Refusal) (buf buf₁ : List ℤ) (ans : List ℕ) → o ≡ refusal r → Performs o buf buf₁ ans ans (Err r)
 performs-refused {o} r buf buf₁ ans e =
     record {
       shows = record { says = sym (ap ran_of e); answer-is = sym (ap (answer_after ans) e) };
@@ -129,47 +129,30 @@ left-answered lent text m buf buf₁ e = go (leb (length text) lent) refl
 
 -- ---- from the inputs to the answer
 
-module _ {t : List ℕ} {a : Task} {env env₁ : List ℕ} (g : Admitted t a (length env)) {buf buf₁ : List ℤ} {state₁ : List ℕ} where
+module _ {t : List ℕ} {a : Task} {env env₁ : List ℕ} (g : Admitted t a (length env)) {buf buf₁ : List ℤ} (w₁ : Walk) where
   -- the inputs don't fit
-  pub crowded : (r : Loaded) (s : ℕ) (ans : List ℕ) → r ≡ Full s
-      → Loads (valued-of g) env env₁ buf buf₁ state₁ (input_over (length buf) 0 0 g.accepted.given) r
-      → Performs (execution g (length buf) (length ans)) buf buf₁ ans ans (Refused (NoRoom s))
-  crowded r s ans e l =
-      performs-refused (NoRoom s) buf buf₁ ans
-      (ap (executed (length buf) (length ans) g.accepted.inputs g.accepted.term g.accepted.given)
-      (over-full
-      (subst (λ (x : Loaded). Loads (valued-of g) env env₁ buf buf₁ state₁ (input_over (length buf) 0 0 g.accepted.given) x) e l)))
+  pub crowded : {r : Returned ℕ Refusal} (why : Refusal) (ans : List ℕ) → r ≡ Err why
+      → Loads (valued-of g) env env₁ buf buf₁ w₁.machine (input_over (length buf) 0 0 g.accepted.given) r
+      → Performs (execution g (length buf) (length ans)) buf buf₁ ans ans (Err why)
+  crowded why ans e l = go (over-full (subst (λ (x : Returned ℕ Refusal). Loads (valued-of g) env env₁ buf buf₁ w₁.machine (input_over (length buf) 0 0 g.accepted.given) x) e l))
+    where
+      go : (s : ℕ) × (why ≡ NoRoom s) × (input_over (length buf) 0 0 g.accepted.given ≡ some s) → Performs (execution g (length buf) (length ans)) buf buf₁ ans ans (Err why)
+      go (s, is, passed) =
+          performs-refused why buf buf₁ ans
+          (ap (executed (length buf) (length ans) g.accepted.inputs g.accepted.term g.accepted.given) passed ∙ ap refusal (sym is))
 
-  module _ (r₀ : Loaded) (sp : ℕ) (at : r₀ ≡ At sp) (l : Loads (valued-of g) env env₁ buf buf₁ state₁ (input_over (length buf) 0 0 g.accepted.given) r₀)
-      (same : length env₁ ≡ length env) (text : List ℕ) where
-    pub here : Laid (valued-of g) env env₁ buf buf₁ state₁ (input_over (length buf) 0 0 g.accepted.given) sp
+  module _ {r₀ : Returned ℕ Refusal} (sp : ℕ) (at : r₀ ≡ Ok sp) (l : Loads (valued-of g) env env₁ buf buf₁ w₁.machine (input_over (length buf) 0 0 g.accepted.given) r₀)
+      (same : length env₁ ≡ length env) {text : List ℕ} (begun : Sunk (starting Running text) text w₁.sink) where
+    pub here : Laid (valued-of g) env env₁ buf buf₁ w₁.machine (input_over (length buf) 0 0 g.accepted.given) sp
     here =
         laid
-        (subst (λ (x : Loaded). Loads (valued-of g) env env₁ buf buf₁ state₁ (input_over (length buf) 0 0 g.accepted.given) x) at l)
-
-    pub eight : length state₁ ≡ 8
-    eight =
-        ap length (sym (take-append-drop 4 state₁))
-        ∙ (length-append (take 4 state₁) (drop 4 state₁) ∙ omega (arith, ap length here.stands.held.words, ap length here.stands.behind))
+        (subst (λ (x : Returned ℕ Refusal). Loads (valued-of g) env env₁ buf buf₁ w₁.machine (input_over (length buf) 0 0 g.accepted.given) x) at l)
 
     -- a sink that only runs
     abbrev pub runs : Sink
-    runs = record { mode = running; text = text; at = 0; own = 0; taken = []; most = 0 }
+    runs = starting Running text
 
-    pub sunk : Sunk runs text state₁
-    sunk =
-        record {
-          rest = [];
-          words = here.stands.behind;
-          whole = eight;
-          kept = omega arith;
-          small = omega arith;
-          near = omega arith;
-          text-is = refl;
-          plain = λ e. never (cc);
-        }
-
-    abbrev pub scene : Scene env₁ sp buf₁ state₁ text
+    abbrev pub scene : Scene env₁ sp buf₁ w₁ text
     scene =
         record {
           context = context g.accepted.inputs;
@@ -183,7 +166,7 @@ module _ {t : List ℕ} {a : Task} {env env₁ : List ℕ} (g : Admitted t a (le
           held = here.stands.held;
           within = here.stands.within;
           sink = runs;
-          sunk = sunk;
+          sunk = begun;
           wide = record { room = λ e. never (cc) };
         }
 
@@ -206,7 +189,7 @@ module _ {t : List ℕ} {a : Task} {env env₁ : List ℕ} (g : Admitted t a (le
           context-long [] g.accepted.inputs,
         )
 
-    abbrev pub ready : Ready t a.formula.expression sp env₁ buf₁ state₁ text
+    abbrev pub ready : Ready t a.formula.expression sp env₁ buf₁ w₁ text
     ready =
         record {
           scene = scene;
@@ -238,12 +221,12 @@ module _ {t : List ℕ} {a : Task} {env env₁ : List ℕ} (g : Admitted t a (le
           (sym (length-inputs g.accepted.given))
           (sym long)
 
-      module _ {env₂ : List ℕ} {buf₂ : List ℤ} {state₂ text₂ : List ℕ} {r : Walked} (w : Runs scene g.accepted.term 1 g.accepted.next env₂ buf₂ state₂ text₂ r) where
-        pub halted : (why : Refusal) (ans : List ℕ) → r ≡ walks.Stopped why
-            → Performs (execution g (length buf) (length ans)) buf buf₂ ans ans (Refused why)
+      module _ {env₂ : List ℕ} {buf₂ : List ℤ} {w₂ : Walk} {text₂ : List ℕ} {r : Returned Walked Refusal} (w : Runs scene g.accepted.term 1 g.accepted.next env₂ buf₂ w₂ text₂ r) where
+        pub halted : (why : Refusal) (ans : List ℕ) → r ≡ Err why
+            → Performs (execution g (length buf) (length ans)) buf buf₂ ans ans (Err why)
         halted why ans e = performs-refused why buf buf₂ ans (execution-is (length ans) ∙ go res (sym e ∙ w.says))
           where
-            go : (x : Result) → walks.Stopped why ≡ answer (depth_of g.accepted.type) g.accepted.next x
+            go : (x : Result) → Err why ≡ answer (depth_of g.accepted.type) g.accepted.next x
                 → finished g.accepted.type (length ans) (tree g.accepted.term (trees_of g) (length (inputs_of g))) x ≡ refusal why
             go (went m) q = never (cc)
             go (stopped y s) q = let same : why ≡ refusal_of y s = cc in ap refusal (sym same)
@@ -254,25 +237,30 @@ module _ {t : List ℕ} {a : Task} {env env₁ : List ℕ} (g : Admitted t a (le
           is : res ≡ went machine
           deep : depth ≡ depth_of g.accepted.type
 
-        through : (depth next : ℕ) → r ≡ walks.Tree depth next → Through depth
-        through depth next e = go res refl (sym e ∙ w.says)
+        through : (at : Walked) → r ≡ Ok at → Through at.depth
+        through at e = go res refl (sym e ∙ w.says)
           where
-            go : (x : Result) → res ≡ x → walks.Tree depth next ≡ answer (depth_of g.accepted.type) g.accepted.next x → Through depth
-            go (went m) p q = record { machine = m; is = p; deep = cc }
+            go : (x : Result) → res ≡ x → Ok at ≡ answer (depth_of g.accepted.type) g.accepted.next x → Through at.depth
+            go (went m) p q =
+                let same : at ≡ record { depth = depth_of g.accepted.type; next = g.accepted.next } = cc in
+                record { machine = m; is = p; deep = ap (λ (x : Walked). x.depth) same }
             go (stopped y s) p q = never (cc)
 
-        module _ (depth next : ℕ) (e : r ≡ walks.Tree depth next) where
-          abbrev m : State
-          m = (through depth next e).machine
+        module _ (reached : Walked) (e : r ≡ Ok reached) where
+          abbrev depth : ℕ
+          depth = reached.depth
 
-          left : Left m (feed (length (inputs_of g)) (code g.accepted.term (trees_of g) (length (inputs_of g))) runs) g.accepted.type (tree g.accepted.term (trees_of g) (length (inputs_of g))) sp env₁ env₂ buf₁ buf₂ state₂ text₂
-          left = w.leaves m (through depth next e).is
+          abbrev m : State
+          m = (through reached e).machine
+
+          left : Left m (feed (length (inputs_of g)) (code g.accepted.term (trees_of g) (length (inputs_of g))) runs) g.accepted.type (tree g.accepted.term (trees_of g) (length (inputs_of g))) sp env₁ env₂ buf₁ buf₂ w₂ text₂
+          left = w.leaves m (through reached e).is
 
           ran : (v : Val g.accepted.type) × RanOnce g.accepted.term (trees_of g) (length (inputs_of g)) (environment g.accepted) (loaded g.accepted.given) v m
           unfolding walked
           ran =
               let bounded = it-ends-if-all-fits (length buf₁) (code g.accepted.term (trees_of g) (length (inputs_of g))) 1 (loaded g.accepted.given) here.stands.held.fits m in
-              let boundless = (bounded.0 (through depth next e).is).0 in
+              let boundless = (bounded.0 (through reached e).is).0 in
               let v =
               a-run-has-a-value g.accepted.term (trees_of g) (length (inputs_of g)) (environment g.accepted) (loaded g.accepted.given) refl
               (inputs-agree g.accepted.given) boundless in
@@ -280,9 +268,9 @@ module _ {t : List ℕ} {a : Task} {env env₁ : List ℕ} (g : Admitted t a (le
 
           -- its type is said by the task's base and the walk's depth
           told-type : g.accepted.type ≡ type_of a.base depth
-          told-type = sym (type-of-both g.accepted.type) ∙ sym (λ i. type_of (g.base i) ((through depth next e).deep i))
+          told-type = sym (type-of-both g.accepted.type) ∙ sym (λ i. type_of (g.base i) ((through reached e).deep i))
 
-          abbrev finish : Finished g.accepted.type (sp - (3 * depth + 3)) env₂ buf₂ state₂
+          abbrev finish : Finished g.accepted.type (sp - (3 * depth + 3)) env₂ buf₂ w₂.machine
           finish =
               record {
                 machine = m;
@@ -291,19 +279,19 @@ module _ {t : List ℕ} {a : Task} {env env₁ : List ℕ} (g : Admitted t a (le
                 rest = drop sp env₁;
                 held = left.held;
                 holds = ran.1.results;
-                words = ap (λ (k : ℕ). drop (sp - tree_size k) env₂) (through depth next e).deep ∙ left.words;
+                words = ap (λ (k : ℕ). drop (sp - tree_size k) env₂) (through reached e).deep ∙ left.words;
                 shallow = shallow-type formed here.stands.shallow;
               }
 
-          pub finished-at : Finished (type_of a.base depth) (sp - (3 * depth + 3)) env₂ buf₂ state₂
-          finished-at = subst (λ (τ : ValueType). Finished τ (sp - (3 * depth + 3)) env₂ buf₂ state₂) told-type finish
+          pub finished-at : Finished (type_of a.base depth) (sp - (3 * depth + 3)) env₂ buf₂ w₂.machine
+          finished-at = subst (λ (τ : ValueType). Finished τ (sp - (3 * depth + 3)) env₂ buf₂ w₂.machine) told-type finish
 
           pub shallow : depth ≤ most_depth
-          shallow = omega (arith, finish.shallow, (through depth next e).deep)
+          shallow = omega (arith, finish.shallow, (through reached e).deep)
 
           -- the words of the result's tree are below sp
           pub low : tree_size depth ≤ sp
-          low = omega (arith, words-hold g.accepted.term, needed, (through depth next e).deep)
+          low = omega (arith, words-hold g.accepted.term, needed, (through reached e).deep)
 
           whole : buf₂ ≡ contents m.store ++ drop (room m.store) buf
           whole =
@@ -312,16 +300,16 @@ module _ {t : List ℕ} {a : Task} {env env₁ : List ℕ} (g : Admitted t a (le
               ∙ ap₂ ◌++◌ left.held.contents-are
               (left.kept ∙ drop-above buf₁ buf (room (inputs_of g)) (room m.store) here.kept (omega arith))
 
-          pub answers-it : {x : Ran-answer} {ans ans' : List ℕ}
-              → ((h : Finished (type_of a.base depth) (sp - (3 * depth + 3)) env₂ buf₂ state₂)
+          pub answers-it : {x : Returned Counts Refusal} {ans ans' : List ℕ}
+              → ((h : Finished (type_of a.base depth) (sp - (3 * depth + 3)) env₂ buf₂ w₂.machine)
               → Shows (answered (length ans) (answer_text (type_of a.base depth) h.tree h.machine.store) h.machine) ans ans' x)
               → Performs (execution g (length buf) (length ans)) buf buf₂ ans ans' x
           answers-it {x} {ans} {ans'} s =
-              let o = execution-is (length ans) ∙ ap (finished g.accepted.type (length ans) (tree g.accepted.term (trees_of g) (length (inputs_of g)))) (through depth next e).is in
+              let o = execution-is (length ans) ∙ ap (finished g.accepted.type (length ans) (tree g.accepted.term (trees_of g) (length (inputs_of g)))) (through reached e).is in
               let shown =
               subst
               (λ (τ : ValueType).
-              (h : Finished τ (sp - (3 * depth + 3)) env₂ buf₂ state₂)
+              (h : Finished τ (sp - (3 * depth + 3)) env₂ buf₂ w₂.machine)
               → Shows (answered (length ans) (answer_text τ h.tree h.machine.store) h.machine) ans ans' x)
               (sym told-type)
               s
@@ -347,14 +335,14 @@ all-cleared l n e =
     let all : length l - 0 ≡ n = omega arith in
     ap (λ (k : ℕ). replicate k (pos 0)) all
 
-pub settled : {o : Outcome} {buf buf₁ buf₂ : List ℤ} {ans ans' : List ℕ} {r : Ran-answer} {from : ℕ} → Performs o buf buf₁ ans ans' r
+pub settled : {o : Outcome} {buf buf₁ buf₂ : List ℤ} {ans ans' : List ℕ} {r : Returned Counts Refusal} {from : ℕ} → Performs o buf buf₁ ans ans' r
     → length buf₁ ≡ length buf → from ≡ spoiled_from r (length buf₁) → buf₂ ≡ cleared (pos 0) from buf₁
     → Executes o buf buf₂ ans ans' r
 settled {o} {buf} {buf₁} {buf₂} {ans} {ans'} {r} p long f e = go o r p (e ∙ ap (λ (k : ℕ). cleared (pos 0) k buf₁) f)
   where
-    go : (o : Outcome) (r : Ran-answer) → Performs o buf buf₁ ans ans' r → buf₂ ≡ cleared (pos 0) (spoiled_from r (length buf₁)) buf₁
+    go : (o : Outcome) (r : Returned Counts Refusal) → Performs o buf buf₁ ans ans' r → buf₂ ≡ cleared (pos 0) (spoiled_from r (length buf₁)) buf₁
         → Executes o buf buf₂ ans ans' r
-    go (value text w s m held) (Value c) p e = record { shows = p.shows; used = e ∙ (nothing-cleared buf₁ ∙ p.left) }
-    go (refusal y) (Refused x) p e = record { shows = p.shows; used = e ∙ all-cleared buf₁ (length buf) long }
-    go (value text w s m held) (Refused x) p e = never (cc p.shows.says)
-    go (refusal y) (Value c) p e = never (cc p.shows.says)
+    go (value text w s m held) (Ok c) p e = record { shows = p.shows; used = e ∙ (nothing-cleared buf₁ ∙ p.left) }
+    go (refusal y) (Err x) p e = record { shows = p.shows; used = e ∙ all-cleared buf₁ (length buf) long }
+    go (value text w s m held) (Err x) p e = never (cc p.shows.says)
+    go (refusal y) (Ok c) p e = never (cc p.shows.says)

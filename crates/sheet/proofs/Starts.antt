@@ -10,6 +10,7 @@ use lib.IntN.{ℤ}
 use lib.ListN.{length, get_or, set, take, drop}
 use lib.Seq.{get_or-set_same, get_or-set_other, get_or-drop, get_or-append-add}
 use Rattle.laws.specs.Parts.{part}
+use Rattle.environment.specs.declared.machine.Machine.{Machine}
 use Rattle.environment.specs.Words.{Place, place_words, tree_words}
 use Rattle.environment.proofs.Finding.{length-tree}
 use Rattle.snesl.specs.declared.code.Base.{Base}
@@ -57,7 +58,7 @@ starts-of cs words rest (node {d = d} t p) e h =
 
 -- ---- the streams that start there
 
-module _ {m : State} {buf : List ℤ} {state : List ℕ} (h : Held m buf state) (cs : List ℕ) where
+module _ {m : State} {buf : List ℤ} {counts : Machine} (h : Held m buf counts) (cs : List ℕ) where
   there : store.Holds buf m.store
   there = record { content = h.contents-are; fits = h.fits }
 
@@ -71,7 +72,7 @@ module _ {m : State} {buf : List ℤ} {state : List ℕ} (h : Held m buf state) 
         ∙ (store.stands there s (flags (segments vs)) e).content,
   )
 
-pub tree-stands : {m : State} {buf : List ℤ} {state : List ℕ} → Held m buf state
+pub tree-stands : {m : State} {buf : List ℤ} {counts : Machine} → Held m buf counts
     → (β : Base) (d : ℕ) (t : IdTree (type_of β d)) (vs : List (Val (type_of β d))) → Holds m.store (type_of β d) t vs
     → (env : List ℕ) (from : ℕ) (rest : List ℕ) → drop from env ≡ tree_words (map_tree (place m.store) t) ++ rest
     → (cs : List ℕ) → ((i : ℕ) → i < d + 1 → get_or cs i 0 ≡ get_or env (from + (3 * i + 1)) 0)

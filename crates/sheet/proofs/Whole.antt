@@ -26,8 +26,8 @@ use Rattle.snesl.specs.Demands.{declines, Demands}
 use Rattle.snesl.proofs.Jobs.Course.{outcome-executed}
 use Rattle.laws.specs.Parts.{cleared}
 use Rattle.sheet.specs.declared.admission.Task.{Task}
-use Rattle.sheet.specs.declared.Ran.{Ran}
-use Rattle.sheet.specs.declared.Ran.TheVariants.{Refused}
+use Rattle.std.specs.Prelude.{Result as Returned, Err}
+use Rattle.sheet.specs.declared.Counts.{Counts}
 use Rattle.sheet.specs.Runs.{ran_of, told, Exact, Admitted, execution, Performs, spoiled_from, used_after}
 use Rattle.sheet.proofs.Admitting.{Turned}
 use Rattle.sheet.proofs.OneAnswer.{demanded, exacted}
@@ -72,7 +72,7 @@ stored buf buf' u (refusal r) late e =
 stored buf buf' u (value text work steps room held) late e = e
 
 module _ {t : List ℕ} {a : Task} {enough : ℕ} (g : Admitted t a enough) {buf buf₁ buf₂ : List ℤ} (short : length buf ≤ most_elements) where
-  pub kept-used : {answer answer' : List ℕ} {r : Ran} {from : ℕ} → Performs (execution g (length buf) (length answer)) buf buf₁ answer answer' r
+  pub kept-used : {answer answer' : List ℕ} {r : Returned Counts Refusal} {from : ℕ} → Performs (execution g (length buf) (length answer)) buf buf₁ answer answer' r
       → length buf₁ ≡ length buf → from ≡ spoiled_from r (length buf₁) → buf₂ ≡ cleared (pos 0) from buf₁
       → Demands t buf buf₂ answer answer' (told r)
   kept-used {answer} {answer'} {r} p long spoiled clear =
@@ -129,7 +129,7 @@ module _ (streams front : List ℤ) (used : ℕ) (u : used ≡ used_of (length s
   put (refusal (NoRepresentation p)) e = left e
   put (value text work steps room held) e = put_back held e
 
-  pub kept_whole : {t answer answer' : List ℕ} (r : Ran) → Demands t (take used streams) front answer answer' (told r)
+  pub kept_whole : {t answer answer' : List ℕ} (r : Returned Counts Refusal) → Demands t (take used streams) front answer answer' (told r)
       → Demands t streams (front ++ drop used streams) answer answer' (told r)
   kept_whole {t} {answer} r d =
       let x = exacted r d in
@@ -147,7 +147,7 @@ module _ (streams front : List ℤ) (used : ℕ) (u : used ≡ used_of (length s
 pub kept-untouched : {t : List ℕ} (r : Refusal) (streams : List ℤ) (answer : List ℕ) → Turned t r → Demands t streams streams answer answer (declines r)
 kept-untouched {t} r streams answer h =
     let o = h.comes (length streams) (length answer) in
-    let x : Exact t streams streams answer answer (Refused r) =
+    let x : Exact t streams streams answer answer (Err r) =
     record {
       says = sym (ap ran_of o);
       streams-are = sym (h.keeps streams) ∙ sym (ap (streams_after streams) o);

@@ -4,9 +4,9 @@ ghost use Rattle.snesl.specs.Limits.{most_inputs};
 ghost use Rattle.inputs.specs.Supply.{per_input};
 ghost use Rattle.sheet.specs.Admission.{admission, admission_counts};
 
-use checking::check::{Judged, check_front};
-use formula::read::{JobRead, read_job};
-use inputs::texts::{Texts, measure_texts};
+use checking::check::check_front;
+use formula::read::read_job;
+use inputs::texts::measure_texts;
 use snesl::code::Base;
 use snesl::limits::Formula;
 use snesl::refusal::Refusal;
@@ -19,35 +19,18 @@ pub struct Task {
     pub words: usize,
 }
 
-#[derive(Clone, Copy)]
-pub enum Admission {
-    Admitted(Task),
-    Refused(Refusal),
-}
-
-pub fn admit(job: &[u8], counts: &mut [usize]) -> Admission
+pub fn admit(job: &[u8], counts: &mut [usize]) -> Result<Task, Refusal>
     requires { per_input * most_inputs ≤ length counts.old }
     ensures value { result ≡ admission job.now }
     ensures counts_after { counts.new ≡ admission_counts job.now counts.old }
 {
-    match read_job(job) {
-        JobRead::Refused(refusal) => Admission::Refused(refusal),
-        JobRead::Found(found) => {
-            let formula = found.formula;
-            match check_front(job, formula) {
-                Judged::Refused(refusal) => Admission::Refused(refusal),
-                Judged::Typed(typed, words) => {
-                    let base = typed.base;
-                    match measure_texts(job, formula, counts) {
-                        Texts::Good => Admission::Admitted(Task {
-                            formula,
-                            base,
-                            words,
-                        }),
-                        Texts::Bad(place) => Admission::Refused(Refusal::NoValueText(place)),
-                    }
-                }
-            }
-        }
-    }
+    let formula = read_job(job)?.formula;
+    let judged = check_front(job, formula)?;
+    let base = judged.found.base;
+    measure_texts(job, formula, counts)?;
+    Ok(Task {
+        formula,
+        base,
+        words: judged.words,
+    })
 }

@@ -1,8 +1,6 @@
 // Running a job (document 01): read, checked, its inputs loaded, its formula walked, its answer shown.
 #![tactic(auto)]
 
-use snesl::refusal::Refusal;
-
 mod admission;
 mod execution;
 mod result;
@@ -11,17 +9,10 @@ mod running;
 pub use running::run;
 
 // What a run that has a value answers: the bytes of its text, and what it cost.
-#[derive(Clone, Copy)]
+#[derive(Clone, Copy, Debug, PartialEq, Eq)]
 pub struct Counts {
     pub text: usize,
     pub work: usize,
     pub steps: usize,
     pub room: usize,
-}
-
-// A value, or the one refusal.
-#[derive(Clone, Copy)]
-pub enum Ran {
-    Value(Counts),
-    Refused(Refusal),
 }

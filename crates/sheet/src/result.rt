@@ -4,7 +4,8 @@ ghost use Rattle.snesl.specs.Values.{type_of};
 ghost use Rattle.snesl.specs.Outcome.{answer_text, answered};
 ghost use Rattle.sheet.specs.Runs.{Finished, Shows};
 
-use crate::{Counts, Ran};
+use crate::Counts;
+use environment::machine::Machine;
 use levels::counts::LEVELS;
 use rendering::showing::value_text;
 use snesl::code::Base;
@@ -15,10 +16,8 @@ fn tree_starts(env: &[u32], from: usize, levels: usize, places: &mut [usize])
     requires { (from + 3 * levels ≤ length env.now) × (levels ≤ length places.old) }
     ensures { (i : ℕ) → i < levels → get_or places.new i 0 ≡ get_or env.now (from + (3 * i + 1)) 0 }
 {
-    let mut i: usize = 0;
-    while i < levels {
+    for i in 0..levels {
         places[i] = env[from + (3 * i + 1)] as usize;
-        i += 1;
     }
 }
 
@@ -29,27 +28,23 @@ pub fn show(
     from: usize,
     env: &[u32],
     buf: &[i32],
-    state: &[usize],
+    machine: Machine,
     answer: &mut [u8],
-) -> Ran
-    requires { Finished (type_of base depth) from env.now buf.now state.now }
-    ensures { (g : Finished (type_of base depth) from env.now buf.now state.now) → Shows (answered (length answer.old) (answer_text (type_of base depth) g.tree g.machine.store) g.machine) answer.old answer.new result }
+) -> Result<Counts, Refusal>
+    requires { Finished (type_of base depth) from env.now buf.now machine }
+    ensures { (g : Finished (type_of base depth) from env.now buf.now machine) → Shows (answered (length answer.old) (answer_text (type_of base depth) g.tree g.machine.store) g.machine) answer.old answer.new result }
 {
     let mut places = [0usize; LEVELS];
-    let mut nothing = [0u8; 1];
     tree_starts(env, from, depth + 1, &mut places);
-    let bytes = value_text(buf, &places, base, depth as u8, &mut nothing[..0]);
+    let bytes = value_text(buf, &places, base, depth as u8, &mut []);
     if bytes > answer.len() {
-        return Ran::Refused(Refusal::NoAnswerRoom(bytes));
+        return Err(Refusal::NoAnswerRoom(bytes));
     }
     value_text(buf, &places, base, depth as u8, answer);
-    let room = state[1];
-    let work = state[2];
-    let steps = state[3];
-    Ran::Value(Counts {
+    Ok(Counts {
         text: bytes,
-        work,
-        steps,
-        room,
+        work: machine.work,
+        steps: machine.steps,
+        room: machine.room,
     })
 }

@@ -1,11 +1,11 @@
 -- The two bytes compute to their bases; any other is the definition's last row.
 use Prim.Native.Nat.{ℕ, zero, suc}
 use mathlib.Core.Path.{◌≡◌, refl, sym, ap}
-use Rattle.hailspindle.specs.declared.bases.Read.TheVariants as read
+use Rattle.std.specs.Prelude.{None}
 use Rattle.hailspindle.specs.Bases.{base_from}
 use Rattle.hailspindle.proofs.bases.base_from.Goals as goal
 
-none_other : (n : ℕ) → (n ≡ 0 → ⊥) → (n ≡ 1 → ⊥) → read.No ≡ base_from n
+none_other : (n : ℕ) → (n ≡ 0 → ⊥) → (n ≡ 1 → ⊥) → None ≡ base_from n
 none_other zero f g = absurd (f refl)
 none_other (suc zero) f g = absurd (g refl)
 none_other (suc (suc n)) f g = refl

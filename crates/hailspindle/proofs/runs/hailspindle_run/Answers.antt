@@ -2,8 +2,8 @@
 use Rattle.hailspindle.proofs.Replying.{refused-keeps, valued-keeps, keeps-exactly}
 use Rattle.hailspindle.proofs.runs.hailspindle_run.Goals as goal
 
-pub returns-in-Refused : goal.returns-in-Refused
-returns-in-Refused c = let k = refused-keeps c.run.ensures.demands c.in-Refused.refusal c.in-Refused.is c.number.ensures c.place-at.ensures c.four.ensures in search (k, keeps-exactly k)
+pub returns-in-Ok : goal.returns-in-Ok
+returns-in-Ok c = let k = valued-keeps c.run.ensures.demands c.in-Ok.counts c.in-Ok.is c.note.ensures in search (k, keeps-exactly k)
 
-pub returns-in-Value : goal.returns-in-Value
-returns-in-Value c = let k = valued-keeps c.run.ensures.demands c.in-Value.counts c.in-Value.is c.four-in-Value.ensures in search (k, keeps-exactly k)
+pub returns-in-Err : goal.returns-in-Err
+returns-in-Err c = let k = refused-keeps c.run.ensures.demands c.in-Err.refusal c.in-Err.is c.refuse.ensures.value c.refuse.ensures.figures_after in search (k, keeps-exactly k)

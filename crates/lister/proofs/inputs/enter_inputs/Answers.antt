@@ -5,67 +5,34 @@ use Rattle.lister.proofs.Declaring as declaring
 use Rattle.lister.proofs.inputs.enter_inputs.Goals as goal
 
 pub loop-i-init : goal.loop-i-init
-loop-i-init c = (λ g. declaring.start g, omega arith)
-
-pub overflow_mul-x : goal.overflow_mul-x
-overflow_mul-x c = omega (arith, declaring.sizes c.requires (c.loop-i.invariant.0 c.requires) c.loop-i-test.true)
-
-pub overflow_add-x : goal.overflow_add-x
-overflow_add-x c = omega (arith, declaring.sizes c.requires (c.loop-i.invariant.0 c.requires) c.loop-i-test.true)
+loop-i-init c = λ g. declaring.start g
 
 pub bounds-bytes-i : goal.bounds-bytes-i
-bounds-bytes-i c = omega (arith, declaring.sizes c.requires (c.loop-i.invariant.0 c.requires) c.loop-i-test.true)
-
-pub overflow_mul-depth : goal.overflow_mul-depth
-overflow_mul-depth c = omega (arith, declaring.sizes c.requires (c.loop-i.invariant.0 c.requires) c.loop-i-test.true)
-
-pub overflow_add-depth : goal.overflow_add-depth
-overflow_add-depth c = omega (arith, declaring.sizes c.requires (c.loop-i.invariant.0 c.requires) c.loop-i-test.true)
+bounds-bytes-i c = omega (arith, declaring.sizes c.requires (c.loop-i.invariant c.requires) c.loop-i-test.true)
 
 pub bounds-bytes-i-in-loop-i : goal.bounds-bytes-i-in-loop-i
-bounds-bytes-i-in-loop-i c = omega (arith, declaring.sizes c.requires (c.loop-i.invariant.0 c.requires) c.loop-i-test.true)
-
-pub overflow_cast-depth : goal.overflow_cast-depth
-overflow_cast-depth c = omega (arith, declaring.sizes c.requires (c.loop-i.invariant.0 c.requires) c.loop-i-test.true)
-
-pub overflow_mul-at : goal.overflow_mul-at
-overflow_mul-at c = omega (arith, declaring.sizes c.requires (c.loop-i.invariant.0 c.requires) c.loop-i-test.true)
-
-pub overflow_add-at : goal.overflow_add-at
-overflow_add-at c = omega (arith, declaring.sizes c.requires (c.loop-i.invariant.0 c.requires) c.loop-i-test.true)
+bounds-bytes-i-in-loop-i c = omega (arith, declaring.sizes c.requires (c.loop-i.invariant c.requires) c.loop-i-test.true)
 
 pub overflow_sub-at : goal.overflow_sub-at
-overflow_sub-at c = omega (arith, declaring.sizes c.requires (c.loop-i.invariant.0 c.requires) c.loop-i-test.true)
+overflow_sub-at c = omega (arith, declaring.sizes c.requires (c.loop-i.invariant c.requires) c.loop-i-test.true)
 
 pub put_places-requires : goal.put_places-requires
-put_places-requires c = omega (arith, declaring.sizes c.requires (c.loop-i.invariant.0 c.requires) c.loop-i-test.true)
+put_places-requires c = omega (arith, declaring.sizes c.requires (c.loop-i.invariant c.requires) c.loop-i-test.true)
 
 pub overflow_sub-at-in-loop-i : goal.overflow_sub-at-in-loop-i
-overflow_sub-at-in-loop-i c = omega (arith, declaring.sizes c.requires (c.loop-i.invariant.0 c.requires) c.loop-i-test.true)
+overflow_sub-at-in-loop-i c = omega (arith, declaring.sizes c.requires (c.loop-i.invariant c.requires) c.loop-i-test.true)
 
 pub put_name-requires : goal.put_name-requires
-put_name-requires c = omega (arith, declaring.sizes c.requires (c.loop-i.invariant.0 c.requires) c.loop-i-test.true, c.put_places.auto.env)
+put_name-requires c = omega (arith, declaring.sizes c.requires (c.loop-i.invariant c.requires) c.loop-i-test.true, c.put_places.auto.env)
 
 pub overflow_sub-sp : goal.overflow_sub-sp
-overflow_sub-sp c = omega (arith, declaring.sizes c.requires (c.loop-i.invariant.0 c.requires) c.loop-i-test.true)
-
-pub overflow_add-id : goal.overflow_add-id
-overflow_add-id c = omega (arith, declaring.sizes c.requires (c.loop-i.invariant.0 c.requires) c.loop-i-test.true)
+overflow_sub-sp c = omega (arith, declaring.sizes c.requires (c.loop-i.invariant c.requires) c.loop-i-test.true)
 
 pub overflow_add-id-in-loop-i : goal.overflow_add-id-in-loop-i
-overflow_add-id-in-loop-i c = omega (arith, declaring.sizes c.requires (c.loop-i.invariant.0 c.requires) c.loop-i-test.true)
-
-pub overflow_add-i : goal.overflow_add-i
-overflow_add-i c = omega (arith, declaring.sizes c.requires (c.loop-i.invariant.0 c.requires) c.loop-i-test.true)
-
-pub loop-i-smaller : goal.loop-i-smaller
-loop-i-smaller c = omega (arith, c.loop-i-test.true)
+overflow_add-id-in-loop-i c = omega (arith, declaring.sizes c.requires (c.loop-i.invariant c.requires) c.loop-i-test.true)
 
 pub loop-i-preserved : goal.loop-i-preserved
-loop-i-preserved c = (λ g. declaring.turn g (c.loop-i.invariant.0 g) c.loop-i-test.true refl c.put_places.ensures c.put_name.ensures, omega (arith, c.loop-i-test.true))
-
-pub shape_of-env : goal.shape_of-env
-shape_of-env c = (c.loop-i.invariant.0 c.requires).long
+loop-i-preserved c = λ g. declaring.turn g (c.loop-i.invariant g) c.loop-i-test.true refl c.put_places.ensures c.put_name.ensures
 
 pub returns : goal.returns
-returns c = λ g. declaring.done g (c.loop-i.invariant.0 g) c.loop-i-test.false
+returns c = λ g. declaring.done g (c.loop-i.invariant g) c.loop-i-test.false

@@ -1,11 +1,7 @@
 -- i inputs are entered.
-use Prim.Native.Nat.{◌-◌, ◌≤◌}
 use Rattle.lister.specs.Inputs.{Declares}
 use Rattle.lister.proofs.Declaring.{Entering}
 use Rattle.lister.proofs.inputs.enter_inputs.Given as goal
 
 abbrev pub invariant-loop-i : goal.invariant-loop-i
-invariant-loop-i l = ((g : Declares l.bytes l.inputs l.initial.env) → Entering g l.i l.env l.sp l.id) × (l.i ≤ l.inputs)
-
-abbrev pub decreases-loop-i : goal.decreases-loop-i
-decreases-loop-i l = l.inputs - l.i
+invariant-loop-i l = (g : Declares l.bytes l.inputs l.initial.env) → Entering g l.i l.env l.sp l.id

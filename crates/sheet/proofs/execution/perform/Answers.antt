@@ -1,50 +1,61 @@
 -- Loaded, walked and shown, or refused on the way.
+use mathlib.Core.List.{[]}
+use mathlib.Core.Path.{◌≡◌}
 use native.Mathlib.Omega.{arith}
+use Rattle.std.proofs.Common.{rules, Err}
+use Rattle.sink.specs.declared.state.Walk.{Walk}
 use Rattle.sheet.proofs.Performing.{valued-of, crowded, ready, low, halted, finished-at, shallow, answers-it}
 use Rattle.sheet.proofs.execution.perform.Goals as goal
 
 pub load-requires : goal.load-requires
 load-requires c = record {
   valued = (valued-of c.requires.admitted.0, c.requires.admitted.1);
-  most_inputs_in_bounds = (c.requires.most_inputs_in_bounds.0, c.requires.most_inputs_in_bounds.1, c.requires.most_inputs_in_bounds.2);
+  most_inputs_in_bounds = (c.requires.most_inputs_in_bounds.0, c.requires.most_inputs_in_bounds.1, c.new-state.ensures.machine);
 }
 
 pub walk-requires : goal.walk-requires
 walk-requires c = let here = c.requires.admitted.0 in
-    ready here c.load.result c.in-At.sp c.in-At.is (c.load.ensures (valued-of here)) c.load.auto.env c.args.text.now
+    ready here (record c.new-state.result { machine = c.load.new.machine }) c.in_ok-sp.sp c.in_ok-sp.was (c.load.ensures (valued-of here)) c.load.auto.env (c.new-state.ensures.sink [])
 
-pub overflow_mul-depth : goal.overflow_mul-depth
-overflow_mul-depth c = let here = c.requires.admitted.0 in
-    let first = ready here c.load.result c.in-At.sp c.in-At.is (c.load.ensures (valued-of here)) c.load.auto.env c.args.text.now in
-    omega (arith, shallow here c.load.result c.in-At.sp c.in-At.is (c.load.ensures (valued-of here)) c.load.auto.env c.args.text.now c.load.auto.buf (c.walk.ensures first) c.in-Tree.depth c.in-Tree.field-1 c.in-Tree.is)
+pub overflow_mul-tree : goal.overflow_mul-tree
+overflow_mul-tree c = let here = c.requires.admitted.0 in
+    let w : Walk = record c.new-state.result { machine = c.load.new.machine } in
+    let first = ready here w c.in_ok-sp.sp c.in_ok-sp.was (c.load.ensures (valued-of here)) c.load.auto.env (c.new-state.ensures.sink []) in
+    omega (arith, shallow here w c.in_ok-sp.sp c.in_ok-sp.was (c.load.ensures (valued-of here)) c.load.auto.env (c.new-state.ensures.sink []) c.load.auto.buf (c.walk.ensures first) c.in_ok-depth.field-0 c.in_ok-depth.was)
 
-pub overflow_add-depth : goal.overflow_add-depth
-overflow_add-depth c = let here = c.requires.admitted.0 in
-    let first = ready here c.load.result c.in-At.sp c.in-At.is (c.load.ensures (valued-of here)) c.load.auto.env c.args.text.now in
-    omega (arith, shallow here c.load.result c.in-At.sp c.in-At.is (c.load.ensures (valued-of here)) c.load.auto.env c.args.text.now c.load.auto.buf (c.walk.ensures first) c.in-Tree.depth c.in-Tree.field-1 c.in-Tree.is)
+pub overflow_add-tree : goal.overflow_add-tree
+overflow_add-tree c = let here = c.requires.admitted.0 in
+    let w : Walk = record c.new-state.result { machine = c.load.new.machine } in
+    let first = ready here w c.in_ok-sp.sp c.in_ok-sp.was (c.load.ensures (valued-of here)) c.load.auto.env (c.new-state.ensures.sink []) in
+    omega (arith, shallow here w c.in_ok-sp.sp c.in_ok-sp.was (c.load.ensures (valued-of here)) c.load.auto.env (c.new-state.ensures.sink []) c.load.auto.buf (c.walk.ensures first) c.in_ok-depth.field-0 c.in_ok-depth.was)
 
-pub overflow_sub-sp : goal.overflow_sub-sp
-overflow_sub-sp c = let here = c.requires.admitted.0 in
-    let first = ready here c.load.result c.in-At.sp c.in-At.is (c.load.ensures (valued-of here)) c.load.auto.env c.args.text.now in
-    omega (
-      arith,
-      low here c.load.result c.in-At.sp c.in-At.is (c.load.ensures (valued-of here)) c.load.auto.env c.args.text.now c.load.auto.buf (c.walk.ensures first) c.in-Tree.depth c.in-Tree.field-1 c.in-Tree.is,
-    )
+pub overflow_sub-tree : goal.overflow_sub-tree
+overflow_sub-tree c = let here = c.requires.admitted.0 in
+    let w : Walk = record c.new-state.result { machine = c.load.new.machine } in
+    let first = ready here w c.in_ok-sp.sp c.in_ok-sp.was (c.load.ensures (valued-of here)) c.load.auto.env (c.new-state.ensures.sink []) in
+    omega (arith, low here w c.in_ok-sp.sp c.in_ok-sp.was (c.load.ensures (valued-of here)) c.load.auto.env (c.new-state.ensures.sink []) c.load.auto.buf (c.walk.ensures first) c.in_ok-depth.field-0 c.in_ok-depth.was)
 
 pub show-requires : goal.show-requires
 show-requires c = let here = c.requires.admitted.0 in
-    let first = ready here c.load.result c.in-At.sp c.in-At.is (c.load.ensures (valued-of here)) c.load.auto.env c.args.text.now in
-    finished-at here c.load.result c.in-At.sp c.in-At.is (c.load.ensures (valued-of here)) c.load.auto.env c.args.text.now c.load.auto.buf (c.walk.ensures first) c.in-Tree.depth c.in-Tree.field-1 c.in-Tree.is
+    let w : Walk = record c.new-state.result { machine = c.load.new.machine } in
+    let first = ready here w c.in_ok-sp.sp c.in_ok-sp.was (c.load.ensures (valued-of here)) c.load.auto.env (c.new-state.ensures.sink []) in
+    finished-at here w c.in_ok-sp.sp c.in_ok-sp.was (c.load.ensures (valued-of here)) c.load.auto.env (c.new-state.ensures.sink []) c.load.auto.buf (c.walk.ensures first) c.in_ok-depth.field-0 c.in_ok-depth.was
 
-pub returns-in-Full : goal.returns-in-Full
-returns-in-Full c = λ here. crowded here c.load.result c.in-Full.id c.args.answer.now c.in-Full.is (c.load.ensures (valued-of here))
+pub returns-in_err-sp : goal.returns-in_err-sp
+returns-in_err-sp c = λ here.
+    let w : Walk = record c.new-state.result { machine = c.load.new.machine } in
+    let refused : c.from_residual.result ≡ Err c.in_err-sp.field-0.0 = search rules in
+    rw refused (crowded here w c.in_err-sp.field-0.0 c.args.answer.now c.in_err-sp.was (c.load.ensures (valued-of here)))
 
-pub returns-in-Stopped : goal.returns-in-Stopped
-returns-in-Stopped c = λ here.
-    let first = ready here c.load.result c.in-At.sp c.in-At.is (c.load.ensures (valued-of here)) c.load.auto.env c.args.text.now in
-    halted here c.load.result c.in-At.sp c.in-At.is (c.load.ensures (valued-of here)) c.load.auto.env c.args.text.now c.load.auto.buf (c.walk.ensures first) c.in-Stopped.refusal c.args.answer.now c.in-Stopped.is
+pub returns-in_err-depth : goal.returns-in_err-depth
+returns-in_err-depth c = λ here.
+    let w : Walk = record c.new-state.result { machine = c.load.new.machine } in
+    let first = ready here w c.in_ok-sp.sp c.in_ok-sp.was (c.load.ensures (valued-of here)) c.load.auto.env (c.new-state.ensures.sink []) in
+    let refused : c.from_residual-in_err-depth.result ≡ Err c.in_err-depth.field-0.0 = search rules in
+    rw refused (halted here w c.in_ok-sp.sp c.in_ok-sp.was (c.load.ensures (valued-of here)) c.load.auto.env (c.new-state.ensures.sink []) c.load.auto.buf (c.walk.ensures first) c.in_err-depth.field-0.0 c.args.answer.now c.in_err-depth.was)
 
-pub returns-in-Tree : goal.returns-in-Tree
-returns-in-Tree c = λ here.
-    let first = ready here c.load.result c.in-At.sp c.in-At.is (c.load.ensures (valued-of here)) c.load.auto.env c.args.text.now in
-    answers-it here c.load.result c.in-At.sp c.in-At.is (c.load.ensures (valued-of here)) c.load.auto.env c.args.text.now c.load.auto.buf (c.walk.ensures first) c.in-Tree.depth c.in-Tree.field-1 c.in-Tree.is c.show.ensures
+pub returns : goal.returns
+returns c = λ here.
+    let w : Walk = record c.new-state.result { machine = c.load.new.machine } in
+    let first = ready here w c.in_ok-sp.sp c.in_ok-sp.was (c.load.ensures (valued-of here)) c.load.auto.env (c.new-state.ensures.sink []) in
+    answers-it here w c.in_ok-sp.sp c.in_ok-sp.was (c.load.ensures (valued-of here)) c.load.auto.env (c.new-state.ensures.sink []) c.load.auto.buf (c.walk.ensures first) c.in_ok-depth.field-0 c.in_ok-depth.was c.show.ensures

@@ -1,6 +1,6 @@
 -- Measured, and written where it fits.
 use native.Mathlib.Omega.{arith}
-use Rattle.sheet.proofs.Answering.{words-within, shallow, four, value-stands, too_long, written}
+use Rattle.sheet.proofs.Answering.{words-within, shallow, value-stands, too_long, written}
 use Rattle.sheet.proofs.result.show.Goals as goal
 
 pub overflow_add-depth : goal.overflow_add-depth
@@ -21,18 +21,9 @@ returns-then-bytes-answer c = λ g. too_long c.args.base c.args.depth g c.tree_s
 pub overflow_cast-depth-2 : goal.overflow_cast-depth-2
 overflow_cast-depth-2 c = omega (arith, shallow c.args.base c.args.depth c.requires)
 
-pub value_text-room-requires : goal.value_text-room-requires
-value_text-room-requires c = value-stands c.args.base c.args.depth c.requires c.tree_starts.new.places c.tree_starts.ensures c.tree_starts.auto.places
-
-pub bounds-state-1 : goal.bounds-state-1
-bounds-state-1 c = omega (arith, four c.requires)
-
-pub bounds-state-2 : goal.bounds-state-2
-bounds-state-2 c = omega (arith, four c.requires)
-
-pub bounds-state-3 : goal.bounds-state-3
-bounds-state-3 c = omega (arith, four c.requires)
+pub value_text-requires : goal.value_text-requires
+value_text-requires c = value-stands c.args.base c.args.depth c.requires c.tree_starts.new.places c.tree_starts.ensures c.tree_starts.auto.places
 
 pub returns : goal.returns
 returns c = λ g.
-    written c.args.base c.args.depth g c.tree_starts.new.places c.tree_starts.ensures c.value_text-bytes.ensures c.args.answer.now c.value_text-room.new.answer c.if-bytes-answer.false c.value_text-room.ensures
+    written c.args.base c.args.depth g c.tree_starts.new.places c.tree_starts.ensures c.value_text-bytes.ensures c.args.answer.now c.value_text.new.answer c.if-bytes-answer.false c.value_text.ensures

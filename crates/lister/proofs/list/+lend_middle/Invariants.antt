@@ -1,5 +1,0 @@
--- So many words are enough, so that the call of itself is never made.
-use Rattle.lister.proofs.list.+lend_middle.Given as goal
-
-abbrev pub decreases-lend_middle : goal.decreases-lend_middle
-decreases-lend_middle l = 0
