@@ -2,80 +2,12 @@
 // with I one digit, as in the vectors for document 01 (`-` for no bytes); a part is printed as its bytes.
 #![tactic(auto)]
 
-ghost use Rattle.std.specs.Prelude.{◌≡◌, ◌≤◌, length};
-ghost use Rattle.snesl.specs.Refusals as refusals;
-
-use checking::check::{Checked, check};
+use checking::check::check;
+use console::digits::{decode, digit};
 use console::read_full;
 use finder::find::find;
 use snesl::code::Base;
-use snesl::refusal::Refusal;
 use std::io;
-
-// A hexadecimal digit, and 0 for anything else.
-fn digit(c: u8) -> u8
-    ensures { result ≤ 15 }
-{
-    match c {
-        b'0'..=b'9' => c - 48,
-        b'a'..=b'f' => c - 87,
-        _ => 0,
-    }
-}
-
-// The bytes that pairs of digits from a position on stand for, as many as there is room for.
-fn decode(line: &[u8], from: usize, out: &mut [u8]) -> usize
-    requires { from ≤ length line.now }
-    ensures { result ≤ length out.new }
-{
-    let mut at = from;
-    let mut n = 0;
-    while n < out.len() {
-        if line.len() - at < 2 {
-            return n;
-        }
-        out[n] = digit(line[at]) * 16 + digit(line[at + 1]);
-        at += 2;
-        n += 1;
-    }
-    n
-}
-
-fn number(refusal: Refusal) -> u64
-    ensures { result ≡ refusals.number refusal }
-{
-    match refusal {
-        Refusal::TooLong => 1,
-        Refusal::NoRecord(_) => 2,
-        Refusal::OverLimit(_) => 3,
-        Refusal::TooMany(_) => 4,
-        Refusal::Unbound(_) => 5,
-        Refusal::WrongType(_) => 6,
-        Refusal::NoValueText(_) => 7,
-        Refusal::NoValue(_) => 8,
-        Refusal::NoRoom(_) => 9,
-        Refusal::NoAnswerRoom(_) => 10,
-        Refusal::NoRepresentation(_) => 11,
-    }
-}
-
-fn place(refusal: Refusal) -> usize
-    ensures { result ≡ refusals.place refusal }
-{
-    match refusal {
-        Refusal::TooLong => 0,
-        Refusal::NoRecord(k) => k,
-        Refusal::OverLimit(k) => k,
-        Refusal::TooMany(k) => k,
-        Refusal::Unbound(k) => k,
-        Refusal::WrongType(k) => k,
-        Refusal::NoValueText(k) => k,
-        Refusal::NoValue(k) => k,
-        Refusal::NoRoom(k) => k,
-        Refusal::NoAnswerRoom(k) => k,
-        Refusal::NoRepresentation(k) => k,
-    }
-}
 
 // A base is told where it is bool.
 fn print_base(rt: &impl Print, base: Base) -> io::Result<()> {
@@ -85,23 +17,9 @@ fn print_base(rt: &impl Print, base: Base) -> io::Result<()> {
     }
 }
 
-fn print_checked(rt: &impl Print, checked: Checked) -> io::Result<()> {
-    match checked {
-        Checked::Typed(found) => {
-            print_base(rt, found.base)?;
-            print!(rt; "depth {}", found.depth)
-        }
-        Checked::Refused(refusal) => print!(rt;
-            "refused {} at {}",
-            number(refusal),
-            place(refusal)
-        ),
-    }
-}
-
 fn print_part(rt: &impl Print, part: &[u8]) -> io::Result<()> {
     print!(rt; "part ")?;
-    if part.len() == 0 {
+    if part.is_empty() {
         print!(rt; "-")?;
     }
     print_bytes(rt, part)
@@ -115,56 +33,39 @@ fn print_bytes(rt: &impl Print, part: &[u8]) -> io::Result<()> {
 }
 
 // `check HEX`
-fn run_check(rt: &impl Print, line: &[u8], bytes: &mut [u8]) -> io::Result<()>
-    requires { 7 ≤ length line.now }
-{
-    let n = decode(line, 6, bytes);
-    print_checked(rt, check(&bytes[..n]))?;
-    println!(rt; "")
+fn run_check(rt: &impl Print, digits: &[u8], bytes: &mut [u8]) -> io::Result<()> {
+    let n = decode(digits, bytes);
+    match check(&bytes[..n]) {
+        Ok(found) => {
+            print_base(rt, found.base)?;
+            println!(rt; "depth {}", found.depth)
+        }
+        Err(refusal) => println!(rt; "{refusal}"),
+    }
 }
 
 // `find I HEX`
-fn run_find(rt: &impl Print, line: &[u8], bytes: &mut [u8]) -> io::Result<()>
-    requires { 7 ≤ length line.now }
-{
-    let n = decode(line, 7, bytes);
-    let i = digit(line[5]);
-    print_part(rt, find(&bytes[..n], i as usize))?;
+fn run_find(rt: &impl Print, input: u8, digits: &[u8], bytes: &mut [u8]) -> io::Result<()> {
+    let n = decode(digits, bytes);
+    print_part(rt, find(&bytes[..n], usize::from(digit(input))))?;
     println!(rt; "")
 }
 
+// A line that is too short for either case prints nothing.
 fn run_case(rt: &impl Print, line: &[u8], bytes: &mut [u8]) -> io::Result<()> {
     if line.len() < 7 {
         return Ok(());
     }
     if line[0] == b'c' {
-        run_check(rt, line, bytes)
+        run_check(rt, &line[6..], bytes)
     } else {
-        run_find(rt, line, bytes)
+        run_find(rt, line[5], &line[7..], bytes)
     }
-}
-
-// Where the line that starts at a position ends.
-fn line_end(text: &[u8], from: usize) -> usize
-    requires { from ≤ length text.now }
-    ensures { (from ≤ result) × (result ≤ length text.now) }
-{
-    let mut i = from;
-    while i < text.len() {
-        if text[i] == b'\n' {
-            return i;
-        }
-        i += 1;
-    }
-    i
 }
 
 fn run_cases(rt: &impl Print, text: &[u8], bytes: &mut [u8]) -> io::Result<()> {
-    let mut at = 0;
-    while at < text.len() {
-        let end = line_end(text, at);
-        run_case(rt, &text[at..end], bytes)?;
-        at = end + 1;
+    for line in text.split(|byte| *byte == b'\n') {
+        run_case(rt, line, bytes)?;
     }
     Ok(())
 }

@@ -1,82 +1,101 @@
-// One call of a transducer, by number, and the line that says what came out.
-ghost use Rattle.std.specs.Prelude.{◌+◌, ◌≤◌, length};
+// One call of a transducer, and the line that says what came out.
+ghost use Rattle.std.specs.Prelude.{◌≤◌, length};
 
-use crate::show::{elements, number, word};
+use crate::show::elements;
 use snesl::code::Operation;
-use std::io;
-use streams::Output;
+use std::{fmt, io};
+use streams::Failure;
 
-pub(crate) fn run(
-    rt: &impl Print,
-    kind: u8,
-    buf: &mut [i32],
-    out: usize,
-    n: usize,
-    z: i32,
-    at1: usize,
-    len1: usize,
-    at2: usize,
-    len2: usize,
-) -> io::Result<()> {
-    if out <= buf.len() {
-        if at1 <= out {
-            if len1 <= out - at1 {
-                if at2 <= out {
-                    if len2 <= out - at2 {
-                        if buf.len() <= 65536 {
-                            word(rt, kind)?;
-                            answer(rt, call(kind, buf, out, n, z, at1, len1, at2, len2))?;
-                            elements(rt, buf)?;
-                        }
-                    }
-                }
-            }
-        }
-    }
-    Ok(())
+// A transducer, with its constant where it has one.
+#[derive(Clone, Copy)]
+pub(crate) enum Call {
+    Const(i32),
+    ToFlags,
+    Usum,
+    MapTwo(Operation),
+    ScanPlus(i32),
+    Distr,
+    SumPlus,
+    MapOneNot,
+    Pack,
+    UPack,
 }
 
-fn call(
-    kind: u8,
-    buf: &mut [i32],
-    out: usize,
+impl fmt::Display for Call {
+    fn fmt<W: fmt::Write>(&self, f: &mut fmt::Formatter<W>) -> fmt::Result {
+        match self {
+            Call::Const(_) => f.write_str("Const"),
+            Call::ToFlags => f.write_str("ToFlags"),
+            Call::Usum => f.write_str("Usum"),
+            Call::MapTwo(Operation::Plus) => f.write_str("MapTwo+"),
+            Call::MapTwo(Operation::LessEqual) => f.write_str("MapTwo<="),
+            Call::MapTwo(Operation::Equal) => f.write_str("MapTwo=="),
+            Call::ScanPlus(_) => f.write_str("ScanPlus"),
+            Call::Distr => f.write_str("Distr"),
+            Call::SumPlus => f.write_str("SumPlus"),
+            Call::MapOneNot => f.write_str("MapOneNot"),
+            Call::Pack => f.write_str("Pack"),
+            Call::UPack => f.write_str("UPack"),
+        }
+    }
+}
+
+// The operands stand in front of what the call writes to, as they do in the stream buffer.
+pub(crate) fn run(
+    rt: &impl Print,
+    call: Call,
     n: usize,
-    z: i32,
-    at1: usize,
-    len1: usize,
-    at2: usize,
-    len2: usize,
-) -> Output
-    requires { (at1 + len1 ≤ out) × (at2 + len2 ≤ out) × (out ≤ length buf.old) × (length buf.old ≤ 65536) }
+    first: &[i32],
+    second: &[i32],
+    out: &mut [i32],
+) -> io::Result<()>
+    requires { length second.now ≤ 65536 }
 {
-    match kind {
-        0 => streams::constant(buf, out, n, z),
-        1 => itemwise::to_flags(buf, out, n, at1, len1),
-        2 => streams::usum(buf, n, at1, len1),
-        3 => itemwise::map_two(Operation::Plus, buf, out, n, at1, len1, at2, len2),
-        4 => segmentwise::scan_plus(buf, out, n, z, at1, len1, at2, len2),
-        5 => segmentwise::distr(buf, out, n, at1, len1, at2, len2),
-        6 => segmentwise::sum_plus(buf, out, n, at1, len1, at2, len2),
-        7 => itemwise::map_two(Operation::LessEqual, buf, out, n, at1, len1, at2, len2),
-        8 => itemwise::map_two(Operation::Equal, buf, out, n, at1, len1, at2, len2),
-        9 => itemwise::map_one_not(buf, out, n, at1, len1),
-        10 => itemwise::pack(buf, out, n, at1, len1, at2, len2),
-        _ => segmentwise::upack(buf, out, n, at1, len1, at2, len2),
+    print!(rt; "{call}")?;
+    print_answer(rt, answer(call, n, first, second, out))?;
+    print!(rt; ":")?;
+    elements(rt, first)?;
+    elements(rt, second)?;
+    elements(rt, out)?;
+    println!(rt; "")
+}
+
+fn answer(
+    call: Call,
+    n: usize,
+    first: &[i32],
+    second: &[i32],
+    out: &mut [i32],
+) -> Result<usize, Failure>
+    requires { length second.now ≤ 65536 }
+{
+    match call {
+        Call::Const(z) => streams::constant(n, z, out),
+        Call::ToFlags => itemwise::to_flags(n, first, out),
+        Call::Usum => streams::usum(n, first),
+        Call::MapTwo(o) => itemwise::map_two(o, n, first, second, out),
+        Call::ScanPlus(z) => segmentwise::scan_plus(n, z, first, second, out),
+        Call::Distr => segmentwise::distr(n, first, second, out),
+        Call::SumPlus => segmentwise::sum_plus(n, first, second, out),
+        Call::MapOneNot => itemwise::map_one_not(n, first, out),
+        Call::Pack => itemwise::pack(n, first, second, out),
+        Call::UPack => segmentwise::upack(n, first, second, out),
+    }
+}
+
+fn print_answer(rt: &impl Print, answer: Result<usize, Failure>) -> io::Result<()> {
+    match answer {
+        Ok(made) => print!(rt; " made {made}"),
+        Err(Failure::Unfit(k)) => print!(rt; " unfit {k}"),
+        Err(Failure::Negative(k)) => print!(rt; " negative {k}"),
+        Err(Failure::Outside(k)) => print!(rt; " outside {k}"),
+        Err(Failure::NoRoom) => print!(rt; " no room"),
     }
 }
 
 pub(crate) fn clear(rt: &impl Print, buf: &mut [i32], from: usize) -> io::Result<()> {
-    print!(rt; "clear")?;
+    print!(rt; "clear:")?;
     streams::clear(buf, from);
-    elements(rt, buf)
-}
-
-fn answer(rt: &impl Print, o: Output) -> io::Result<()> {
-    match o {
-        Output::Made(n) => number(rt, " made ", n),
-        Output::Unfit(k) => number(rt, " unfit ", k),
-        Output::Negative(k) => number(rt, " negative ", k),
-        Output::Outside(k) => number(rt, " outside ", k),
-        Output::NoRoom => print!(rt; " no room"),
-    }
+    elements(rt, buf)?;
+    println!(rt; "")
 }

@@ -5,7 +5,8 @@
 mod call;
 mod show;
 
-use call::{clear, run};
+use call::{Call, clear, run};
+use snesl::code::Operation;
 use std::io;
 
 fn main(rt: HostRuntime) -> io::Result<()> {
@@ -26,169 +27,320 @@ fn main(rt: HostRuntime) -> io::Result<()> {
 
 fn constants(rt: &impl Print) -> io::Result<()> {
     let mut two = [9, 9];
-    run(rt, 0, &mut two, 0, 0, 7, 0, 0, 0, 0)?;
-    let mut middle = [9, 9, 9];
-    run(rt, 0, &mut middle, 1, 1, -2147483648, 0, 0, 0, 0)?;
+    run(rt, Call::Const(7), 0, &[], &[], &mut two)?;
+    let mut middle = [9, 9];
+    run(rt, Call::Const(-2147483648), 1, &[9], &[], &mut middle)?;
     let mut full = [9, 9, 9];
-    run(rt, 0, &mut full, 0, 3, 2147483647, 0, 0, 0, 0)?;
-    let mut short = [9, 9, 9];
-    run(rt, 0, &mut short, 1, 3, 7, 0, 0, 0, 0)
+    run(rt, Call::Const(2147483647), 3, &[], &[], &mut full)?;
+    let mut short = [9, 9];
+    run(rt, Call::Const(7), 3, &[9], &[], &mut short)
 }
 
 fn flags(rt: &impl Print) -> io::Result<()> {
-    let mut empties = [0, 2, 0, 9, 9, 9, 9, 9, 9];
-    run(rt, 1, &mut empties, 3, 3, 0, 0, 3, 0, 0)?;
+    let mut empties = [9, 9, 9, 9, 9, 9];
+    run(rt, Call::ToFlags, 3, &[0, 2, 0], &[], &mut empties)?;
     let mut none = [9];
-    run(rt, 1, &mut none, 0, 0, 0, 0, 0, 0, 0)?;
-    let mut full = [2, 9, 9, 9];
-    run(rt, 1, &mut full, 1, 1, 0, 0, 1, 0, 0)?;
-    let mut short = [2, 9, 9];
-    run(rt, 1, &mut short, 1, 1, 0, 0, 1, 0, 0)?;
-    let mut huge = [2147483647, -1, 9];
-    run(rt, 1, &mut huge, 2, 2, 0, 0, 2, 0, 0)?;
-    let mut unfit = [1, 9];
-    run(rt, 1, &mut unfit, 1, 2, 0, 0, 1, 0, 0)
+    run(rt, Call::ToFlags, 0, &[], &[], &mut none)?;
+    let mut full = [9, 9, 9];
+    run(rt, Call::ToFlags, 1, &[2], &[], &mut full)?;
+    let mut short = [9, 9];
+    run(rt, Call::ToFlags, 1, &[2], &[], &mut short)?;
+    let mut huge = [9];
+    run(rt, Call::ToFlags, 2, &[2147483647, -1], &[], &mut huge)?;
+    let mut unfit = [9];
+    run(rt, Call::ToFlags, 2, &[1], &[], &mut unfit)
 }
 
 fn units(rt: &impl Print) -> io::Result<()> {
-    let mut empties = [1, 0, 0, 1, 1];
-    run(rt, 2, &mut empties, 5, 3, 0, 0, 5, 0, 0)?;
+    let mut empties = [];
+    run(rt, Call::Usum, 3, &[1, 0, 0, 1, 1], &[], &mut empties)?;
     let mut none = [9];
-    run(rt, 2, &mut none, 0, 0, 0, 0, 0, 0, 0)?;
-    let mut cut = [0];
-    run(rt, 2, &mut cut, 1, 1, 0, 0, 1, 0, 0)?;
-    let mut noflag = [1, 2];
-    run(rt, 2, &mut noflag, 2, 2, 0, 0, 2, 0, 0)?;
-    let mut over = [1, 1];
-    run(rt, 2, &mut over, 2, 1, 0, 0, 2, 0, 0)
+    run(rt, Call::Usum, 0, &[], &[], &mut none)?;
+    let mut cut = [];
+    run(rt, Call::Usum, 1, &[0], &[], &mut cut)?;
+    let mut noflag = [];
+    run(rt, Call::Usum, 2, &[1, 2], &[], &mut noflag)?;
+    let mut over = [];
+    run(rt, Call::Usum, 1, &[1, 1], &[], &mut over)
 }
 
 fn pluses(rt: &impl Print) -> io::Result<()> {
-    let mut ends = [2147483647, -2147483648, -1, 1, 9, 9];
-    run(rt, 3, &mut ends, 4, 2, 0, 0, 2, 2, 2)?;
-    let mut high = [1, 2147483647, 1, 1, 9];
-    run(rt, 3, &mut high, 4, 2, 0, 0, 2, 2, 2)?;
-    let mut low = [-2147483648, -1, 9];
-    run(rt, 3, &mut low, 2, 1, 0, 0, 1, 1, 1)?;
-    let mut short = [1, 2, 3, 4, 9];
-    run(rt, 3, &mut short, 4, 2, 0, 0, 2, 2, 2)?;
-    let mut unfit = [1, 2, 3, 9, 9];
-    run(rt, 3, &mut unfit, 3, 2, 0, 0, 2, 2, 1)?;
+    let mut ends = [9, 9];
+    run(
+        rt,
+        Call::MapTwo(Operation::Plus),
+        2,
+        &[2147483647, -2147483648],
+        &[-1, 1],
+        &mut ends,
+    )?;
+    let mut high = [9];
+    run(
+        rt,
+        Call::MapTwo(Operation::Plus),
+        2,
+        &[1, 2147483647],
+        &[1, 1],
+        &mut high,
+    )?;
+    let mut low = [9];
+    run(
+        rt,
+        Call::MapTwo(Operation::Plus),
+        1,
+        &[-2147483648],
+        &[-1],
+        &mut low,
+    )?;
+    let mut short = [9];
+    run(
+        rt,
+        Call::MapTwo(Operation::Plus),
+        2,
+        &[1, 2],
+        &[3, 4],
+        &mut short,
+    )?;
+    let mut unfit = [9, 9];
+    run(
+        rt,
+        Call::MapTwo(Operation::Plus),
+        2,
+        &[1, 2],
+        &[3],
+        &mut unfit,
+    )?;
     let mut none = [9];
-    run(rt, 3, &mut none, 0, 0, 0, 0, 0, 0, 0)
+    run(rt, Call::MapTwo(Operation::Plus), 0, &[], &[], &mut none)
 }
 
 fn scans(rt: &impl Print) -> io::Result<()> {
-    let mut empties = [1, 0, 0, 1, 1, 0, 1, 1, 5, 6, 7, 9, 9, 9];
-    run(rt, 4, &mut empties, 11, 5, 10, 0, 8, 8, 3)?;
-    let mut last = [0, 0, 1, 2147483647, 1, 9, 9];
-    run(rt, 4, &mut last, 5, 1, 0, 0, 3, 3, 2)?;
-    let mut high = [0, 0, 0, 1, 2147483647, 1, 1, 9, 9];
-    run(rt, 4, &mut high, 7, 1, 0, 0, 4, 4, 3)?;
-    let mut low = [1, 0, 0, 1, -1, 5, 9, 9];
-    run(rt, 4, &mut low, 6, 2, -2147483648, 0, 4, 4, 2)?;
-    let mut unfit = [0, 0, 0, 2147483647, 1, 1, 9, 9];
-    run(rt, 4, &mut unfit, 6, 1, 0, 0, 3, 3, 3)?;
-    let mut short = [0, 0, 1, 5, 6, 9];
-    run(rt, 4, &mut short, 5, 1, 0, 0, 3, 3, 2)?;
+    let mut empties = [9, 9, 9];
+    run(
+        rt,
+        Call::ScanPlus(10),
+        5,
+        &[1, 0, 0, 1, 1, 0, 1, 1],
+        &[5, 6, 7],
+        &mut empties,
+    )?;
+    let mut last = [9, 9];
+    run(
+        rt,
+        Call::ScanPlus(0),
+        1,
+        &[0, 0, 1],
+        &[2147483647, 1],
+        &mut last,
+    )?;
+    let mut high = [9, 9];
+    run(
+        rt,
+        Call::ScanPlus(0),
+        1,
+        &[0, 0, 0, 1],
+        &[2147483647, 1, 1],
+        &mut high,
+    )?;
+    let mut low = [9, 9];
+    run(
+        rt,
+        Call::ScanPlus(-2147483648),
+        2,
+        &[1, 0, 0, 1],
+        &[-1, 5],
+        &mut low,
+    )?;
+    let mut unfit = [9, 9];
+    run(
+        rt,
+        Call::ScanPlus(0),
+        1,
+        &[0, 0, 0],
+        &[2147483647, 1, 1],
+        &mut unfit,
+    )?;
+    let mut short = [9];
+    run(rt, Call::ScanPlus(0), 1, &[0, 0, 1], &[5, 6], &mut short)?;
     let mut none = [9];
-    run(rt, 4, &mut none, 0, 0, 0, 0, 0, 0, 0)
+    run(rt, Call::ScanPlus(0), 0, &[], &[], &mut none)
 }
 
 fn spreads(rt: &impl Print) -> io::Result<()> {
-    let mut empties = [1, 0, 0, 1, 1, 0, 1, 1, 1, 2, 3, 4, 5, 9, 9, 9];
-    run(rt, 5, &mut empties, 13, 5, 0, 0, 8, 8, 5)?;
-    let mut one = [0, 1, -2147483648, 9];
-    run(rt, 5, &mut one, 3, 1, 0, 0, 2, 2, 1)?;
-    let mut empty = [1, 8, 9];
-    run(rt, 5, &mut empty, 2, 1, 0, 0, 1, 1, 1)?;
-    let mut short = [0, 0, 1, 8, 9];
-    run(rt, 5, &mut short, 4, 1, 0, 0, 3, 3, 1)?;
-    let mut left = [1, 8, 8, 9];
-    run(rt, 5, &mut left, 3, 1, 0, 0, 1, 1, 2)?;
+    let mut empties = [9, 9, 9];
+    run(
+        rt,
+        Call::Distr,
+        5,
+        &[1, 0, 0, 1, 1, 0, 1, 1],
+        &[1, 2, 3, 4, 5],
+        &mut empties,
+    )?;
+    let mut one = [9];
+    run(rt, Call::Distr, 1, &[0, 1], &[-2147483648], &mut one)?;
+    let mut empty = [9];
+    run(rt, Call::Distr, 1, &[1], &[8], &mut empty)?;
+    let mut short = [9];
+    run(rt, Call::Distr, 1, &[0, 0, 1], &[8], &mut short)?;
+    let mut left = [9];
+    run(rt, Call::Distr, 1, &[1], &[8, 8], &mut left)?;
     let mut none = [9];
-    run(rt, 5, &mut none, 0, 0, 0, 0, 0, 0, 0)
+    run(rt, Call::Distr, 0, &[], &[], &mut none)
 }
 
 fn sums(rt: &impl Print) -> io::Result<()> {
-    let mut empties = [1, 0, 0, 1, 1, 0, 1, 1, 5, 6, 7, 9, 9, 9, 9, 9];
-    run(rt, 6, &mut empties, 11, 5, 0, 0, 8, 8, 3)?;
-    let mut high = [0, 0, 0, 1, 2147483647, 1, -1, 9];
-    run(rt, 6, &mut high, 7, 1, 0, 0, 4, 4, 3)?;
-    let mut low = [0, 0, 0, 1, -2147483648, -1, 1, 9];
-    run(rt, 6, &mut low, 7, 1, 0, 0, 4, 4, 3)?;
-    let mut outside = [1, 0, 0, 1, 2147483647, 1, 9, 9];
-    run(rt, 6, &mut outside, 6, 2, 0, 0, 4, 4, 2)?;
-    let mut unfit = [0, 0, 1, 0, 2147483647, 1, 1, 9, 9];
-    run(rt, 6, &mut unfit, 7, 2, 0, 0, 4, 4, 3)?;
-    let mut short = [1, 1, 9];
-    run(rt, 6, &mut short, 2, 2, 0, 0, 2, 2, 0)?;
+    let mut empties = [9, 9, 9, 9, 9];
+    run(
+        rt,
+        Call::SumPlus,
+        5,
+        &[1, 0, 0, 1, 1, 0, 1, 1],
+        &[5, 6, 7],
+        &mut empties,
+    )?;
+    let mut high = [9];
+    run(
+        rt,
+        Call::SumPlus,
+        1,
+        &[0, 0, 0, 1],
+        &[2147483647, 1, -1],
+        &mut high,
+    )?;
+    let mut low = [9];
+    run(
+        rt,
+        Call::SumPlus,
+        1,
+        &[0, 0, 0, 1],
+        &[-2147483648, -1, 1],
+        &mut low,
+    )?;
+    let mut outside = [9, 9];
+    run(
+        rt,
+        Call::SumPlus,
+        2,
+        &[1, 0, 0, 1],
+        &[2147483647, 1],
+        &mut outside,
+    )?;
+    let mut unfit = [9, 9];
+    run(
+        rt,
+        Call::SumPlus,
+        2,
+        &[0, 0, 1, 0],
+        &[2147483647, 1, 1],
+        &mut unfit,
+    )?;
+    let mut short = [9];
+    run(rt, Call::SumPlus, 2, &[1, 1], &[], &mut short)?;
     let mut none = [9];
-    run(rt, 6, &mut none, 0, 0, 0, 0, 0, 0, 0)
+    run(rt, Call::SumPlus, 0, &[], &[], &mut none)
 }
 
 fn comparisons(rt: &impl Print) -> io::Result<()> {
-    let mut ends = [
-        -2147483648,
-        2147483647,
-        5,
-        2147483647,
-        -2147483648,
-        5,
-        9,
-        9,
-        9,
-    ];
-    run(rt, 7, &mut ends, 6, 3, 0, 0, 3, 3, 3)?;
-    let mut short = [1, 2, 3, 4, 9];
-    run(rt, 7, &mut short, 4, 2, 0, 0, 2, 2, 2)?;
+    let mut ends = [9, 9, 9];
+    run(
+        rt,
+        Call::MapTwo(Operation::LessEqual),
+        3,
+        &[-2147483648, 2147483647, 5],
+        &[2147483647, -2147483648, 5],
+        &mut ends,
+    )?;
+    let mut short = [9];
+    run(
+        rt,
+        Call::MapTwo(Operation::LessEqual),
+        2,
+        &[1, 2],
+        &[3, 4],
+        &mut short,
+    )?;
     let mut none = [9];
-    run(rt, 7, &mut none, 0, 0, 0, 0, 0, 0, 0)?;
-    let mut same = [-1, 0, 2147483647, 1, 0, 2147483647, 9, 9, 9, 9];
-    run(rt, 8, &mut same, 6, 3, 0, 0, 3, 3, 3)?;
-    let mut unfit = [1, 2, 3, 9, 9];
-    run(rt, 8, &mut unfit, 3, 2, 0, 0, 2, 2, 1)
+    run(
+        rt,
+        Call::MapTwo(Operation::LessEqual),
+        0,
+        &[],
+        &[],
+        &mut none,
+    )?;
+    let mut same = [9, 9, 9, 9];
+    run(
+        rt,
+        Call::MapTwo(Operation::Equal),
+        3,
+        &[-1, 0, 2147483647],
+        &[1, 0, 2147483647],
+        &mut same,
+    )?;
+    let mut unfit = [9, 9];
+    run(
+        rt,
+        Call::MapTwo(Operation::Equal),
+        2,
+        &[1, 2],
+        &[3],
+        &mut unfit,
+    )
 }
 
 fn negations(rt: &impl Print) -> io::Result<()> {
-    let mut bools = [0, 1, 7, -1, 9, 9, 9, 9, 9];
-    run(rt, 9, &mut bools, 4, 4, 0, 0, 4, 0, 0)?;
-    let mut short = [1, 0, 9];
-    run(rt, 9, &mut short, 2, 2, 0, 0, 2, 0, 0)?;
-    let mut unfit = [1, 9];
-    run(rt, 9, &mut unfit, 1, 2, 0, 0, 1, 0, 0)?;
+    let mut bools = [9, 9, 9, 9, 9];
+    run(rt, Call::MapOneNot, 4, &[0, 1, 7, -1], &[], &mut bools)?;
+    let mut short = [9];
+    run(rt, Call::MapOneNot, 2, &[1, 0], &[], &mut short)?;
+    let mut unfit = [9];
+    run(rt, Call::MapOneNot, 2, &[1], &[], &mut unfit)?;
     let mut none = [9];
-    run(rt, 9, &mut none, 0, 0, 0, 0, 0, 0, 0)
+    run(rt, Call::MapOneNot, 0, &[], &[], &mut none)
 }
 
 fn packs(rt: &impl Print) -> io::Result<()> {
-    let mut ends = [1, 0, 0, 1, 5, 6, 7, -2147483648, 9, 9, 9];
-    run(rt, 10, &mut ends, 8, 4, 0, 0, 4, 4, 4)?;
-    let mut nothing = [0, 0, 5, 6];
-    run(rt, 10, &mut nothing, 4, 2, 0, 0, 2, 2, 2)?;
-    let mut full = [1, 1, 5, 6, 9, 9];
-    run(rt, 10, &mut full, 4, 2, 0, 0, 2, 2, 2)?;
-    let mut short = [1, 1, 5, 6, 9];
-    run(rt, 10, &mut short, 4, 2, 0, 0, 2, 2, 2)?;
-    let mut unfit = [1, 5, 6, 9];
-    run(rt, 10, &mut unfit, 3, 2, 0, 0, 1, 1, 2)?;
+    let mut ends = [9, 9, 9];
+    run(
+        rt,
+        Call::Pack,
+        4,
+        &[1, 0, 0, 1],
+        &[5, 6, 7, -2147483648],
+        &mut ends,
+    )?;
+    let mut nothing = [];
+    run(rt, Call::Pack, 2, &[0, 0], &[5, 6], &mut nothing)?;
+    let mut full = [9, 9];
+    run(rt, Call::Pack, 2, &[1, 1], &[5, 6], &mut full)?;
+    let mut short = [9];
+    run(rt, Call::Pack, 2, &[1, 1], &[5, 6], &mut short)?;
+    let mut unfit = [9];
+    run(rt, Call::Pack, 2, &[1], &[5, 6], &mut unfit)?;
     let mut none = [9];
-    run(rt, 10, &mut none, 0, 0, 0, 0, 0, 0, 0)
+    run(rt, Call::Pack, 0, &[], &[], &mut none)
 }
 
 fn segment_packs(rt: &impl Print) -> io::Result<()> {
-    let mut empties = [1, 0, 1, 1, 1, 0, 0, 1, 1, 0, 1, 9, 9, 9, 9, 9];
-    run(rt, 11, &mut empties, 11, 4, 0, 0, 4, 4, 7)?;
-    let mut nothing = [0, 0, 1];
-    run(rt, 11, &mut nothing, 3, 1, 0, 0, 1, 1, 2)?;
-    let mut last = [0, 1, 0, 1, 1, 9];
-    run(rt, 11, &mut last, 5, 2, 0, 0, 2, 2, 3)?;
-    let mut short = [1, 0, 1, 9];
-    run(rt, 11, &mut short, 3, 1, 0, 0, 1, 1, 2)?;
-    let mut unfit = [1, 1, 1, 9];
-    run(rt, 11, &mut unfit, 3, 2, 0, 0, 1, 1, 2)?;
-    let mut noflag = [1, 2, 9];
-    run(rt, 11, &mut noflag, 2, 1, 0, 0, 1, 1, 1)?;
+    let mut empties = [9, 9, 9, 9, 9];
+    run(
+        rt,
+        Call::UPack,
+        4,
+        &[1, 0, 1, 1],
+        &[1, 0, 0, 1, 1, 0, 1],
+        &mut empties,
+    )?;
+    let mut nothing = [];
+    run(rt, Call::UPack, 1, &[0], &[0, 1], &mut nothing)?;
+    let mut last = [9];
+    run(rt, Call::UPack, 2, &[0, 1], &[0, 1, 1], &mut last)?;
+    let mut short = [9];
+    run(rt, Call::UPack, 1, &[1], &[0, 1], &mut short)?;
+    let mut unfit = [9];
+    run(rt, Call::UPack, 2, &[1], &[1, 1], &mut unfit)?;
+    let mut noflag = [9];
+    run(rt, Call::UPack, 1, &[1], &[2], &mut noflag)?;
     let mut none = [9];
-    run(rt, 11, &mut none, 0, 0, 0, 0, 0, 0, 0)
+    run(rt, Call::UPack, 0, &[], &[], &mut none)
 }

@@ -1,10 +1,11 @@
 // `check FORMULA | depth D`, `bool depth D` or `refused N at P`
 ghost use Rattle.vectors.specs.Page.{Page, Within};
 
-use crate::fields::{BYTES, decode, field};
+use crate::fields::{BYTES, field};
 use crate::naming::is_named;
-use crate::writing::{TEXT, put_length, put_word};
-use checking::check::{Checked, check};
+use crate::writing::{Item, TEXT, put_word};
+use checking::check::check;
+use console::digits::decode;
 use refusals::line::refusal_line;
 use snesl::code::Base;
 use snesl::refusal::Refusal;
@@ -22,7 +23,7 @@ fn put_base(text: &mut [u8], base: Base) -> usize
 fn is_type(line: &[u8], base: Base, depth: u8) -> bool {
     let mut text = [0u8; TEXT];
     let a = put_base(&mut text, base);
-    let b = put_length(&mut text, a, depth as usize);
+    let b = (depth as usize).put(&mut text, a);
     is_named(line, &text[..b])
 }
 
@@ -30,20 +31,17 @@ fn is_type(line: &[u8], base: Base, depth: u8) -> bool {
 fn is_refused(line: &[u8], refusal: Refusal) -> bool {
     let mut text = [0u8; TEXT];
     let n = refusal_line(refusal, &mut text);
-    if n == 0 {
-        return false;
+    match text[..n].split_last() {
+        Some((_, refused)) => is_named(line, refused),
+        None => false,
     }
-    is_named(line, &text[..n - 1])
 }
 
 pub(crate) fn check_case(line: &[u8]) -> bool {
     let mut formula = [0u8; BYTES];
     let n = decode(field(line, 1), &mut formula);
     match check(&formula[..n]) {
-        Checked::Typed(named) => {
-            let base = named.base;
-            is_type(line, base, named.depth)
-        }
-        Checked::Refused(refusal) => is_refused(line, refusal),
+        Ok(found) => is_type(line, found.base, found.depth),
+        Err(refusal) => is_refused(line, refusal),
     }
 }

@@ -1,24 +1,14 @@
 // `find I JOB | START END`
-use crate::fields::{BYTES, decode, field, named, number};
-use check::same;
+use crate::fields::{BYTES, field, named, number};
+use console::digits::decode;
 use finder::find::find;
 
 // Whether a part is the one between two offsets of the job; an empty one is named 0 and 0.
 fn is_part(job: &[u8], part: &[u8], start: usize, end: usize) -> bool {
-    if part.len() == 0 {
+    if part.is_empty() {
         return start == 0 && end == 0;
     }
-    if job.len() < end {
-        return false;
-    }
-    if end < start {
-        return false;
-    }
-    same(part, &job[start..end])
-}
-
-fn is_found(job: &[u8], i: usize, start: usize, end: usize) -> bool {
-    is_part(job, find(job, i), start, end)
+    job.get(start..end).is_some_and(|named| part == named)
 }
 
 pub(crate) fn find_case(line: &[u8]) -> bool {
@@ -28,5 +18,5 @@ pub(crate) fn find_case(line: &[u8]) -> bool {
     let output = named(line);
     let start = number(field(output, 0));
     let end = number(field(output, 1));
-    is_found(&job[..n], i, start, end)
+    is_part(&job[..n], find(&job[..n], i), start, end)
 }

@@ -1,7 +1,8 @@
 // `list BYTES FORMULA | LINES`
-use crate::fields::{BYTES, decode, field, number, up_to};
+use crate::fields::{BYTES, field, number};
 use crate::naming::{is_named, is_refusal};
-use lister::list::{Listed, list};
+use console::digits::decode;
+use lister::list::list;
 
 // What the listing program lends.
 const LISTING: usize = 65_536;
@@ -9,14 +10,14 @@ const LISTING: usize = 65_536;
 // In a part of this text as long as the line says.
 fn lists(line: &[u8], text: &mut [u8]) -> bool {
     let mut formula = [0u8; BYTES];
-    let lent = up_to(number(field(line, 1)), text.len());
+    let lent = number(field(line, 1)).min(text.len());
     let n = decode(field(line, 2), &mut formula);
     match list(&formula[..n], &mut text[..lent]) {
-        Listed::Length(length) => {
-            let end = up_to(length, text.len());
+        Ok(length) => {
+            let end = length.min(text.len());
             is_named(line, &text[..end])
         }
-        Listed::Refused(refusal) => is_refusal(line, refusal),
+        Err(refusal) => is_refusal(line, refusal),
     }
 }
 

@@ -14,8 +14,6 @@ mod storing;
 mod tally;
 mod writing;
 
-ghost use Rattle.std.specs.Prelude.{◌≤◌, length};
-
 use checks::check_case;
 use console::read_full;
 use finding::find_case;
@@ -57,29 +55,11 @@ fn run_line(rt: &impl Print, line: &[u8], number: u64, counts: &mut [u64]) -> io
     }
 }
 
-// Where the line that starts at a position ends.
-fn line_end(text: &[u8], from: usize) -> usize
-    requires { from ≤ length text.now }
-    ensures { (from ≤ result) × (result ≤ length text.now) }
-{
-    let mut i = from;
-    while i < text.len() {
-        if text[i] == b'\n' {
-            return i;
-        }
-        i += 1;
-    }
-    i
-}
-
 fn run_lines(rt: &impl Print, text: &[u8], counts: &mut [u64]) -> io::Result<()> {
     let mut number: u64 = 0;
-    let mut at = 0;
-    while at < text.len() {
-        let end = line_end(text, at);
+    for line in text.split_inclusive(|byte| *byte == b'\n') {
         number = number.wrapping_add(1);
-        run_line(rt, &text[at..end], number, counts)?;
-        at = end + 1;
+        run_line(rt, line.strip_suffix(b"\n").unwrap_or(line), number, counts)?;
     }
     Ok(())
 }

@@ -1,17 +1,18 @@
 // `run ELEMENTS ANSWER JOB | LINES`
-use crate::fields::{BYTES, decode, field, number, up_to};
+use crate::fields::{BYTES, field, number};
 use crate::naming::is_named;
+use console::digits::decode;
 use report::printing::{ANSWER, BESIDE, run_lines};
 use snesl::limits::Buffer;
 
 // In parts of these buffers as long as the line says.
 fn runs(line: &[u8], elements: &mut [i32], answer: &mut [u8], text: &mut [u8]) -> bool {
     let mut job = [0u8; BYTES];
-    let lent = up_to(number(field(line, 1)), elements.len());
-    let bytes = up_to(number(field(line, 2)), answer.len());
+    let lent = number(field(line, 1)).min(elements.len());
+    let bytes = number(field(line, 2)).min(answer.len());
     let n = decode(field(line, 3), &mut job);
     let length = run_lines(&job[..n], &mut elements[..lent], &mut answer[..bytes], text);
-    let end = up_to(length, text.len());
+    let end = length.min(text.len());
     is_named(line, &text[..end])
 }
 

@@ -2,68 +2,43 @@
 ghost use Rattle.std.specs.Prelude.{◌≤◌, length};
 ghost use Rattle.vectors.specs.Page.{Page, Within};
 
-use crate::fields::{LENGTHS, base_of, field, int, number, up_to};
+use crate::fields::{LENGTHS, base_of, field, int, number};
 use crate::naming::{is_named, is_refusal};
 use crate::writing::{TEXT, put_word};
-use decimals::numbers::byte_at;
-use rendering::showing::{Written, streams_to_text};
+use rendering::showing::streams_to_text;
 use snesl::code::Base;
 use snesl::limits::Buffer;
 
 // The bytes that a line's longest answer is lent, with room to spare.
 const ANSWER: usize = 4096;
 
-// The number of the first field, from one on, that ends a list: a semicolon or the bar.
-fn list_end(line: &[u8], from: usize) -> usize
-    ensures { result ≤ length line.now }
-{
-    let mut i = from;
-    while i < line.len() {
-        match byte_at(field(line, i), 0) {
-            b';' | b'|' => {
-                return i;
-            }
-            _ => {
-                i += 1;
-            }
-        }
+// The number of the first field, from one on, that ends a list: a semicolon or the bar; the line's length where there is none.
+fn list_end(line: &[u8], from: usize) -> usize {
+    let ends = |word: &[u8]| matches!(word.first(), Some(b';' | b'|'));
+    let mut words = line.split(|byte| *byte == b' ').skip(from);
+    match words.position(ends) {
+        Some(count) => from.saturating_add(count),
+        None => line.len(),
     }
-    line.len()
 }
 
-// The numbers of the fields from one on up to another, as many as there is room for. Where a list is empty its one field is.
-fn read_lengths(line: &[u8], from: usize, to: usize, lengths: &mut [usize]) -> usize
-    ensures { result ≤ length lengths.new }
+// What the fields from one on up to another stand for, as many as there is room for. Where a list is empty its one field is.
+fn read_items<T: Copy, Read: Fn(&[u8]) -> T>(
+    line: &[u8],
+    from: usize,
+    to: usize,
+    read: Read,
+    items: &mut [T],
+) -> usize
+    requires { Read.IsAlwaysCallable read }
+    ensures { result ≤ length items.new }
 {
     let mut n = 0;
-    let mut i = from;
-    while i < to {
+    for i in from..to {
         let word = field(line, i);
-        i += 1;
-        if word.len() > 0 {
-            if n < lengths.len() {
-                lengths[n] = number(word);
-                n += 1;
-            }
-        }
-    }
-    n
-}
-
-fn read_elements(line: &[u8], from: usize, to: usize, elements: &mut [i32]) -> usize
-    ensures { result ≤ length elements.new }
-{
-    let mut n = 0;
-    let mut i = from;
-    while i < to {
-        let word = field(line, i);
-        i += 1;
-        if word.len() > 0 {
-            if n < elements.len() {
-                let z = int(word);
-                elements[n] = z;
-                n += 1;
-            }
+        if !word.is_empty() && n < items.len() {
+            items[n] = read(word);
+            n += 1;
         }
     }
     n
@@ -86,14 +61,14 @@ fn is_shown(line: &[u8], answer: &[u8]) -> bool {
 
 // In a part of this answer as long as the line says.
 fn shows(line: &[u8], base: Base, lengths: &[usize], elements: &[i32], answer: &mut [u8]) -> bool {
-    let depth = up_to(number(field(line, 1)), 255) as u8;
-    let lent = up_to(number(field(line, 2)), answer.len());
+    let depth = number(field(line, 1)).min(255) as u8;
+    let lent = number(field(line, 2)).min(answer.len());
     match streams_to_text(elements, lengths, base, depth, &mut answer[..lent]) {
-        Written::Bytes(bytes) => {
-            let end = up_to(bytes, answer.len());
+        Ok(bytes) => {
+            let end = bytes.min(answer.len());
             is_shown(line, &answer[..end])
         }
-        Written::Refused(refusal) => is_refusal(line, refusal),
+        Err(refusal) => is_refusal(line, refusal),
     }
 }
 
@@ -103,9 +78,9 @@ pub(crate) fn show_case(line: &[u8]) -> bool {
     let mut elements = [0i32; Buffer::ELEMENTS];
     let mut answer = [0u8; ANSWER];
     let between = list_end(line, 4);
-    let end = list_end(line, between + 1);
-    let levels = read_lengths(line, 4, between, &mut lengths);
-    let count = read_elements(line, between + 1, end, &mut elements);
+    let end = list_end(line, between.saturating_add(1));
+    let levels = read_items(line, 4, between, number, &mut lengths);
+    let count = read_items(line, between.saturating_add(1), end, int, &mut elements);
     shows(
         line,
         base,

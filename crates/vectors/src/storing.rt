@@ -1,21 +1,22 @@
 // `t2s DEPTH ELEMENTS LENGTHS TEXT | ..`, and `t2sb` for bools
 ghost use Rattle.vectors.specs.Page.{Page, Within};
 
-use crate::fields::{BYTES, LENGTHS, base_of, decode, field, number, up_to};
+use crate::fields::{BYTES, LENGTHS, base_of, field, number};
 use crate::naming::{is_named, is_refusal};
-use crate::writing::{TEXT, put_elements, put_lengths, put_word};
+use crate::writing::{TEXT, put_items, put_word};
+use console::digits::decode;
 use snesl::code::Base;
 use snesl::limits::Buffer;
-use valuetext::storing::{Stored, text_to_streams};
+use valuetext::storing::text_to_streams;
 
 fn put_stored(text: &mut [u8], lengths: &[usize], elements: &[i32]) -> usize
     requires { Page 0 text.old }
     ensures { Within result text.new }
 {
     let a = put_word(text, 0, b"lengths");
-    let b = put_lengths(text, a, lengths);
+    let b = put_items(text, a, lengths);
     let c = put_word(text, b, b"\nelements");
-    let d = put_elements(text, c, elements);
+    let d = put_items(text, c, elements);
     put_word(text, d, b"\n")
 }
 
@@ -28,9 +29,9 @@ fn are_stored(line: &[u8], lengths: &[usize], elements: &[i32]) -> bool {
 // In parts of these buffers as long as the line says.
 fn stores(line: &[u8], base: Base, elements: &mut [i32], lengths: &mut [usize]) -> bool {
     let mut text = [0u8; BYTES];
-    let depth = up_to(number(field(line, 1)), 255) as u8;
-    let lent = up_to(number(field(line, 2)), elements.len());
-    let places = up_to(number(field(line, 3)), lengths.len());
+    let depth = number(field(line, 1)).min(255) as u8;
+    let lent = number(field(line, 2)).min(elements.len());
+    let places = number(field(line, 3)).min(lengths.len());
     let n = decode(field(line, 4), &mut text);
     match text_to_streams(
         &text[..n],
@@ -39,12 +40,12 @@ fn stores(line: &[u8], base: Base, elements: &mut [i32], lengths: &mut [usize]) 
         &mut elements[..lent],
         &mut lengths[..places],
     ) {
-        Stored::Elements(total) => {
-            let levels = up_to(depth as usize + 1, lengths.len());
-            let count = up_to(total, elements.len());
+        Ok(total) => {
+            let levels = (depth as usize + 1).min(lengths.len());
+            let count = total.min(elements.len());
             are_stored(line, &lengths[..levels], &elements[..count])
         }
-        Stored::Refused(refusal) => is_refusal(line, refusal),
+        Err(refusal) => is_refusal(line, refusal),
     }
 }
 

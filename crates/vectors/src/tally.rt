@@ -15,6 +15,9 @@ pub enum Kind {
     Unknown,
 }
 
+// What the program calls each kind that it counts.
+const NAMES: [&str; 7] = ["run", "streams", "list", "check", "find", "t2s", "s2t"];
+
 pub(crate) fn kind_of(line: &[u8]) -> Kind {
     match byte_at(line, 0) {
         b'r' => Kind::Run,
@@ -30,39 +33,15 @@ pub(crate) fn kind_of(line: &[u8]) -> Kind {
     }
 }
 
-fn place_of(kind: Kind) -> usize {
-    match kind {
-        Kind::Run => 0,
-        Kind::Streams => 1,
-        Kind::List => 2,
-        Kind::Check => 3,
-        Kind::Find => 4,
-        Kind::ToStreams => 5,
-        Kind::ToText => 6,
-        Kind::Unknown => 7,
-    }
-}
-
 pub(crate) fn count(counts: &mut [u64], kind: Kind) {
-    let place = place_of(kind);
-    if place < counts.len() {
-        counts[place] = counts[place].wrapping_add(1);
+    if let Some(count) = counts.get_mut(kind as usize) {
+        *count = count.wrapping_add(1);
     }
-}
-
-fn print_count(rt: &impl Print, name: &str, counts: &[u64], place: usize) -> io::Result<()> {
-    if place < counts.len() {
-        println!(rt; "{name} {}", counts[place])?;
-    }
-    Ok(())
 }
 
 pub(crate) fn print_counts(rt: &impl Print, counts: &[u64]) -> io::Result<()> {
-    print_count(rt, "run", counts, 0)?;
-    print_count(rt, "streams", counts, 1)?;
-    print_count(rt, "list", counts, 2)?;
-    print_count(rt, "check", counts, 3)?;
-    print_count(rt, "find", counts, 4)?;
-    print_count(rt, "t2s", counts, 5)?;
-    print_count(rt, "s2t", counts, 6)
+    for (name, count) in NAMES.iter().zip(counts) {
+        println!(rt; "{name} {count}")?;
+    }
+    Ok(())
 }

@@ -1,54 +1,40 @@
 // What came out, as text: words, and numbers with a blank before each.
 ghost use Rattle.vectors.specs.Page.{Page, Within};
 
-use crate::fields::up_to;
 use decimals::numbers::{put, write_int, write_number};
 use lines::pieces::put_bytes;
 
 // The bytes of what comes out, with room to spare.
 pub const TEXT: usize = 8192;
 
-fn put_element(text: &mut [u8], at: usize, z: i32) -> usize
-    requires { Page at text.old }
-    ensures { Within result text.new }
-{
-    let a = put(text, at, b' ');
-    let b = write_int(text, a, z);
-    up_to(b, text.len())
+// What a line can list: a number, with a blank before it.
+pub trait Item: Copy {
+    fn put(self, text: &mut [u8], at: usize) -> usize
+        requires { Page at text.old }
+        ensures { Within result text.new };
 }
 
-pub fn put_length(text: &mut [u8], at: usize, n: usize) -> usize
-    requires { Page at text.old }
-    ensures { Within result text.new }
-{
-    let a = put(text, at, b' ');
-    let b = write_number(text, a, n as u64);
-    up_to(b, text.len())
-}
-
-pub fn put_elements(text: &mut [u8], at: usize, elements: &[i32]) -> usize
-    requires { Page at text.old }
-    ensures { Within result text.new }
-{
-    let mut end = at;
-    let mut i = 0;
-    while i < elements.len() {
-        let z = elements[i];
-        end = put_element(text, end, z);
-        i += 1;
+impl Item for i32 {
+    fn put(self, text: &mut [u8], at: usize) -> usize {
+        let a = put(text, at, b' ');
+        write_int(text, a, self).min(text.len())
     }
-    end
 }
 
-pub fn put_lengths(text: &mut [u8], at: usize, lengths: &[usize]) -> usize
+impl Item for usize {
+    fn put(self, text: &mut [u8], at: usize) -> usize {
+        let a = put(text, at, b' ');
+        write_number(text, a, self as u64).min(text.len())
+    }
+}
+
+pub fn put_items<T: Item>(text: &mut [u8], at: usize, items: &[T]) -> usize
     requires { Page at text.old }
     ensures { Within result text.new }
 {
     let mut end = at;
-    let mut i = 0;
-    while i < lengths.len() {
-        end = put_length(text, end, lengths[i]);
-        i += 1;
+    for item in items {
+        end = item.put(text, end);
     }
     end
 }
@@ -57,7 +43,7 @@ pub fn put_word(text: &mut [u8], at: usize, word: &[u8]) -> usize
     requires { Page at text.old }
     ensures { Within result text.new }
 {
-    let n = up_to(word.len(), TEXT);
+    let n = word.len().min(TEXT);
     let end = put_bytes(text, at, &word[..n]);
-    up_to(end, text.len())
+    end.min(text.len())
 }
