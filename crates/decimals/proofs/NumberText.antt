@@ -8,6 +8,9 @@ use Rattle.decimals.specs.Numbers.{pick, digit_at, digits_at}
 
 -- ---- one byte
 
+pub digit-within : (b : ℕ) → 48 ≤ b → b ≤ 57 → is_digit b ≡ true
+digit-within b h k = let p : b < 58 = omega arith in rw (le-leb 48 b h, lt-ltb b 58 p)
+
 -- a digit lies within the text, and below '9' + 1
 pub record IsDigit (t : List ℕ) (i d : ℕ) : Type 0 where
   pub test : is_digit (get_or t i 0) ≡ true

@@ -1,6 +1,6 @@
 -- A number's digits from the last one on: how `write_number` goes through them, and that 20 are enough.
 use Rattle.std.proofs.Common.{◌≡◌, ℕ, zero, suc, ◌+◌, ◌-◌, ◌*◌, ◌/◌, ◌%◌, ◌^◌, ◌<◌, ◌≤◌, Bool, true, false, ltb, List, [], ◌∷◌, ◌++◌, length, set, sym, refl, ap, ◌∙◌, append_assoc, append-nil, arith, length-append, ltb-false, ltb-true, le-ltb, lt-ltb}
-use lib.Seq.{sets}
+use lib.Seq.{sets, length-sets}
 use Rattle.snesl.specs.Text.{digits_then, show_number}
 use Rattle.snesl.proofs.Texts.Decimals.{enough}
 use Rattle.decimals.proofs.Stores.{set_front}
@@ -141,6 +141,9 @@ module _ {old buf : List ℕ} {at n p m : ℕ} (a : Digiting old buf at n p m) w
             ∙ append_assoc (last_digits (p - 1 - at) (m / 10)) ((48 + m % 10) ∷ []) a.rest;
         above = omega arith;
       }
+
+  pub digiting-length : length buf ≡ length old
+  digiting-length = ap length a.content ∙ length-sets old p a.rest
 
   pub digiting-end : (end : ℕ) → p ≤ at → end ≡ at + length (show_number n) → Writes old buf at (show_number n) end
   unfolding last_digits

@@ -1,10 +1,11 @@
 -- What stands from a position of a list on, over any element type: a stack that grows down is read and written by these.
 use Prim.Native.Nat.{ℕ, ◌+◌, ◌-◌, ◌≤◌, ◌<◌}
 use mathlib.Core.Path.{◌≡◌, refl, sym, ◌∙◌, ap}
-use mathlib.Core.List.{List, ◌∷◌, ◌++◌, append_assoc}
+use mathlib.Core.List.{List, [], ◌∷◌, ◌++◌, append_assoc}
 use native.Mathlib.Nat.{add-zero}
+use native.Mathlib.Numerals.{add-one, add-two}
 use native.Mathlib.Omega.{arith}
-use lib.ListN.{length, get_or, take, drop, length-append, length-take, length-drop, take-append-drop}
+use lib.ListN.{length, get_or, take, drop, set, length-append, length-take, length-drop, take-append-drop}
 use borrow.Rule.Slice.PartMut.{put_mid}
 use lib.Seq.{paste, sets, length-sets, drop-drop, drop_at, take_at, take-take, take-add, get_or-drop, length-take-le}
 use Rattle.laws.specs.Parts.{part, written}
@@ -107,6 +108,14 @@ module _ {A : Type 0} where
   pub moved : (l : List A) (from to count n : ℕ) → from + count ≤ length l → n ≡ count → paste l to (drop from l) n ≡ written to (part from count l) l
   unfolding written part
   moved l from to count n h e = rw e (ap (λ k. take to l ++ take count (drop from l) ++ drop (to + k) l) (sym (length_part from count l h)))
+
+  -- words stored one by one
+  pub two-written : (l : List A) (at : ℕ) (a b : A) → at + 2 ≤ length l → set (set l at a) (at + 1) b ≡ written at (a ∷ b ∷ []) l
+  two-written l at a b h = rw add-one (sets-written at (a ∷ b ∷ []) l h)
+
+  pub three-written : (l : List A) (at : ℕ) (a b c : A) → at + 3 ≤ length l
+      → set (set (set l at a) (at + 1) b) (at + 2) c ≡ written at (a ∷ b ∷ c ∷ []) l
+  three-written l at a b c h = rw (add-one, add-two) (sets-written at (a ∷ b ∷ c ∷ []) l h)
 
   -- n words just below a place
   pub lowered : (l : List A) (sp n : ℕ) (w : List A) → length w ≡ n → n ≤ sp → sp ≤ length l → drop (sp - n) (written (sp - n) w l) ≡ w ++ drop sp l

@@ -64,6 +64,10 @@ module _ {A : Type 0} (flag : A → Option Bool) where
     unfolding leading
     leading-true p = rw (leading, p)
 
+    pub leading-none : flag b ≡ none → leading flag (b ∷ bs) ≡ 0
+    unfolding leading
+    leading-none p = rw (leading, p)
+
     module _ (k : ℕ) where
       pub wholes-false : (w : Bool) → flag b ≡ some false → wholes flag k w (b ∷ bs) ≡ wholes flag k true bs
       unfolding wholes
@@ -123,6 +127,10 @@ module _ {A : Type 0} (flag : A → Option Bool) where
     pub kept-true : (c : Bool) (cs : List Bool) → flag b ≡ some true → kept_segments flag (c ∷ cs) (b ∷ bs) ≡ only_if c true (kept_segments flag cs bs)
     unfolding kept_segments
     kept-true c cs p = rw (kept_segments, p)
+
+  pub leading_end : leading flag [] ≡ 0
+  unfolding leading
+  leading_end = refl
 
   pub wholes-end : (k : ℕ) → wholes flag k false [] ≡ some k
   unfolding wholes

@@ -2,12 +2,13 @@
 use Prim.Native.Nat.{ℕ, zero, suc, ◌+◌, ◌-◌, ◌*◌, ◌≤◌, ◌<◌}
 use mathlib.Core.Bool.{Bool, true, false, ◌&&◌}
 use mathlib.Core.List.{List, []}
+use mathlib.Core.Logic.{◌⊎◌, inl, inr}
 use mathlib.Core.Option.{Option, some, none}
 use mathlib.Core.Path.{◌≡◌, refl, sym, ap, subst, ◌∙◌}
 use native.Mathlib.Omega.{arith}
 use lib.Dec.{eqb, leb}
 use lib.ListN.{length}
-use borrow.Author.Tests.{eqb-true, le-leb, lt-leb}
+use borrow.Author.Tests.{eqb-true, ne_eqb, le-leb, lt-leb}
 use Rattle.std.specs.Prelude.{Result, Ok, Err}
 use Rattle.laws.proofs.Options.{none-some}
 use Rattle.snesl.specs.declared.code.Base.{Base}
@@ -20,6 +21,21 @@ use Rattle.snesl.specs.Records.{byte_at, mark_at, mark_in, mark_ib, Input, input
 use Rattle.formula.specs.declared.read.Declared.{Declared}
 use Rattle.formula.specs.Declarations.{is_input, base_of_mark}
 use Rattle.formula.specs.Reading.{entry_at, declared_of}
+
+-- ---- marks
+
+pub marks-input : (m : ℕ) → (m ≡ mark_ib) ⊎ (m ≡ mark_in) → true ≡ is_input m
+marks-input m (inl q) = sym (ap is_input q)
+marks-input m (inr q) = sym (ap is_input q)
+
+pub marks-other : (m : ℕ) → ((m ≡ mark_ib) ⊎ (m ≡ mark_in) → ⊥) → false ≡ is_input m
+marks-other m f = rw (ne_eqb m mark_in (λ q. f (inr q)), ne_eqb m mark_ib (λ q. f (inl q)), is_input)
+
+pub marks-bool : (m : ℕ) → m ≡ mark_ib → base.Bool ≡ base_of_mark m
+marks-bool m q = sym (ap base_of_mark q)
+
+pub marks-int : (m : ℕ) → (m ≡ mark_ib → ⊥) → base.Int ≡ base_of_mark m
+marks-int m f = rw (ne_eqb m mark_ib f, base_of_mark)
 
 -- the base of an input's mark is the one that it declares
 pub base-is : (m : ℕ) (b : Base) → input_base m ≡ some b → base_of_mark m ≡ b
@@ -86,7 +102,7 @@ first_more i (declared is k) = ap (λ m. Ok (record { inputs = m; end = k })) (o
 
 module _ (t : List ℕ) (k : ℕ) where
   -- all input records from k on, by what stands at k; d is what they are where an input stands there
-  abbrev Next : Result Bool Refusal → Result Declared Refusal → records.Declared → Type 0
+  abbrev pub Next : Result Bool Refusal → Result Declared Refusal → records.Declared → Type 0
   Next (Err r) d a = declared_of a ≡ Err r
   Next (Ok false) d a = declared_of a ≡ Ok (record { inputs = 0; end = k })
   Next (Ok true) d a = declared_of a ≡ d

@@ -54,7 +54,7 @@ module _ (t : List ℕ) where
     undeclared q = ap (λ z. go_on z scanned) (sym q) ∙ front-after
 
     module _ {e : Declared} (q : d ≡ Ok e) {s : Result Scanned Refusal} (u : s ≡ scanned_of (records.scan (suc most_nesting) t e.end 0)) where
-      front-ended : go_on s (λ z. Ok (found e z)) ≡ formula_of (front_of t)
+      pub front-ended : go_on s (λ z. Ok (found e z)) ≡ formula_of (front_of t)
       front-ended = ap (λ z. go_on z (λ y. Ok (found e y))) u ∙ (ap (λ z. go_on z scanned) (sym q) ∙ front-after)
 
       pub unscanned : {r : Refusal} → s ≡ Err r → Err r ≡ formula_of (front_of t)
@@ -80,7 +80,7 @@ module _ (t : List ℕ) where
       go false = refl
 
   module _ {r : Result Formula Refusal} (p : r ≡ formula_of (front_of t)) where
-    read-alone : go_on r alone ≡ formula_of (read_formula t)
+    pub read-alone : go_on r alone ≡ formula_of (read_formula t)
     read-alone = ap (λ z. go_on z alone) p ∙ sym (formula-ends (front_of t))
 
     pub unread : {f : Refusal} → r ≡ Err f → Err f ≡ formula_of (read_formula t)
@@ -123,7 +123,7 @@ module _ (t : List ℕ) where
   job-ends (front is k e next) = texts-end is k e next (texts_at (length is) t next)
 
   module _ {r : Result Formula Refusal} (p : r ≡ formula_of (front_of t)) where
-    read-supplied : go_on r supplied ≡ job_of t (read_job t)
+    pub read-supplied : go_on r supplied ≡ job_of t (read_job t)
     read-supplied = ap (λ z. go_on z supplied) p ∙ sym (job-ends (front_of t))
 
     pub no-formula : {f : Refusal} → r ≡ Err f → Err f ≡ job_of t (read_job t)

@@ -2,8 +2,9 @@
 use Rattle.std.proofs.Common.{◌≡◌, ℕ, zero, suc, ◌+◌, ◌<◌, ◌≤◌, min, Bool, true, false, ◌&&◌, eqb, List, [], ◌∷◌, ◌++◌, map, length, get_or, drop, replicate, ℤ, pos, negsuc, nat_abs, ◌+ℤ◌, Result, Ok, Err, refl, sym, ◌∙◌, ap, arith, add-one, drop-cons}
 use Rattle.std.proofs.Math.Option.{some, none}
 use borrow.Author.Tests.{eqb-true, le-ltb, ltb-true}
+use lib.Dec.{T}
 use lib.ListN.{drop_of_length-le}
-use lib.Signed.{lt_z}
+use lib.Signed.{lt_z, non_neg}
 use mir.Facts.{to_z-of_z}
 use mir.Syntax.{w32}
 use mir.Val.{SFits, to_z, of_z}
@@ -63,6 +64,15 @@ pluses-long n k (x ∷ xs) (y ∷ ys) p q =
 
 -- ---- comparisons
 
+module _ (f : ℤ → ℤ → Bool) where
+  pub tests-next : (x y : ℤ) (xs ys : List ℤ) → map bit (pairwise f (x ∷ xs) (y ∷ ys)) ≡ bit (f x y) ∷ map bit (pairwise f xs ys)
+  unfolding pairwise
+  tests-next x y xs ys = refl
+
+  pub tests-end : (ys : List ℤ) → map bit (pairwise f [] ys) ≡ []
+  unfolding pairwise
+  tests-end ys = refl
+
 pub tests-long : (f : ℤ → ℤ → Bool) (n : ℕ) (xs ys : List ℤ) → length xs ≡ n → length ys ≡ n → length (pairwise f xs ys) ≡ n
 unfolding pairwise
 tests-long f n [] ys p q = p
@@ -72,6 +82,32 @@ tests-long f n (x ∷ xs) (y ∷ ys) p q =
     ap suc (tests-long f (length xs) xs ys refl (sym e)) ∙ p
 
 -- ---- Pack
+
+module _ (x : ℤ) (cs : List Bool) (xs : List ℤ) {c : Bool} where
+  pub kept-not : c ≡ false → kept (c ∷ cs) (x ∷ xs) ≡ kept cs xs
+  unfolding kept
+  kept-not e = rw e
+
+  pub kept_here : c ≡ true → kept (c ∷ cs) (x ∷ xs) ≡ x ∷ kept cs xs
+  unfolding kept
+  kept_here e = rw e
+
+pub kept-end : (xs : List ℤ) → kept [] xs ≡ []
+unfolding kept
+kept-end xs = refl
+
+module _ (cs : List Bool) {c : Bool} where
+  pub count-not : c ≡ false → count_true (c ∷ cs) ≡ count_true cs
+  unfolding count_true
+  count-not e = rw e
+
+  pub count-here : c ≡ true → count_true (c ∷ cs) ≡ count_true cs + 1
+  unfolding count_true
+  count-here e = rw e
+
+pub count-end : count_true [] ≡ 0
+unfolding count_true
+count-end = refl
 
 pub kept-long : (cs : List Bool) (xs : List ℤ) → length cs ≡ length xs → length (kept cs xs) ≡ count_true cs
 unfolding kept count_true
@@ -111,6 +147,11 @@ pub negative-over : (zs : List ℤ) (i : ℕ) → length zs ≤ i → first_nega
 unfolding first_negative
 negative-over zs i h = ap (first_negative i) (drop_of_length-le zs h)
 
+-- a number of them that is not negative
+pub nonnegative : (z : ℤ) → lt_z z (pos 0) ≡ false → (pos (nat_abs z) ≡ z) × T (non_neg z)
+nonnegative (pos m) e = (refl, tt)
+nonnegative (negsuc m) e = never (cc)
+
 -- an item that is not negative, as code has it
 pub natural : (z : ℤ) → SFits w32 z → lt_z z (pos 0) ≡ false → pos (nat_abs (to_z w32 (of_z w32 z))) ≡ z
 natural (pos m) f e = ap (λ y. pos (nat_abs y)) (to_z-of_z f)
@@ -120,7 +161,7 @@ pub unary-over : (zs : List ℤ) (i : ℕ) → length zs ≤ i → unary (drop i
 unfolding unary
 unary-over zs i h = ap unary (drop_of_length-le zs h)
 
-unary-next : (m : ℕ) (zs : List ℤ) → map bit (unary (pos m ∷ zs)) ≡ map bit (replicate m false ++ true ∷ []) ++ map bit (unary zs)
+pub unary-next : (m : ℕ) (zs : List ℤ) → map bit (unary (pos m ∷ zs)) ≡ map bit (replicate m false ++ true ∷ []) ++ map bit (unary zs)
 unfolding unary
 unary-next m zs = go m
   where
@@ -128,7 +169,7 @@ unary-next m zs = go m
     go zero = refl
     go (suc k) = ap (λ l. pos 0 ∷ l) (go k)
 
-unary-long : (m : ℕ) (zs : List ℤ) → length (unary (pos m ∷ zs)) ≡ m + 1 + length (unary zs)
+pub unary-long : (m : ℕ) (zs : List ℤ) → length (unary (pos m ∷ zs)) ≡ m + 1 + length (unary zs)
 unfolding unary
 unary-long m zs = go m
   where

@@ -2,7 +2,7 @@
 use Prim.Native.Nat.{ℕ, zero, suc, ◌+◌, ◌-◌, ◌≤◌, ◌<◌, ◌^◌}
 use mathlib.Core.Bool.{Bool, true, false}
 use Rattle.std.specs.Prelude.{Some, None}
-use mathlib.Core.List.{List, [], ◌∷◌}
+use mathlib.Core.List.{List, [], ◌∷◌, ◌++◌}
 use mathlib.Core.Path.{◌≡◌, refl, sym, ap, ◌∙◌, subst}
 use native.Mathlib.Numerals.{add-one}
 use Rattle.std.proofs.Common.{take_all}
@@ -10,7 +10,7 @@ use native.Mathlib.Omega.{arith}
 use borrow.Author.Tests.{le-leb, lt-leb, eqb-true, eqb-false}
 use lib.Dec.{eqb}
 use lib.ListN.{length, get_or, set, take, drop, drop_of_length-le}
-use lib.Seq.{drop-cons, take-suc, get_or-set_same, get_or-set_other}
+use lib.Seq.{drop-cons, take-suc, set_at, append_snoc, length-take-le, get_or-set_same, get_or-set_other}
 use Rattle.snesl.specs.Machine.{sum_of}
 use Rattle.snesl.proofs.Correctness.Charged.{sum_of-append}
 use Rattle.levels.specs.Counts.{total_of}
@@ -42,6 +42,9 @@ pub record Adding (ns : List ℕ) (most sum i : ℕ) : Type 0 where
   pub whole : sum_of ns ≡ sum + sum_of (drop i ns)
   pub within : sum ≤ most
 
+pub adding-start : (ns : List ℕ) (most : ℕ) → Adding ns most 0 0
+adding-start ns most = record { whole = omega arith; within = omega arith }
+
 module _ {ns : List ℕ} {most sum i : ℕ} (a : Adding ns most sum i) where
   pub adding-on : i < length ns → get_or ns i 0 ≤ most - sum → Adding ns most (sum + get_or ns i 0) (i + 1)
   adding-on h l = record { whole = omega (arith, a.whole, sum-on i ns h); within = omega (arith, a.within) }
@@ -57,6 +60,17 @@ module _ {ns : List ℕ} {most sum i : ℕ} (a : Adding ns most sum i) where
       let s : sum_of ns ≡ sum = a.whole ∙ ap (λ (l : List ℕ). sum + sum_of l) (drop_of_length-le ns h) ∙ omega arith in
       let w : sum_of ns ≤ most = omega (arith, a.within) in
       rw (le-leb (sum_of ns) most w) (ap Some s)
+
+-- ---- the copy: the first i are there
+
+pub copy-on : (from to : List ℕ) (i : ℕ) → i < length from → i < length to
+    → set (take i from ++ drop i to) i (get_or from i 0) ≡ take (i + 1) from ++ drop (i + 1) to
+copy-on from to i h k =
+    ap (λ (l : List ℕ). set (take i from ++ l) i (get_or from i 0)) (drop-cons to i 0 k)
+    ∙ set_at (take i from) (get_or to i 0) (drop (suc i) to) (get_or from i 0) i (length-take-le i from (omega arith))
+    ∙ sym (append_snoc (take i from) (get_or from i 0) (drop (suc i) to))
+    ∙ ap (λ (l : List ℕ). l ++ drop (suc i) to) (sym (take-suc from i 0 h))
+    ∙ ap (λ (j : ℕ). take j from ++ drop j to) (sym (add-one i))
 
 -- ---- the places: those of the first i streams, and at is where the next one starts
 

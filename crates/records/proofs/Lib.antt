@@ -1,2 +1,4 @@
+pub mod Bounds
+pub mod Bits
 pub mod Variables
 pub mod Heads

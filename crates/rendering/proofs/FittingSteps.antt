@@ -1,25 +1,30 @@
 -- Flags tried by how many segments they are, and a row of streams tried level by level from the outermost on.
-use Prim.Native.Nat.{ℕ, suc, ◌+◌, ◌-◌, ◌≤◌, ◌<◌}
+use Prim.Native.Nat.{ℕ, suc, ◌+◌, ◌-◌, ◌≤◌, ◌<◌, ◌^◌}
 use mathlib.Core.Bool.{Bool, true, false, ◌&&◌}
 use mathlib.Core.List.{List, [], ◌∷◌, ◌++◌, reverse, reverse-append}
 use mathlib.Core.Option.{Option, some, none}
 use mathlib.Core.Path.{◌≡◌, refl, sym, ap, ap₂, ◌∙◌}
+use native.Mathlib.Numerals.{add-one}
 use native.Mathlib.Omega.{arith}
-use borrow.Author.Tests.{eq-eqb}
-use lib.IntN.{ℤ}
-use lib.ListN.{length, get_or, take, drop}
-use lib.Seq.{drop-drop, take-suc, take_all, take-take, length-take-le, get_or-take}
+use borrow.Author.Tests.{eq-eqb, ne_eqb}
+use lib.IntN.{ℤ, pos}
+use lib.ListN.{length, get_or, take, drop, drop_of_length-le}
+use lib.Seq.{drop-cons, drop-drop, take-suc, take_all, take-take, length-take-le, get_or-take}
+use lib.Signed.{mag}
+use mir.Syntax.{w32}
+use mir.Val.{of_z}
 use Rattle.laws.proofs.Never.{never}
 use Rattle.snesl.specs.declared.code.Base.{Base}
 use Rattle.snesl.specs.declared.code.Base.TheVariants as base
 use Rattle.snesl.specs.Machine.{sum_of}
 use Rattle.snesl.specs.Trees.{Tree, leaf, node, grow}
 use Rattle.snesl.specs.Transducers.{flag_of, misfit, count_f, alone}
-use Rattle.snesl.specs.Representation.{are_elements, misfit_tree, parts, tree_of}
+use Rattle.snesl.specs.Representation.{is_flag, are_elements, misfit_tree, parts, tree_of}
 use Rattle.flags.specs.Flags.{found}
 use Rattle.flags.specs.Segments.{wholes}
+use Rattle.flags.proofs.Stored.{zero_flag, one-flag, no_flag}
 use Rattle.flags.proofs.Fronts.{fits_count, whole-fits, fits_whole}
-use Rattle.rendering.specs.Fitting.{fit_for, fit_of, data_fits, fitting_for, fitting_of, InRow}
+use Rattle.rendering.specs.Fitting.{fit_for, fit_of, data_fits, bools_fit, fitting_for, fitting_of, InRow}
 use Rattle.std.specs.Prelude as rust
 use Rattle.std.specs.Prelude.{Some, None, Ok, Err}
 use Rattle.levels.proofs.Counting.{sum-front, sum_less}
@@ -67,9 +72,45 @@ module _ (fs : List ℤ) {ends : rust.Option ℕ} (read : ends ≡ found (wholes
         let e : length fs - m ≡ count_f flag_of fs = omega (arith, counts) in
         ap Some e ∙ sym (ap (λ (o : Option ℕ). fit_for o (count_f flag_of fs)) fits) ∙ ap (λ (k : ℕ). fit_of k fs) right
 
--- ---- data
+-- ---- data tried element by element
+
+-- the elements before i are bools
+pub record Tried (zs : List ℤ) (i : ℕ) : Type 0 where
+  pub whole : bools_fit zs ≡ bools_fit (drop i zs)
+
+pub tried-start : (zs : List ℤ) → Tried zs 0
+tried-start zs = record { whole = refl }
+
+module _ {zs : List ℤ} {i : ℕ} (a : Tried zs i) where
+  module _ (h : i < length zs) where
+    tried-next : bools_fit zs ≡ (is_flag (flag_of (get_or zs i (pos 0))) && bools_fit (drop (i + 1) zs))
+    unfolding are_elements
+    tried-next =
+        a.whole
+        ∙ ap bools_fit (drop-cons zs i (pos 0) h)
+        ∙ ap (λ (k : ℕ). is_flag (flag_of (get_or zs i (pos 0))) && bools_fit (drop k zs)) (sym (add-one i))
+
+    tried-bool : (c : Bool) → flag_of (get_or zs i (pos 0)) ≡ some c → Tried zs (i + 1)
+    tried-bool c e = record { whole = tried-next ∙ ap (λ (o : Option Bool). is_flag o && bools_fit (drop (i + 1) zs)) e }
+
+    pub tried-zero : mag (get_or zs i (pos 0)) < 2 ^ 31 → of_z w32 (get_or zs i (pos 0)) ≡ 0 → Tried zs (i + 1)
+    tried-zero k e = tried-bool false (zero_flag (get_or zs i (pos 0)) k e)
+
+    pub tried-one : mag (get_or zs i (pos 0)) < 2 ^ 31 → of_z w32 (get_or zs i (pos 0)) ≡ 1 → Tried zs (i + 1)
+    tried-one k e = tried-bool true (one-flag (get_or zs i (pos 0)) k e)
+
+    pub tried-neither : (of_z w32 (get_or zs i (pos 0)) ≡ 0 → ⊥) → (of_z w32 (get_or zs i (pos 0)) ≡ 1 → ⊥) → false ≡ bools_fit zs
+    tried-neither f g =
+        sym (tried-next ∙ ap (λ (o : Option Bool). is_flag o && bools_fit (drop (i + 1) zs)) (no_flag (get_or zs i (pos 0)) f g))
+
+  pub tried-end : length zs ≤ i → true ≡ bools_fit zs
+  unfolding are_elements
+  tried-end h = sym (a.whole ∙ ap bools_fit (drop_of_length-le zs h))
 
 module _ (zs : List ℤ) (n : ℕ) where
+  pub fit-lacks : (β : Base) → (length zs ≡ n → ⊥) → false ≡ data_fits β n zs
+  fit-lacks β e = sym (ap (λ (b : Bool). b && are_elements β zs) (ne_eqb (length zs) n e))
+
   fit-elements : (β : Base) → length zs ≡ n → data_fits β n zs ≡ are_elements β zs
   fit-elements β e = ap (λ (b : Bool). b && are_elements β zs) (eq-eqb (length zs) n e)
 
@@ -81,6 +122,9 @@ module _ (zs : List ℤ) (n : ℕ) where
 
   pub fit-ints : {β : Base} → length zs ≡ n → β ≡ base.Int → true ≡ data_fits β n zs
   fit-ints {β} e p = sym (fit-elements β e ∙ ap (λ (x : Base). are_elements x zs) p ∙ all-ints zs)
+
+  pub fit-bools : {β : Base} {b : Bool} → length zs ≡ n → β ≡ base.Bool → b ≡ bools_fit zs → b ≡ data_fits β n zs
+  fit-bools {β} e p q = q ∙ ap (λ (x : Base). are_elements x zs) (sym p) ∙ sym (fit-elements β e)
 
 -- ---- the levels of a row
 

@@ -1,5 +1,5 @@
 -- From what the writers leave to streams to text: a value's streams in a row stand at the row's places, and the answers in the order of the document.
-use Prim.Native.Nat.{ℕ, zero, suc, ◌+◌, ◌≤◌, ◌<◌}
+use Prim.Native.Nat.{ℕ, zero, suc, ◌+◌, ◌≤◌, ◌<◌, ◌^◌}
 use mathlib.Core.Bool.{Bool, true, false}
 use mathlib.Core.List.{List, [], ◌∷◌, ◌++◌, map, map-append, append-nil}
 use mathlib.Core.Option.{Option, some, none}
@@ -137,6 +137,12 @@ same-misfit β d ls zs =
     ap₂ (λ (x : Base) (n : ℕ). misfit_tree x 1 (tree_of n ls zs)) (sym (base-of-type β d)) (sym (depth-of-type β d))
 
 module _ {d : ℕ} {ls : List ℕ} {lent : ℕ} (r : Row d ls lent) where
+  pub row-starts : ((d + 1 ≤ length ls) × (d + 1 ≤ 9)) × (0 + sum_of (take (d + 1) ls) < 2 ^ 64)
+  row-starts = (
+    (omega (arith, r.levels), omega (arith, r.shallow)),
+    omega (arith, ap sum_of (take_all (d + 1) ls (omega (arith, r.levels))), r.all-lent, r.few),
+  )
+
   pub row-places : (places : List ℕ) → length places ≡ 9 → ((i : ℕ) → i < length ls → get_or places i 0 ≡ 0 + sum_of (take i ls)) → InRow d lent ls places
   row-places places l p =
       record {

@@ -1,10 +1,11 @@
 -- How a value's text is written step by step: an int, a list's brace, its items with commas between, its closing brace.
-use Prim.Native.Nat.{ℕ, suc, ◌+◌, ◌*◌, ◌≤◌, ◌<◌, ◌^◌}
+use Prim.Native.Nat.{ℕ, zero, suc, ◌+◌, ◌*◌, ◌≤◌, ◌<◌, ◌^◌}
 use mathlib.Core.Bool.{Bool, true, false}
 use mathlib.Core.List.{List, [], ◌∷◌, ◌++◌, map, append_assoc, append-nil}
+use mathlib.Core.Option.{some}
 use mathlib.Core.Path.{◌≡◌, refl, sym, ap, ap₂, ◌∙◌, subst}
 use native.Mathlib.Omega.{arith}
-use lib.IntN.{ℤ, pos}
+use lib.IntN.{ℤ, pos, negsuc}
 use lib.Signed.{mag}
 use lib.ListN.{length, get_or, set, replicate, length-append, length-set, length-replicate}
 use lib.Seq.{get_or-set_same, set-set, set-get_or, length-sets}
@@ -16,14 +17,15 @@ use Rattle.snesl.specs.declared.code.Base.TheVariants as base
 use Rattle.snesl.specs.Values.{type_of, Element, Val}
 use Rattle.snesl.specs.Streams.{bit}
 use Rattle.snesl.specs.Representation.{concat, segments}
-use Rattle.snesl.specs.Transducers.{bool_of}
-use Rattle.snesl.specs.Text.{show_bool, show_element, joined, show}
+use Rattle.snesl.specs.Transducers.{bool_of, flag_of}
+use Rattle.snesl.specs.Text.{show_int, show_bool, show_element, joined, show}
 use Rattle.valuetext.specs.Laying.{cells, advance}
 use Rattle.valuetext.specs.Reading.{cell}
 use Rattle.rendering.specs.Standing.{StandsAt, Stands}
-use Rattle.rendering.specs.Showing.{is_stop, scalar_text, size, Showable, Shown}
+use Rattle.rendering.specs.Showing.{is_stop, letter_for, letter_of, scalar_text, size, Showable, Shown}
 use Rattle.decimals.specs.Writing.{Writes}
 use Rattle.decimals.proofs.Stores.{writes_nothing, writes_then}
+use Rattle.flags.proofs.Stored.{zero_flag}
 use Rattle.rendering.proofs.TextLength.{int-length, size-append}
 use Rattle.valuetext.proofs.Laying.{length-advance, advance-set, advance-append}
 use Rattle.valuetext.proofs.ReadingSteps.{advance-nothing}
@@ -53,6 +55,39 @@ scalar-length base.Bool z h = go (bool_of z)
     go : (c : Bool) → length (show_bool c) ≤ 21
     go false = omega arith
     go true = omega arith
+
+int-text : {β : Base} (z : ℤ) → β ≡ base.Int → show_int z ≡ scalar_text β z
+int-text z p = ap (λ (x : Base). scalar_text x z) (sym p)
+
+bool-text : {β : Base} (z : ℤ) → β ≡ base.Bool → letter_of z ∷ [] ≡ scalar_text β z
+bool-text z p = go (bool_of z) ∙ ap (λ (x : Base). scalar_text x z) (sym p)
+  where
+    go : (c : Bool) → letter_for c ∷ [] ≡ show_bool c
+    go false = refl
+    go true = refl
+
+module _ {β : Base} {z : ℤ} {old new : List ℕ} {at next : ℕ} (f : SFits w32 z) where
+  pub int-written : β ≡ base.Int → Writes old new at (show_int (to_z w32 (of_z w32 z))) next → Writes old new at (scalar_text β z) next
+  int-written p w = subst (λ (t : List ℕ). Writes old new at t next) (ap show_int (to_z-of_z f) ∙ int-text z p) w
+
+  pub bool-written : {x : ℕ} → β ≡ base.Bool → x ≡ letter_of (to_z w32 (of_z w32 z)) → Writes old new at (x ∷ []) next → Writes old new at (scalar_text β z) next
+  bool-written p q w =
+      subst (λ (t : List ℕ). Writes old new at t next) (ap (λ (n : ℕ). n ∷ []) (q ∙ ap letter_of (to_z-of_z f)) ∙ bool-text z p) w
+
+-- 0 is F, and all else is T
+pub zero-letter : (z : ℤ) → SFits w32 z → of_z w32 z ≡ 0 → 70 ≡ letter_of z
+zero-letter z h e = go z (zero_flag z h.sfits e)
+  where
+    go : (z : ℤ) → flag_of z ≡ some false → 70 ≡ letter_of z
+    go (pos zero) q = refl
+    go (pos (suc zero)) q = let x : ◌≡◌ {A = ℕ} 0 1 = cc in absurd (omega arith)
+    go (pos (suc (suc n))) q = let x : ◌≡◌ {A = ℕ} 0 1 = cc in absurd (omega arith)
+    go (negsuc n) q = let x : ◌≡◌ {A = ℕ} 0 1 = cc in absurd (omega arith)
+
+pub other-letter : (z : ℤ) → (of_z w32 z ≡ 0 → ⊥) → 84 ≡ letter_of z
+other-letter (pos zero) h = absurd (h refl)
+other-letter (pos (suc n)) h = refl
+other-letter (negsuc n) h = refl
 
 module _ {β : Base} {b : List ℤ} {cs : List ℕ} {at : ℕ} (a : Showable β 0 b cs at) where
   pub leaf-head : Head b (get_or cs 0 0) (cell β a.value) (cells β a.rest)
@@ -200,6 +235,9 @@ module _ {β : Base} {d : ℕ} {b : List ℤ} {cs cs' old new : List ℕ} {at ne
 
   pub flag-inside : (suc d < length cs') × (get_or cs' (suc d) 0 < length b)
   flag-inside = (omega (arith, a.showable.levels, length-now), omega (arith, own-now, (flag-now a.items refl).0))
+
+  pub at_most : get_or cs' (suc d) 0 < length b
+  at_most = flag-inside.1
 
   stop-now : is_stop (get_or b (get_or cs' (suc d) 0) (pos 0)) ≡ is_stop (flag_before a.items)
   stop-now = ap (λ (i : ℕ). is_stop (get_or b i (pos 0))) own-now ∙ (flag-now a.items refl).1

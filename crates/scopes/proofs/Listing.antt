@@ -1,5 +1,5 @@
 -- A using list in the bytes, read from its first variable on, and its scope, written from its last one back.
-use Rattle.std.proofs.Common.{◌≡◌, ℕ, suc, ◌+◌, ◌-◌, ◌≤◌, ◌<◌, Bool, true, false, List, [], ◌∷◌, Option, None, Some, Result, Ok, Err, length, get_or, take, drop, refl, sym, ap, ap₂, ◌∙◌, arith, add-one, drop-cons, length-drop, subst, drop-drop, drop_at, take-take, take_all}
+use Rattle.std.proofs.Common.{◌≡◌, ℕ, zero, suc, ◌+◌, ◌-◌, ◌≤◌, ◌<◌, Bool, true, false, List, [], ◌∷◌, Option, None, Some, Result, Ok, Err, length, get_or, take, drop, refl, sym, ap, ap₂, ◌∙◌, arith, add-one, drop-cons, length-drop, subst, drop-drop, drop_at, take-take, take_all}
 use Rattle.std.proofs.Math.Seq.{drop-length}
 use denote.Enum.Bare.{sameb}
 use Rattle.snesl.specs.contracts.code.Base.{the_type}
@@ -10,10 +10,11 @@ use Rattle.std.specs.Option.{ok_or, is_some}
 use Rattle.std.proofs.lemmas.List.{nil_from_length}
 use Rattle.std.proofs.lemmas.Bool.Decides.{nat_tests}
 use mathlib.Core.Bool.{◌&&◌, ◌||◌, not}
-use borrow.Author.Tests.{lt-ltb, le-ltb}
+use borrow.Author.Tests.{eq-eqb, ne_eqb, lt-ltb, le-ltb}
 use lib.Dec.{eqb, ltb}
 use Rattle.snesl.specs.declared.code.Variable.{Variable}
 use Rattle.snesl.specs.Checking.{names}
+use Rattle.snesl.specs.Records.{variable_at, variables_at}
 use Rattle.scopes.specs.declared.scope.Binding.{Binding}
 use Rattle.snesl.specs.declared.refusal.Refusal.{Refusal}
 use Rattle.snesl.specs.declared.refusal.Refusal.TheVariants.{Unbound, WrongType}
@@ -24,6 +25,32 @@ use Rattle.scopes.specs.Scopes.{scope, type_in, Pushed}
 use Rattle.scopes.specs.UsingLists.{variables, first_usable, usable_in, each_usable, scalars_in, listed_in, Listed, Body, stop, inside, element_of, sequence_in, each_in, bool_in, guard_in, Inside, Prepares}
 use Rattle.std.specs.Prelude.{nat_eq, unwrap_or}
 use Rattle.std.specs.List.{list_any}
+
+module _ (t : List ℕ) where
+  -- the first variable of a row
+  pub row : (k j : ℕ) → 0 < j → variables_at t k j ≡ variable_at t k ∷ variables_at t (k + 1) (j - 1)
+  unfolding variables_at
+  row k zero h = absurd (omega arith)
+  row k (suc j) h =
+      let one : suc k ≡ k + 1 = omega arith in
+      let less : j ≡ suc j - 1 = omega arith in
+      ap₂ (λ a b. variable_at t k ∷ variables_at t a b) one less
+
+  pub row-none : (k j : ℕ) → j ≡ 0 → variables_at t k j ≡ []
+  unfolding variables_at
+  row-none k j e = ap (variables_at t k) e
+
+pub names-hit : (u y : Variable) (ys : List Variable) → y.0 ≡ u.0 → names u (y ∷ ys) ≡ true
+unfolding names
+names-hit u y ys e = ap (λ b. b || names u ys) (eq-eqb u.0 y.0 (sym e))
+
+pub names-miss : (u y : Variable) (ys : List Variable) → (y.0 ≡ u.0 → ⊥) → names u (y ∷ ys) ≡ names u ys
+unfolding names
+names-miss u y ys n = ap (λ b. b || names u ys) (ne_eqb u.0 y.0 (λ q. n (sym q)))
+
+pub names-none : (u : Variable) → names u [] ≡ false
+unfolding names
+names-none u = refl
 
 pub names-any : (x : ℕ) (bs : List ℕ) → list_any (λ y. nat_eq y x) bs ≡ names (record { 0 = x }) (variables bs)
 unfolding names

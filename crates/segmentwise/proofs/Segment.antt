@@ -82,7 +82,7 @@ module _ (items bs : List ℤ) (i : ℕ) (fit : misfit flag_of each_t i (length 
     next-within = ends-within each_t i (length items) bs (drop i items) lt fit
 
     module _ {bs' : List ℤ} {count : ℕ} (e : count ≡ leading flag_of bs) (r : bs' ≡ drop (leading flag_of bs + 1) bs) where
-      here : Segment each_t i (length items) count bs (drop i items)
+      pub here : Segment each_t i (length items) count bs (drop i items)
       here = segment each_t i (length items) bs (drop i items) lt fit count e
 
       pub next-front : Front flag_of bs count

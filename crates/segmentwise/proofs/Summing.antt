@@ -19,7 +19,7 @@ pub record Reached (n k : ℕ) (bs xs : List ℤ) : Type 0 where
 
 module _ {n k : ℕ} {bs xs : List ℤ} (a : Reached n k bs xs) where
   module _ (lt : k < n) {bs' these xs' : List ℤ} {count : ℕ} (cut : Cut bs xs count bs' these xs') where
-    here : Segment each_f k n count bs xs
+    pub here : Segment each_f k n count bs xs
     here = segment each_f k n bs xs lt a.fits count cut.is
 
     pub total_here : sums flag_of k (pos 0) bs xs ≡ (k, total_from (pos 0) these) ∷ sums flag_of (k + 1) (pos 0) bs' xs'

@@ -255,7 +255,7 @@ taken_is (units n) = refl
 as_long : (a : Stream) → taking (kind_of a) (len a) ≡ len a → len a ≡ length (elements a)
 as_long a e = sym e ∙ taken_is a
 
-data-takes : (b : Base) (n : ℕ) → taking (data_kind b) n ≡ n
+pub data-takes : (b : Base) (n : ℕ) → taking (data_kind b) n ≡ n
 data-takes base.Int n = refl
 data-takes base.Bool n = refl
 

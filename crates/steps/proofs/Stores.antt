@@ -1,6 +1,7 @@
 -- A store and the buffer that it stands in: what a stream's id, start and elements are once more streams follow, and that a stream's elements stand where its
 -- start and its length say.
 use Prim.Native.Nat.{ℕ, zero, suc, ◌+◌, ◌≤◌, ◌<◌}
+use mathlib.Core.Bool.{Bool}
 use mathlib.Core.List.{List, [], ◌∷◌, ◌++◌, append_assoc, append-nil, map}
 use mathlib.Core.Option.{some}
 use mathlib.Core.Path.{◌≡◌, refl, sym, ◌∙◌, ap}
@@ -117,6 +118,44 @@ module _ {σ : Store} {buf : List ℤ} (h : Holds buf σ) where
 
     pub bools-part : part at n buf ≡ map bit o.content
     bools-part = data-part base.Bool (data-at base.Bool o)
+
+-- an operand while the store grows, and the newest stream as an operand
+module _ {σ : Store} (τ : Store) {s at n : ℕ} where
+  pub ints-kept : IntsAt σ s at n → IntsAt (σ ++ τ) s at n
+  ints-kept o =
+      record {
+        content = o.content;
+        stream = kept σ τ s (ints o.content) o.stream;
+        start = o.start ∙ sym (start-kept σ τ s (omega (arith, named σ s (ints o.content) o.stream)));
+        long = o.long ∙ ap length_in (o.stream ∙ sym (kept σ τ s (ints o.content) o.stream));
+      }
+
+  pub flags-kept : FlagsAt σ s at n → FlagsAt (σ ++ τ) s at n
+  flags-kept o =
+      record {
+        content = o.content;
+        stream = kept σ τ s (flags o.content) o.stream;
+        start = o.start ∙ sym (start-kept σ τ s (omega (arith, named σ s (flags o.content) o.stream)));
+        long = o.long ∙ ap length_in (o.stream ∙ sym (kept σ τ s (flags o.content) o.stream));
+      }
+
+pub newest-ints : (σ : Store) (zs : List ℤ) → IntsAt (σ ++ ints zs ∷ []) (length σ) (room σ) (length zs)
+newest-ints σ zs =
+    record {
+      content = zs;
+      stream = newest σ (ints zs);
+      start = sym (start-newest σ (ints zs));
+      long = sym (ap length_in (newest σ (ints zs)));
+    }
+
+pub newest-flags : (σ : Store) (bs : List Bool) → FlagsAt (σ ++ flags bs ∷ []) (length σ) (room σ) (length bs)
+newest-flags σ bs =
+    record {
+      content = bs;
+      stream = newest σ (flags bs);
+      start = sym (start-newest σ (flags bs));
+      long = sym (ap length_in (newest σ (flags bs)));
+    }
 
 -- nothing written changes nothing
 pub nothing_written : {A : Type 0} (out : ℕ) (l : List A) → l ≡ written out [] l

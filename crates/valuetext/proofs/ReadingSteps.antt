@@ -24,7 +24,7 @@ use Rattle.snesl.specs.Representation.{concat, segments}
 use Rattle.snesl.specs.Text.{before, read_items, read_int, read_bool, read_element, read_value}
 use Rattle.decimals.specs.Numbers.{pick, int_at, int_read}
 use Rattle.valuetext.specs.Laying.{cells, lay, advance, Under, Apart}
-use Rattle.valuetext.specs.Reading.{opening_at, after_at, cell, scalar_read, scalar_at, ints_in, Clear, measuring, filling, Ready, Laid, ReadAs, read_no, read-bytes}
+use Rattle.valuetext.specs.Reading.{opening_at, after_at, cell, scalar_read, scalar_at, bool_at, ints_in, Clear, measuring, filling, Ready, Laid, ReadAs, read_no, read-bytes}
 use Rattle.valuetext.specs.declared.reading.Opening.TheVariants.{Empty, Items, No as NoList}
 use Rattle.valuetext.specs.declared.reading.After.{After}
 use Rattle.valuetext.specs.declared.reading.After.TheVariants.{Comma, Close, Else}
@@ -133,7 +133,19 @@ int_at_lem t = go (read_int t)
     go none = refl
     go (some r) = refl
 
+pub int-at-base : {β : Base} (t : List ℕ) → β ≡ base.Int → int_at t ≡ scalar_at β t
+int-at-base t p = subst (λ (β : Base). int_at t ≡ scalar_at β t) (sym p) (int_at_lem t)
+
+pub bool-at-base : {β : Base} (t : List ℕ) → β ≡ base.Bool → bool_at t ≡ scalar_at β t
+bool-at-base t p = ap (λ (β : Base). scalar_at β t) (sym p)
+
 -- what is told of a list of ints
+pub ints-in : {β : Base} (d : ℕ) → β ≡ base.Int → eqb d 1 ≡ ints_in β d
+ints-in d p = ap (λ (β : Base). ints_in β d) (sym p)
+
+pub bools-in : {β : Base} (d : ℕ) → β ≡ base.Bool → false ≡ ints_in β d
+bools-in d p = ap (λ (β : Base). ints_in β d) (sym p)
+
 pub ints-told : (β : Base) (d : ℕ) → ints_in β d ≡ true → (β ≡ base.Int) × (d ≡ 1)
 ints-told base.Int d e = (refl, eqb-true d 1 e)
 ints-told base.Bool d e = cc

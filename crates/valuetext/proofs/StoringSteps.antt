@@ -6,11 +6,11 @@ use mathlib.Core.Option.{Option, some, none}
 use mathlib.Core.Path.{◌≡◌, refl, sym, ap, ap₂, ◌∙◌}
 use native.Mathlib.Numerals.{add-one}
 use native.Mathlib.Omega.{arith}
-use borrow.Author.Tests.{le-leb, leb-true, le-ltb, eq-eqb, eqb-true}
+use borrow.Author.Tests.{le-leb, leb-true, le-ltb, eq-eqb, ne_eqb, eqb-true}
 use lib.Dec.{leb, eqb}
 use lib.IntN.{ℤ}
 use lib.ListN.{length, get_or, take, drop, replicate, length-take}
-use lib.Seq.{sets, sets-eq, take-take}
+use lib.Seq.{sets, sets-eq, take-take, take_at}
 use Rattle.snesl.specs.declared.code.Base.{Base}
 use Rattle.snesl.specs.Values.{Val, type_of}
 use Rattle.snesl.specs.Streams.{Store, len, contents, room}
@@ -20,7 +20,7 @@ use Rattle.snesl.specs.Limits.{most_depth, most_elements}
 use Rattle.decimals.specs.Numbers.{pick}
 use Rattle.valuetext.specs.Laying.{lay}
 use Rattle.levels.specs.Counts.{total_of}
-use Rattle.valuetext.specs.Reading.{Ready, filling, Laid, ReadAs, read_no, read-bytes}
+use Rattle.valuetext.specs.Reading.{Ready, measuring, filling, Laid, ReadAs, read_no, read-bytes}
 use Rattle.valuetext.specs.Storing.{value_store, value_store_if, text_elements, measured_if, measured, counts_if, counts_after, Fillable, to_streams}
 use Rattle.std.specs.Option.{ok_or}
 use Rattle.valuetext.specs.declared.storing.Unmeasured.{Unmeasured}
@@ -33,7 +33,7 @@ use Rattle.valuetext.proofs.Represented.{counted, lens-total, lens-length, place
 -- ---- a text and its value
 
 module _ (β : Base) (d : ℕ) (t : List ℕ) where
-  value_none : read_value (type_of β d) t ≡ none → value_of (type_of β d) t ≡ none
+  pub value_none : read_value (type_of β d) t ≡ none → value_of (type_of β d) t ≡ none
   value_none e = rw e
 
   whole : (v : Val (type_of β d)) (k : ℕ) → read_value (type_of β d) t ≡ some (v, k) → value_of (type_of β d) t ≡ pick (eqb k (length t)) (some v) none
@@ -43,10 +43,13 @@ module _ (β : Base) (d : ℕ) (t : List ℕ) where
       go true = refl
       go false = refl
 
-  value-some : (v : Val (type_of β d)) (k : ℕ) → read_value (type_of β d) t ≡ some (v, k) → k ≡ length t → value_of (type_of β d) t ≡ some v
+  pub value-short : (v : Val (type_of β d)) (k : ℕ) → read_value (type_of β d) t ≡ some (v, k) → (k ≡ length t → ⊥) → value_of (type_of β d) t ≡ none
+  value-short v k e h = whole v k e ∙ ap (λ (b : Bool). pick b (some v) none) (ne_eqb k (length t) h)
+
+  pub value-some : (v : Val (type_of β d)) (k : ℕ) → read_value (type_of β d) t ≡ some (v, k) → k ≡ length t → value_of (type_of β d) t ≡ some v
   value-some v k e h = whole v k e ∙ ap (λ (b : Bool). pick b (some v) none) (eq-eqb k (length t) h)
 
-  value_read : (v : Val (type_of β d)) → value_of (type_of β d) t ≡ some v → read_value (type_of β d) t ≡ some (v, length t)
+  pub value_read : (v : Val (type_of β d)) → value_of (type_of β d) t ≡ some v → read_value (type_of β d) t ≡ some (v, length t)
   value_read v e = go (read_value (type_of β d) t) refl
     where
       deep : (w : Val (type_of β d)) (k : ℕ) (b : Bool) → eqb k (length t) ≡ b → pick b (some w) none ≡ some v → (w ≡ v) × (k ≡ length t)
@@ -65,6 +68,10 @@ zeros : (n i : ℕ) → ◌≡◌ {A = ℕ} (get_or (replicate n 0) i 0) 0
 zeros zero i = refl
 zeros (suc n) zero = refl
 zeros (suc n) (suc i) = zeros n i
+
+pub measure-ready : (β : Base) (d : ℕ) (t : List ℕ) → d ≤ most_depth → length t < 2 ^ 64 → Ready β d t [] (replicate 9 0)
+measure-ready β d t h l =
+    record { levels = omega arith; counts = λ i k. omega (arith, zeros 9 i); clear = measuring refl }
 
 module _ (β : Base) (d : ℕ) (t : List ℕ) (counts : List ℕ) where
   -- a text that is read to its end, counted
@@ -163,7 +170,27 @@ sized β d t n e = go (value_of (type_of β d) t) refl e
     go none h e' = cc
     go (some v) h e' = deep v h (leb (room (value_store (type_of β d) v)) most_elements) refl e'
 
+-- the counts of what was measured
+pub counts_of_lem : (β : Base) (d : ℕ) (t : List ℕ) {n : ℕ} (e : Ok n ≡ measured (type_of β d) t) (c₀ : List ℕ)
+    → counts_after β d t c₀ ≡ map len (value_store (type_of β d) (sized β d t n e).value) ++ drop (suc d) c₀
+counts_of_lem β d t {n} e c₀ = ap (λ (o : Option (Val (type_of β d))). counts_if β d o c₀) (sized β d t n e).reads
+
 module _ (t : List ℕ) (β : Base) (d : ℕ) (es : List ℤ) (ls : List ℕ) where
+  -- so its streams have room
+  pub fillable : d ≤ most_depth → {n : ℕ} → Ok n ≡ measured (type_of β d) t → {counts : List ℕ} (c₀ : List ℕ) → counts ≡ counts_after β d t c₀
+      → n ≤ length es → Fillable β d t counts 0 (length es)
+  fillable h {n} e {counts} c₀ q l =
+      let known : Sized β d t n = sized β d t n e in
+      record {
+        value = known.value;
+        reads = known.reads;
+        shallow = h;
+        counted =
+            ap (take (suc d)) (q ∙ counts_of_lem β d t e c₀)
+            ∙ take_at (map len (value_store (type_of β d) known.value)) (drop (suc d) c₀) (suc d) (lens-length β d (known.value ∷ []));
+        room_for = omega (arith, known.size);
+      }
+
   pub stored : {n : ℕ} → d ≤ most_depth → Ok n ≡ measured (type_of β d) t → n ≤ length es → d + 1 ≤ length ls
       → sets es 0 (text_elements (type_of β d) t) ≡ (to_streams t β d es ls).elements
   stored {n} h e l k =
