@@ -66,6 +66,9 @@ unfolding run trees.id_words
 put-none env at s h = record { words = sets-written at [] env (omega arith) }
 
 module _ {env₀ : List ℕ} {at s i : ℕ} {env : List ℕ} (p : Putting env₀ at s i env) where
+  pub put-length : at + 3 * i ≤ length env₀ → length env ≡ length env₀
+  put-length h = ap length p.words ∙ length-written env₀ at (id_words (run s i)) (omega (arith, run_length s i))
+
   pub put_one : {new : List ℕ} → at + (3 * i + 3) ≤ length env₀ → new ≡ written (at + 3 * i) ((s + i) ∷ 0 ∷ 0 ∷ []) env → Putting env₀ at s (i + 1) new
   put_one {new} h e =
       let next : i + 1 ≡ suc i = omega arith in
