@@ -43,7 +43,7 @@ abbrev begun : ℕ → Walk → Walk
 begun s w = record { machine = record { streams = s; room = w.machine.room; work = w.machine.work; steps = w.machine.steps }; sink = w.sink }
 
 abbrev beginning : List ℕ → Sink
-beginning text = starting Listing text
+beginning text = starting 72 Listing text
 
 module _ {t : List ℕ} {k : ℕ} {env : List ℕ} {sp s : ℕ} (g : WholeReady t k env sp s) where
   abbrev machine : State

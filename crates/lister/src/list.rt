@@ -14,7 +14,11 @@ use lines::pieces::put_bytes;
 use runner::walk;
 use sink::state::{Mode, Walk};
 use sink::trees::put_tree;
+use snesl::limits::Formula;
 use snesl::refusal::Refusal;
+
+// The most ids that a body takes in: those of the listed variables of a GU, each of the deepest type.
+const MOST: usize = Formula::LISTED * (Formula::DEPTH as usize + 1);
 
 // The depth of the expression's result, and where its lines end.
 #[derive(Clone, Copy, Debug, PartialEq, Eq)]
@@ -35,7 +39,8 @@ fn put_lines(
     requires { WholeReady bytes.now k env.old sp id }
     ensures { (g : WholeReady bytes.now k env.old sp id) → Lined g env.new text.old text.new result }
 {
-    let mut state = Walk::new(Mode::Listing);
+    let mut ids = [0; MOST];
+    let mut state = Walk::new(Mode::Listing, &mut ids);
     state.machine.streams = id;
     // Under no units nothing stops the walk.
     let walked = walk(bytes, k, 0, sp, env, &mut [], &mut state, text).unwrap();

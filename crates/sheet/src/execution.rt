@@ -31,7 +31,7 @@ fn perform(
     ensures { (g : Admitted job.now task (length env.old)) → Performs (execution g (length buf.old) (length answer.old)) buf.old buf.new answer.old answer.new result }
 {
     let formula = task.formula;
-    let mut state = Walk::new(Mode::Running);
+    let mut state = Walk::new(Mode::Running, &mut []);
     let sp = load(job, formula, counts, env, buf, &mut state.machine)?;
     let body = formula.expression;
     let depth = walk(job, body, 1, sp, env, buf, &mut state, &mut [])?.depth;

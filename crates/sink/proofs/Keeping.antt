@@ -8,7 +8,7 @@ use mathlib.Core.List.{List, [], ◌∷◌, ◌++◌, append_assoc}
 use mathlib.Core.Path.{◌≡◌, refl, sym, ap, ◌∙◌, subst}
 use borrow.Author.Tests.{lt-ltb, le-ltb, eq-eqb, ne_eqb}
 use lib.Dec.{ltb, eqb}
-use lib.ListN.{length, get_or, take, drop, set, length-append, length-take, length-drop, take-append-drop, drop_of_length-le, get_or-append}
+use lib.ListN.{length, get_or, take, drop, set, length-append, length-take, length-drop, take-append-drop, drop_of_length-le}
 use lib.Seq.{take-suc, drop-cons, take_at, drop_at, drop-drop, take-take, set-append_left, set_split, length-take-le}
 use Rattle.snesl.specs.Programs.{insert}
 use Rattle.snesl.proofs.Compiled.Members.{◌∈◌}
@@ -125,9 +125,13 @@ module _ (front back rest : List ℕ) (x u : ℕ) (p n : ℕ) (at : length front
       ∙ (ap (λ l. (l ++ u ∷ drop (suc p) (take (p + 1) whole)) ++ (back ++ rest)) first
       ∙ (ap (λ l. (front ++ u ∷ l) ++ (back ++ rest)) last ∙ append_assoc front (u ∷ []) (back ++ rest)))))))
 
+-- where an id stands among the ids that a slice shows
+pub ranked : {u : ℕ} {shown us : List ℕ} {r : Option ℕ} → shown ≡ us → Ranks u shown r → Ranks u us r
+ranked {u} {shown} {us} {r} e k = subst (λ l. Ranks u l r) e k
+
 -- ---- what is kept
 module _ {taken : List ℕ} {most : ℕ} {s : Kept} (m : Marks taken most s) where
-  pub kept-ids : take s.count s.ids ≡ taken
+  pub kept-ids : take s.count s.ids.now ≡ taken
   kept-ids = ap (λ l. take s.count l) m.ids-are ∙ take_at taken m.rest s.count (sym m.count-is)
 
   rest-long : length m.rest ≡ most - length taken
@@ -145,33 +149,33 @@ module _ {taken : List ℕ} {most : ℕ} {s : Kept} (m : Marks taken most s) whe
       open-mark : mark own most u taken ≡ elim (ltb (length taken) most) [ true ↦ insert u taken | false ↦ taken ]
       open-mark = ap (λ b. elim b [ true ↦ elim (ltb (length taken) most) [ true ↦ insert u taken | false ↦ taken ] | false ↦ taken ]) (lt-ltb u own h)
 
-      pub mark-full : length s.ids ≤ s.count → Marks (mark own most u taken) most s
+      pub mark-full : length s.ids.now ≤ s.count → Marks (mark own most u taken) most s
       mark-full g = kept-as (mark own most u taken) (open-mark ∙ ap (λ b. elim b [ true ↦ insert u taken | false ↦ taken ]) (le-ltb (length taken) most (omega (arith, m.whole, m.count-is))))
 
-      module _ (g : s.count < length s.ids) where
+      module _ (g : s.count < length s.ids.now) where
         kept-mark : mark own most u taken ≡ insert u taken
         kept-mark = open-mark ∙ ap (λ b. elim b [ true ↦ insert u taken | false ↦ taken ]) (lt-ltb (length taken) most (omega (arith, m.whole, m.count-is)))
 
-        pub mark-held : {r : Option ℕ} → Ranks u (take s.count s.ids) r → r ≡ None → Marks (mark own most u taken) most s
+        pub mark-held : {r : Option ℕ} → Ranks u (take s.count s.ids.now) r → r ≡ None → Marks (mark own most u taken) most s
         mark-held k e = kept-as (mark own most u taken) (kept-mark ∙ subst (λ l. insert u l ≡ l) kept-ids (k.held e))
 
         -- the ids from p on go one up, and u comes before them
-        pub mark-new : {r : Option ℕ} → Ranks u (take s.count s.ids) r → {p : ℕ} → r ≡ Some p
-            → {new : List ℕ} → new ≡ take (p + 1) s.ids ++ take (s.count - p) (drop p s.ids) ++ drop (p + 1 + (s.count - p)) s.ids
-            → Marks (mark own most u taken) most (record { count = s.count + 1; ids = set new p u })
-        mark-new k {p} e {new} w = go m.rest refl
+        pub mark-new : {r : Option ℕ} → Ranks u (take s.count s.ids.now) r → {p : ℕ} → r ≡ Some p
+            → {new : List ℕ} → new ≡ take (p + 1) s.ids.now ++ take (s.count - p) (drop p s.ids.now) ++ drop (p + 1 + (s.count - p)) s.ids.now
+            → (s' : Kept) → s'.count ≡ s.count + 1 → s'.ids.now ≡ set new p u → Marks (mark own most u taken) most s'
+        mark-new k {p} e {new} w s' next put = go m.rest refl
           where
             placed : (p ≤ length taken) × (insert u taken ≡ take p taken ++ u ∷ drop p taken)
             placed = subst (λ l. (p ≤ length l) × (insert u l ≡ take p l ++ u ∷ drop p l)) kept-ids (k.new p e)
 
-            go : (rest : List ℕ) → m.rest ≡ rest → Marks (mark own most u taken) most (record { count = s.count + 1; ids = set new p u })
+            go : (rest : List ℕ) → m.rest ≡ rest → Marks (mark own most u taken) most s'
             go [] q = let r = rest-long in let z = ap length q in absurd (omega (arith, m.whole, m.count-is))
             go (x ∷ rest) q =
                 let a : List ℕ = take p taken in
                 let b : List ℕ = drop p taken in
                 let la : length a ≡ p = length-take-le p taken placed.0 in
                 let lb : length b ≡ s.count - p = length-drop p taken ∙ omega (arith, m.count-is) in
-                let shape : s.ids ≡ a ++ (b ++ x ∷ rest) =
+                let shape : s.ids.now ≡ a ++ (b ++ x ∷ rest) =
                 m.ids-are ∙ (ap (λ l. taken ++ l) q ∙ (ap (λ l. l ++ x ∷ rest) (sym (take-append-drop p taken)) ∙ append_assoc a b (x ∷ rest))) in
                 let done : set new p u ≡ a ++ u ∷ (b ++ rest) =
                 ap (λ l. set l p u) w
@@ -182,11 +186,11 @@ module _ {taken : List ℕ} {most : ℕ} {s : Kept} (m : Marks taken most s) whe
                 ap length marked ∙ (length-append a (u ∷ b) ∙ omega (arith, la, lb, m.count-is, placed.0)) in
                 record {
                   rest = rest;
-                  ids-are = done ∙ (sym (append_assoc a (u ∷ b) rest) ∙ ap (λ l. l ++ rest) (sym marked));
-                  count-is = omega (arith, more, m.count-is);
+                  ids-are = put ∙ (done ∙ (sym (append_assoc a (u ∷ b) rest) ∙ ap (λ l. l ++ rest) (sym marked)));
+                  count-is = omega (arith, next, more, m.count-is);
                   whole =
                       let q1 = rest-long in let q2 = ap length q in
-                      ap length done ∙ (length-append a (u ∷ (b ++ rest)) ∙ omega (arith, length-append b rest, la, lb, m.whole, m.count-is, placed.0));
+                      ap length put ∙ (ap length done ∙ (length-append a (u ∷ (b ++ rest)) ∙ omega (arith, length-append b rest, la, lb, m.whole, m.count-is, placed.0)));
                   kept = omega (arith, more, m.whole, m.count-is);
                   small = m.small;
                 }

@@ -6,9 +6,9 @@ use Rattle.sink.specs.declared.state.Kept.{Kept}
 -- these ids are kept, and so many can be
 pub record Marks (taken : List ℕ) (most : ℕ) (s : Kept) : Type 0 where
   pub rest : List ℕ
-  pub ids-are : s.ids ≡ taken ++ rest
+  pub ids-are : s.ids.now ≡ taken ++ rest
   pub count-is : s.count ≡ length taken
-  pub whole : length s.ids ≡ most
+  pub whole : length s.ids.now ≡ most
   pub kept : length taken ≤ most
   pub small : most ≤ 65536
 

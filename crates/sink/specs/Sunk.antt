@@ -28,9 +28,9 @@ pub record Sunk (k : Sink) (text : List ℕ) (s : state.Sink) : Type 0 where
   pub text-is : text ≡ k.text
   pub plain : k.mode ≡ Listing → Plain k
 
--- a sink that nothing was told, at the start of this text
-abbrev pub starting : Mode → List ℕ → Sink
-starting mode text = record { mode = mode; text = text; at = 0; own = 0; taken = []; most = 72 }
+-- a sink that nothing was told, at the start of this text; a survey keeps at most so many ids
+abbrev pub starting : ℕ → Mode → List ℕ → Sink
+starting most mode text = record { mode = mode; text = text; at = 0; own = 0; taken = []; most = most }
 
 -- what telling a sink leaves: the sink after, and the machine as it was
 pub record Tells (after : Sink) (text : List ℕ) (w old : Walk) : Type 0 where

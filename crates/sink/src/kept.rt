@@ -1,11 +1,21 @@
 // The ids that a survey keeps: ascending, each once.
-ghost use Rattle.std.specs.Prelude.{ℕ, ◌+◌, ◌<◌, List, ◌≡◌, length};
+ghost use Rattle.std.specs.Prelude.{ℕ, ◌≤◌, List, ◌≡◌, length, take};
 ghost use Rattle.sink.specs.Sinks.{mark, mark_all};
 ghost use Rattle.sink.specs.Kept.{Marks, Ranks};
 ghost use Rattle.sink.specs.Uses.{used_ids};
 
 use crate::state::Kept;
 use crate::uses::Used;
+
+// Those that are kept.
+pub(crate) fn taken<'s>(kept: &'s Kept) -> &'s [usize]
+    requires { kept.now.count ≤ length kept.now.ids.now }
+    ensures { result.now ≡ take kept.now.count kept.now.ids.now }
+{
+    let count = kept.count;
+    let ids = &*kept.ids;
+    &ids[..count]
+}
 
 // Where an id goes that is none of these: behind those that are less.
 fn seek(u: usize, ids: &[usize]) -> Option<usize>
@@ -34,7 +44,7 @@ fn mark_one(u: usize, own: usize, kept: &mut Kept)
     if count >= kept.ids.len() {
         return;
     }
-    if let Some(r) = seek(u, &kept.ids[..count]) {
+    if let Some(r) = seek(u, taken(kept)) {
         kept.ids.copy_within(r..count, r + 1);
         kept.ids[r] = u;
         kept.count = count + 1;

@@ -8,6 +8,7 @@ ghost use Rattle.sink.specs.Sinks as sinks;
 ghost use Rattle.sink.specs.Sinks.{opened, surveyed};
 ghost use Rattle.sink.specs.Sunk.{Sunk, Tells, Opening, opening, Lines, Opens, Resumes};
 
+use crate::kept::taken;
 use crate::state::{FAR, Mode, Sink, Walk};
 use crate::trees::put_outs;
 use instructions::put_instruction;
@@ -112,7 +113,7 @@ pub fn open_body(
     ensures { (k : sinks.Sink) (g : Opening env.now q depth k text.old state.old.sink) → Opens k g.tree control.0 text.new state.new state.old }
 {
     let sink = &state.sink;
-    let kept = &sink.kept.ids[..sink.kept.count];
+    let kept = taken(&sink.kept);
     let next = state.machine.streams;
     let end = put_opening(env, q, depth, control, next, kept, sink, text);
     end_survey(end, state);

@@ -1,15 +1,11 @@
 // What a walk keeps beside its stack and its buffers: the machine's counters, and its sink.
-ghost use Rattle.std.specs.Prelude.{ℕ, List, ◌≡◌};
+ghost use Rattle.std.specs.Prelude.{ℕ, List, ◌≡◌, ◌≤◌, length};
 ghost use Rattle.sink.specs.Sunk.{Sunk, starting};
 
 use environment::machine::Machine;
-use snesl::limits::Formula;
 
 // No line begins past this position.
 pub const FAR: usize = 1_073_741_824;
-
-// The most ids that a body takes in: those of the listed variables of a GU, each of the deepest type.
-pub const MOST: usize = Formula::LISTED * (Formula::DEPTH as usize + 1);
 
 // What is done with an instruction besides executing it.
 #[derive(Clone, Copy, Debug, PartialEq, Eq)]
@@ -19,33 +15,33 @@ pub enum Mode {
     Surveying,
 }
 
-// The ids that a survey keeps, ascending and each once: the first `count` of these.
+// The ids that a survey keeps, ascending and each once: the first `count` of what is lent for them. It keeps no more than there is room for.
 #[derive(Drop)]
-pub struct Kept {
+pub struct Kept<'a> {
     pub count: usize,
-    pub ids: [usize; MOST],
+    pub ids: &'a mut [usize],
 }
 
 // Where a listing comes next in its text, and the first id of the body that is surveyed.
 #[derive(Drop)]
-pub struct Sink {
+pub struct Sink<'a> {
     pub mode: Mode,
     pub at: usize,
     pub own: usize,
-    pub kept: Kept,
+    pub kept: Kept<'a>,
 }
 
 #[derive(Drop)]
-pub struct Walk {
+pub struct Walk<'a> {
     pub machine: Machine,
-    pub sink: Sink,
+    pub sink: Sink<'a>,
 }
 
-impl Walk {
-    // Where no walk has begun: nothing is counted, and nothing told.
-    pub fn new(mode: Mode) -> Walk
+impl<'a> Walk<'a> {
+    // Where no walk has begun: nothing is counted, and nothing told. A survey keeps as many ids as are lent here.
+    pub fn new(mode: Mode, ids: &'a mut [usize]) -> Walk<'a>
         ensures machine { result.machine ≡ record { streams = 0; room = 0; work = 0; steps = 0 } }
-        ensures sink { (text : List ℕ) → Sunk (starting mode text) text result.sink }
+        ensures sink { length ids.old ≤ 65536 → (text : List ℕ) → Sunk (starting (length ids.old) mode text) text result.sink }
     {
         Walk {
             machine: Machine {
@@ -58,10 +54,7 @@ impl Walk {
                 mode,
                 at: 0,
                 own: 0,
-                kept: Kept {
-                    count: 0,
-                    ids: [0; MOST],
-                },
+                kept: Kept { count: 0, ids },
             },
         }
     }

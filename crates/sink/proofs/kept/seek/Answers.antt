@@ -1,5 +1,4 @@
 -- The ids before i are less than u.
-use native.Mathlib.Omega.{arith}
 use Rattle.sink.proofs.Keeping as keeping
 use Rattle.sink.proofs.kept.seek.Goals as goal
 
