@@ -17,7 +17,7 @@ pub struct Declaration {
 }
 
 // The base that a mark declares, if it is an input's.
-pub fn base_of(mark: u16) -> Option<Base>
+pub fn declared_base(mark: u16) -> Option<Base>
     ensures declared { result ≡ base_option (input_base mark) }
     ensures base { unwrap_or result Base.Int ≡ base_of_mark mark }
 {
@@ -30,11 +30,18 @@ pub fn base_of(mark: u16) -> Option<Base>
     }
 }
 
+// The base that an input's mark declares; int where the mark is none.
+pub fn base_of(mark: u16) -> Base
+    ensures { result ≡ base_of_mark mark }
+{
+    declared_base(mark).unwrap_or(Base::Int)
+}
+
 // Does the mark start an input record?
 pub fn is_input(mark: u16) -> bool
     ensures { result ≡ is_input mark }
 {
-    base_of(mark).is_some()
+    declared_base(mark).is_some()
 }
 
 // Input number i, counted from 0: the records stand first, four bytes each.
@@ -46,7 +53,7 @@ pub fn declared(bytes: &[u8], i: usize) -> Declaration
     Declaration {
         place,
         name: Variable(bytes[place + 2]),
-        base: base_of(mark_at(bytes, place)).unwrap_or(Base::Int),
+        base: base_of(mark_at(bytes, place)),
         depth: bytes[place + 3],
     }
 }
