@@ -1,6 +1,17 @@
-// The stream buffer is set to zero.
-ghost use Rattle.std.specs.Prelude.{◌≡◌, pos};
+// Runs of stores over the stream buffer.
+ghost use Rattle.std.specs.Prelude.{◌≡◌, ◌-◌, ◌≤◌, pos, length, replicate};
+ghost use Rattle.std.proofs.lemmas.List.Edits.{sets};
 ghost use Rattle.laws.specs.Parts.{cleared};
+
+// z from `from` up to `to`; nothing where that is none.
+pub fn fill(buf: &mut [i32], from: usize, to: usize, z: i32)
+    requires { to ≤ length buf.old }
+    ensures { buf.new ≡ sets buf.old from (replicate (to - from) z) }
+{
+    if from < to {
+        buf[from..to].fill(z);
+    }
+}
 
 // Zeros from `from` to the end.
 pub fn clear(buf: &mut [i32], from: usize)
