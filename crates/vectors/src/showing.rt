@@ -13,11 +13,13 @@ use snesl::limits::Buffer;
 const ANSWER: usize = 4096;
 
 // The number of the first field, from one on, that ends a list: a semicolon or the bar; the line's length where there is none.
-fn list_end(line: &[u8], from: usize) -> usize {
+fn list_end(line: &[u8], from: usize) -> usize
+    ensures { result ≤ length line.now }
+{
     let ends = |word: &[u8]| matches!(word.first(), Some(b';' | b'|'));
     let mut words = line.split(|byte| *byte == b' ').skip(from);
     match words.position(ends) {
-        Some(count) => from.saturating_add(count),
+        Some(count) => from.saturating_add(count).min(line.len()),
         None => line.len(),
     }
 }
