@@ -283,7 +283,9 @@ fn enter(bytes: &[u8], inputs: usize, env: &mut [Binding]) -> Result<usize, Refu
 }
 
 // Refusals 5 and 6 of the formula that the bytes start with, where it was read: a repeated input before anything in the expression. A formula that has a
-// type also has its walk's words, so that whoever walks it lends itself no more.
+// type also has its walk's words, so that whoever walks it lends itself no more. It is not folded into its caller, so that its bindings are off the machine's
+// stack before the walk begins.
+#[inline(never)]
 pub fn check_front(bytes: &[u8], formula: Formula) -> Result<Judged, Refusal>
     requires { Ok formula ≡ formula_of (front_of bytes.now) }
     ensures { result ≡ judge_front (front_of bytes.now) }
