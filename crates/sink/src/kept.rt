@@ -7,7 +7,7 @@ ghost use Rattle.sink.specs.Uses.{used_ids};
 use crate::state::Kept;
 use crate::uses::Used;
 
-// Those that are kept.
+// The lent places that hold an id.
 pub(crate) fn taken<'s>(kept: &'s Kept) -> &'s [usize]
     requires { kept.now.count ≤ length kept.now.ids.now }
     ensures { result.now ≡ take kept.now.count kept.now.ids.now }

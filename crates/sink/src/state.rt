@@ -15,7 +15,7 @@ pub enum Mode {
     Surveying,
 }
 
-// The ids that a survey keeps, ascending and each once: the first `count` of what is lent for them. It keeps no more than there is room for.
+// The ids that a survey keeps: ascending, each once, in the first `count` places that are lent for them. Where no place is left, one more is not kept.
 #[derive(Drop)]
 pub struct Kept<'a> {
     pub count: usize,
@@ -38,7 +38,7 @@ pub struct Walk<'a> {
 }
 
 impl<'a> Walk<'a> {
-    // Where no walk has begun: nothing is counted, and nothing told. A survey keeps as many ids as are lent here.
+    // Where no walk has begun: nothing is counted, and nothing told. A survey keeps at most as many ids as places are lent here.
     pub fn new(mode: Mode, ids: &'a mut [usize]) -> Walk<'a>
         ensures machine { result.machine ≡ record { streams = 0; room = 0; work = 0; steps = 0 } }
         ensures sink { length ids.old ≤ 65536 → (text : List ℕ) → Sunk (starting (length ids.old) mode text) text result.sink }

@@ -3,7 +3,7 @@ ghost use Rattle.std.specs.Prelude.{◌≡◌, ◌-◌, ◌≤◌, pos, length, 
 ghost use Rattle.std.proofs.lemmas.List.Edits.{sets};
 ghost use Rattle.laws.specs.Parts.{cleared};
 
-// z from `from` up to `to`; nothing where that is none.
+// z from `from` up to `to`; nothing where `to` is not past `from`.
 pub fn fill(buf: &mut [i32], from: usize, to: usize, z: i32)
     requires { to ≤ length buf.old }
     ensures { buf.new ≡ sets buf.old from (replicate (to - from) z) }
