@@ -6,9 +6,9 @@ use mathlib.Core.Logic.{◌⊎◌, inl, inr}
 use mathlib.Core.Option.{Option, some, none}
 use mathlib.Core.Path.{◌≡◌, refl, sym, ap, subst, ◌∙◌}
 use native.Mathlib.Omega.{arith}
-use lib.Dec.{eqb, leb}
+use lib.Dec.{eqb, leb, ltb}
 use lib.ListN.{length}
-use borrow.Author.Tests.{eqb-true, ne_eqb, le-leb, lt-leb}
+use borrow.Author.Tests.{eqb-true, ne_eqb, le-leb, lt-leb, ltb-true, ltb-false}
 use Rattle.std.specs.Prelude.{Result, Ok, Err}
 use Rattle.laws.proofs.Options.{none-some}
 use Rattle.snesl.specs.declared.code.Base.{Base}
@@ -183,11 +183,11 @@ module _ (t : List ℕ) where
                 ∙ ap (λ z. more (count + 1) (declared_of (inputs_at z t (k + 4)))) (omega arith)));
           }
 
-      pub last : q ≡ Ok false → Ok (record { inputs = count; end = k }) ≡ declared_of (inputs_at most_inputs t 0)
-      last f = sym (d.rest ∙ (ap (more count) (one_less f) ∙ ap (λ z. Ok (record { inputs = z; end = k })) (omega arith)))
+      last-below : q ≡ Ok false → Ok (record { inputs = count; end = k }) ≡ declared_of (inputs_at most_inputs t 0)
+      last-below f = sym (d.rest ∙ (ap (more count) (one_less f) ∙ ap (λ z. Ok (record { inputs = z; end = k })) (omega arith)))
 
-      pub stopped : {r : Refusal} → q ≡ Err r → Err r ≡ declared_of (inputs_at most_inputs t 0)
-      stopped f = sym (d.rest ∙ ap (more count) (one_less f))
+      stopped-below : {r : Refusal} → q ≡ Err r → Err r ≡ declared_of (inputs_at most_inputs t 0)
+      stopped-below f = sym (d.rest ∙ ap (more count) (one_less f))
 
     -- as many are read as are allowed
     module _ (h : most_inputs ≤ count) where
@@ -204,3 +204,18 @@ module _ (t : List ℕ) where
 
       pub stopped-full : {r : Refusal} → q ≡ Err r → Err r ≡ declared_of (inputs_at most_inputs t 0)
       stopped-full f = sym (d.rest ∙ ap (more count) (no_more f))
+
+    -- however many are read
+    pub last : q ≡ Ok false → Ok (record { inputs = count; end = k }) ≡ declared_of (inputs_at most_inputs t 0)
+    last f = go (ltb count most_inputs) refl
+      where
+        go : (b : Bool) → ltb count most_inputs ≡ b → Ok (record { inputs = count; end = k }) ≡ declared_of (inputs_at most_inputs t 0)
+        go true e = last-below (ltb-true count most_inputs e) f
+        go false e = last-full (ltb-false count most_inputs e) f
+
+    pub stopped : {r : Refusal} → q ≡ Err r → Err r ≡ declared_of (inputs_at most_inputs t 0)
+    stopped {r} f = go (ltb count most_inputs) refl
+      where
+        go : (b : Bool) → ltb count most_inputs ≡ b → Err r ≡ declared_of (inputs_at most_inputs t 0)
+        go true e = stopped-below (ltb-true count most_inputs e) f
+        go false e = stopped-full (ltb-false count most_inputs e) f

@@ -5,7 +5,7 @@ use mathlib.Core.List.{List}
 use mathlib.Core.Path.{◌≡◌, refl, sym, ap, ◌∙◌}
 use lib.Dec.{eqb}
 use lib.ListN.{length}
-use borrow.Author.Tests.{le-leb, lt-leb, eqb-true}
+use borrow.Author.Tests.{le-leb, lt-leb, eqb-true, eq-eqb, ne_eqb}
 use Rattle.std.specs.Prelude.{Result, Ok, Err}
 use Rattle.snesl.specs.declared.limits.Formula.{Formula}
 use Rattle.snesl.specs.declared.limits.Job.{Job}
@@ -90,11 +90,18 @@ module _ (t : List ℕ) where
       alone-by : go_on u (λ z. Ok f) ≡ formula_of (read_formula t)
       alone-by = ap (λ z. go_on z (λ y. Ok f)) e ∙ (ap (λ z. go_on z alone) (sym q) ∙ read-alone)
 
-      pub left_over : {g : Refusal} → u ≡ Err g → Err g ≡ formula_of (read_formula t)
-      left_over v = ap (λ z. go_on z (λ y. Ok f)) (sym v) ∙ alone-by
+      pub formula-left : {g : Refusal} → u ≡ Err g → Err g ≡ formula_of (read_formula t)
+      formula-left v = ap (λ z. go_on z (λ y. Ok f)) (sym v) ∙ alone-by
 
-      pub all_read : {w : Unit {0}} → u ≡ Ok w → Ok f ≡ formula_of (read_formula t)
-      all_read v = ap (λ z. go_on z (λ y. Ok f)) (sym v) ∙ alone-by
+      pub formula-whole : {w : Unit {0}} → u ≡ Ok w → Ok f ≡ formula_of (read_formula t)
+      formula-whole v = ap (λ z. go_on z (λ y. Ok f)) (sym v) ∙ alone-by
+
+  -- a formula's own end is the bytes', or not
+  pub all_read : (f : Formula) → f.end ≡ length t → Ok f ≡ go_on (Ok f) alone
+  all_read f e = rw (eq-eqb f.end (length t) e, go_on)
+
+  pub left_over : (f : Formula) → (f.end ≡ length t → ⊥) → Err (NoRecord f.end) ≡ go_on (Ok f) alone
+  left_over f n = rw (ne_eqb f.end (length t) n, go_on)
 
   -- the texts behind the expression, and nothing behind them
   abbrev job_by : Formula → ℕ → Result Job Refusal
@@ -118,6 +125,12 @@ module _ (t : List ℕ) where
           ap (λ z. Ok (record { formula = record { inputs = length is; expression = k; end = next }; end = z })) (sym (eqb-true end (length t) p))
       go false p = refl
 
+  pub all-texts : (f : Formula) (end : ℕ) → end ≡ length t → Ok (record { formula = f; end = end }) ≡ go_on (Ok end) (job_by f)
+  all-texts f end e = rw (eq-eqb end (length t) e, go_on)
+
+  pub more_bytes : (f : Formula) (end : ℕ) → (end ≡ length t → ⊥) → Err (NoRecord end) ≡ go_on (Ok end) (job_by f)
+  more_bytes f end n = rw (ne_eqb end (length t) n, go_on)
+
   job-ends : (f : Front) → job_of t (job_end t f) ≡ go_on (formula_of f) supplied
   job-ends (refused r) = refl
   job-ends (front is k e next) = texts-end is k e next (texts_at (length is) t next)
@@ -140,8 +153,8 @@ module _ (t : List ℕ) where
         ended-by : go_on u (λ z. Ok (record { formula = f; end = end })) ≡ job_of t (read_job t)
         ended-by = ap (λ z. go_on z (λ y. Ok (record { formula = f; end = end }))) e ∙ (ap (λ z. go_on z (job_by f)) (sym w) ∙ texted)
 
-        pub more_bytes : {g : Refusal} → u ≡ Err g → Err g ≡ job_of t (read_job t)
-        more_bytes y = ap (λ z. go_on z (λ a. Ok (record { formula = f; end = end }))) (sym y) ∙ ended-by
+        pub job-left : {g : Refusal} → u ≡ Err g → Err g ≡ job_of t (read_job t)
+        job-left y = ap (λ z. go_on z (λ a. Ok (record { formula = f; end = end }))) (sym y) ∙ ended-by
 
-        pub all-texts : {a : Unit {0}} → u ≡ Ok a → Ok (record { formula = f; end = end }) ≡ job_of t (read_job t)
-        all-texts y = ap (λ z. go_on z (λ a. Ok (record { formula = f; end = end }))) (sym y) ∙ ended-by
+        pub job-whole : {a : Unit {0}} → u ≡ Ok a → Ok (record { formula = f; end = end }) ≡ job_of t (read_job t)
+        job-whole y = ap (λ z. go_on z (λ a. Ok (record { formula = f; end = end }))) (sym y) ∙ ended-by

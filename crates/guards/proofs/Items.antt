@@ -23,10 +23,9 @@ use Rattle.environment.proofs.Stack.{drop-above}
 use Rattle.environment.proofs.Finding.{length-tree}
 use Rattle.sink.specs.declared.state.Walk.{Walk}
 use Rattle.sink.specs.Sinks.{Sink, told}
-use Rattle.sink.specs.declared.state.Sink as lent
-use Rattle.sink.specs.Sunk.{Sunk}
+use Rattle.sink.specs.Sunk.{Sunk, Tells}
 use Rattle.steps.specs.Walking.{walked}
-use Rattle.steps.specs.Holding.{place}
+use Rattle.steps.specs.Holding.{Held, place}
 use Rattle.steps.proofs.Stores.{kept}
 use Rattle.steps.proofs.Walking.{Grown, walked-grown}
 use Rattle.leaves.proofs.Growing.{keeps_then}
@@ -151,14 +150,14 @@ module _ {p : Packing} {d : ℕ} {t : Tree ℕ d} {f b : ℕ} {c : Base} {m : St
         (drop-above env₃ (written p.to items₃ env₂) (p.low - 3) p.low
         (subst (λ s. drop (p.low - 3) env₃ ≡ drop (p.low - 3) (written p.to (tree_words (map_tree (place over.after.store) (pack_tree t s))) env₂)) v.number over.left.words) (omega arith))
 
-    pub items-whole : {sink₄ : lent.Sink} {text₄ : List ℕ} → ((j : Sink) → Sunk j text₃ state₃.sink → Sunk (told Close j) text₄ sink₄)
-        → Ends p (node t f) b c m k n env env₃ buf buf₃ (record { machine = state₃.machine; sink = sink₄ }) text₄ (Ok tt)
+    pub items-whole : {state₄ : Walk} {text₄ : List ℕ} → ((j : Sink) → Sunk j text₃ state₃.sink → Tells (told Close j) text₄ state₄ state₃)
+        → Ends p (node t f) b c m k n env env₃ buf buf₃ state₄ text₄ (Ok tt)
     unfolding pack_tree tree_words map_tree
-    items-whole {sink₄} {text₄} w =
+    items-whole {state₄} {text₄} w =
         ends-whole over.after (run-same ∙ over.went_to)
         (record {
-          held = over.left.held;
-          sunk = subst (λ j. Sunk j text₄ sink₄) (sym v.fed) (w _ over.left.sunk);
+          held = subst (Held over.after buf₃) (sym (w _ over.left.sunk).machine) over.left.held;
+          sunk = subst (λ j. Sunk j text₄ state₄.sink) (sym v.fed) (w _ over.left.sunk).sunk;
           kept = keeps_then m₁.store grown.streams over.after.store buf buf₂ buf₃ (o.kept ∙ v.kept) over.left.kept grown.store;
           kinds =
               kinds-node v.flags kinds₃ (ap (λ σ. σ ! z) grown.store ∙ kept m₁.store grown.streams z v.flags v.flags-there) v.flags-kind;
@@ -242,9 +241,9 @@ module _ {p : Packing} {env : List ℕ} {buf : List ℤ} {state : Walk} {text : 
           pub close-ready : (d : ℕ) × (t : Tree ℕ d) × (b : ℕ) × (c : Base) × (m : State) × (k : Sink) × Packs p t b c m k env buf state text → r₂ ≡ (Ok tt) → (j : Sink) × Sunk j text₃ state₃.sink
           close-ready x e = sunk-of x.1 x.6 e
 
-          pub node-whole : {sink₄ : lent.Sink} {text₄ : List ℕ} → r₂ ≡ (Ok tt) → ((j : Sink) → Sunk j text₃ state₃.sink → Sunk (told Close j) text₄ sink₄)
+          pub node-whole : {state₄ : Walk} {text₄ : List ℕ} → r₂ ≡ (Ok tt) → ((j : Sink) → Sunk j text₃ state₃.sink → Tells (told Close j) text₄ state₄ state₃)
               → (d : ℕ) (t : Tree ℕ d) (b : ℕ) (c : Base) (m : State) (k : Sink) → Packs p t b c m k env buf state text
-              → Ends p t b c m k n env env₃ buf buf₃ (record { machine = state₃.machine; sink = sink₄ }) text₄ (Ok tt)
+              → Ends p t b c m k n env env₃ buf buf₃ state₄ text₄ (Ok tt)
           node-whole e w d (leaf s) b c m k g = absurd (z g.deep)
           node-whole e w d (node t f) b c m k g =
               let v = (w₁ _ t f b c m k g).goes_in units e₁ in

@@ -118,22 +118,23 @@ kept-long (true ∷ cs) (x ∷ xs) e = ap suc (kept-long cs xs (omega arith)) �
 
 -- ---- ToFlags
 
-pub negative-here : (zs : List ℤ) (i : ℕ) → i < length zs → lt_z (get_or zs i (pos 0)) (pos 0) ≡ true → first_negative i (drop i zs) ≡ some i
+pub negative-here : (k : ℕ) (z : ℤ) (zs : List ℤ) → lt_z z (pos 0) ≡ true → first_negative k (z ∷ zs) ≡ some k
 unfolding first_negative
-negative-here zs i h e = ap (first_negative i) (next zs i h) ∙ go (get_or zs i (pos 0)) e
-  where
-    go : (z : ℤ) → lt_z z (pos 0) ≡ true → first_negative i (z ∷ drop (i + 1) zs) ≡ some i
-    go (pos m) f = absurd (omega (arith, ltb-true m 0 f))
-    go (negsuc m) f = refl
+negative-here k (pos m) zs e = absurd (omega (arith, ltb-true m 0 e))
+negative-here k (negsuc m) zs e = refl
 
-pub negative-not : (zs : List ℤ) (i : ℕ) → i < length zs → lt_z (get_or zs i (pos 0)) (pos 0) ≡ false →
-    first_negative i (drop i zs) ≡ first_negative (i + 1) (drop (i + 1) zs)
+pub negative-not : (k : ℕ) (z : ℤ) (zs : List ℤ) → lt_z z (pos 0) ≡ false → first_negative k (z ∷ zs) ≡ first_negative (k + 1) zs
 unfolding first_negative
-negative-not zs i h e = ap (first_negative i) (next zs i h) ∙ go (get_or zs i (pos 0)) e
-  where
-    go : (z : ℤ) → lt_z z (pos 0) ≡ false → first_negative i (z ∷ drop (i + 1) zs) ≡ first_negative (i + 1) (drop (i + 1) zs)
-    go (pos m) f = rw add-one
-    go (negsuc m) f = never (cc)
+negative-not k (pos m) zs e = rw add-one
+negative-not k (negsuc m) zs e = never (cc)
+
+-- by its place
+pub negative-at : (zs : List ℤ) (i : ℕ) → i < length zs → lt_z (get_or zs i (pos 0)) (pos 0) ≡ true → first_negative i (drop i zs) ≡ some i
+negative-at zs i h e = ap (first_negative i) (next zs i h) ∙ negative-here i (get_or zs i (pos 0)) (drop (i + 1) zs) e
+
+pub not-negative-at : (zs : List ℤ) (i : ℕ) → i < length zs → lt_z (get_or zs i (pos 0)) (pos 0) ≡ false
+    → first_negative i (drop i zs) ≡ first_negative (i + 1) (drop (i + 1) zs)
+not-negative-at zs i h e = ap (first_negative i) (next zs i h) ∙ negative-not i (get_or zs i (pos 0)) (drop (i + 1) zs) e
 
 pub natural-here : (zs : List ℤ) (i : ℕ) → i < length zs → first_negative i (drop i zs) ≡ none → lt_z (get_or zs i (pos 0)) (pos 0) ≡ false
 unfolding first_negative

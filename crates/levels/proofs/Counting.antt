@@ -86,11 +86,13 @@ module _ {ns places : List ℕ} {start i at : ℕ} (a : Placing ns places start 
   pub placing-next : i < length ns → at + get_or ns i 0 ≡ start + sum_of (take (i + 1) ns)
   placing-next h = omega (arith, a.next, sum-front i ns h)
 
-  pub placing-fits : i < length ns → start + sum_of ns < 2 ^ 64 → at + get_or ns i 0 < 2 ^ 64
-  placing-fits h f =
-      let e : take (length ns) ns ≡ ns = take_all (length ns) ns (omega arith) in
-      let l : sum_of (take (i + 1) ns) ≤ sum_of ns = subst (λ (l : List ℕ). sum_of (take (i + 1) ns) ≤ sum_of l) e (sum_less (i + 1) (length ns) ns (omega arith)) in
-      omega (arith, placing-next h)
+  pub placing-fits : (n : ℕ) → i < n → n ≤ length ns → start + sum_of (take n ns) < 2 ^ 64 → at + get_or ns i 0 < 2 ^ 64
+  placing-fits n h l f = omega (arith, placing-next (omega arith), sum_less (i + 1) n ns (omega arith))
+
+  -- where all of them fit
+  pub placing-fits-all : i < length ns → start + sum_of ns < 2 ^ 64 → at + get_or ns i 0 < 2 ^ 64
+  placing-fits-all h f =
+      placing-fits (length ns) h (omega arith) (subst (λ (l : List ℕ). start + sum_of l < 2 ^ 64) (sym (take_all (length ns) ns (omega arith))) f)
 
   pub placing-on : i < length ns → i < length places → Placing ns (set places i at) start (i + 1) (at + get_or ns i 0)
   placing-on h l = record { done = λ j k. go j k (eqb j i) refl; next = placing-next h }

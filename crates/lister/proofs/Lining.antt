@@ -26,6 +26,7 @@ use Rattle.sink.specs.Sunk.{Sunk, starting}
 use Rattle.sink.proofs.Sinking.{landed}
 use Rattle.sink.proofs.Feeding.{feed-listing}
 use Rattle.steps.specs.Holding.{Held, place}
+use Rattle.streams.specs.Answers.{widest_buffer}
 use Rattle.steps.specs.Walking.{walked}
 use Rattle.leaves.specs.Places.{places}
 use Rattle.leaves.specs.Scenes.{Scene, Left, reached, answer, Runs}
@@ -55,19 +56,20 @@ module _ {t : List ℕ} {k : ℕ} {env : List ℕ} {sp s : ℕ} (g : WholeReady 
   none : contents g.store ≡ []
   none = bare-contents g.bare
 
-  -- a new walk with the inputs' streams, at the start of the text
-  module _ {new : Walk} (none_counted : new.machine ≡ counting 0) (sunk_at : (text : List ℕ) → Sunk (beginning text) text new.sink) (text : List ℕ) where
+  -- a new walk with the inputs' streams, at the start of the text; the buffer holds none of them
+  module _ {new : Walk} (none_counted : new.machine ≡ counting 0) (sunk_at : (text : List ℕ) → Sunk (beginning text) text new.sink)
+      (buf : List ℤ) (lent : length buf ≤ widest_buffer) (text : List ℕ) where
     abbrev w : Walk
     w = begun s new
 
     counts : w.machine ≡ counting s
     counts = ap (λ (m : Machine). record { streams = s; room = m.room; work = m.work; steps = m.steps }) none_counted
 
-    held : Held machine [] w.machine
+    held : Held machine buf w.machine
     held =
         record {
           counts-are = counts ∙ (ap (λ n. counting n) (sym g.number) ∙ ap (λ l. record { streams = length g.store; room = length l; work = 0; steps = 0 }) (sym none));
-          contents-are = ap (λ l. take (length l) []) none ∙ sym none;
+          contents-are = ap (λ l. take (length l) buf) none ∙ sym none;
           fits = omega (arith, ap length none);
           short = omega arith;
           few = omega (arith, g.few, g.number);
@@ -75,7 +77,7 @@ module _ {t : List ℕ} {k : ℕ} {env : List ℕ} {sp s : ℕ} (g : WholeReady 
           cheap = omega arith;
         }
 
-    scene : Scene env sp [] w text
+    scene : Scene env sp buf w text
     scene =
         record {
           context = g.context;
@@ -93,7 +95,7 @@ module _ {t : List ℕ} {k : ℕ} {env : List ℕ} {sp s : ℕ} (g : WholeReady 
           wide = record { room = λ e. omega arith };
         }
 
-    pub ready : Ready t k sp env [] w text
+    pub ready : Ready t k sp env buf w text
     unfolding scene
     ready =
         record {
@@ -110,11 +112,11 @@ module _ {t : List ℕ} {k : ℕ} {env : List ℕ} {sp s : ℕ} (g : WholeReady 
 
     -- what the walk has left
     module _ {env₁ : List ℕ} {buf₁ : List ℤ} {state₁ : Walk} {text₁ : List ℕ} {r : Result Walked Refusal}
-        (F : (h : Ready t k sp env [] w text) → Runs h.scene h.term 0 h.next env₁ buf₁ state₁ text₁ r) where
+        (F : (h : Ready t k sp env buf w text) → Runs h.scene h.term 0 h.next env₁ buf₁ state₁ text₁ r) where
       ran : Runs ready.scene ready.term 0 ready.next env₁ buf₁ state₁ text₁ r
       ran = F ready
 
-      through : walked (length {A = ℤ} []) 0 p machine ≡ went (skip p machine)
+      through : walked (length buf) 0 p machine ≡ went (skip p machine)
       unfolding walked
       through = refl
 
@@ -125,7 +127,7 @@ module _ {t : List ℕ} {k : ℕ} {env : List ℕ} {sp s : ℕ} (g : WholeReady 
       pub never-stopped : IsOk r
       never-stopped = subst IsOk (sym says) refl
 
-      left : Left (skip p machine) (feed (length g.store) p (beginning text)) g.type (tree g.term g.trees (length g.store)) sp env env₁ [] buf₁ state₁ text₁
+      left : Left (skip p machine) (feed (length g.store) p (beginning text)) g.type (tree g.term g.trees (length g.store)) sp env env₁ buf buf₁ state₁ text₁
       unfolding ready scene
       left = ran.leaves (skip p machine) through
 

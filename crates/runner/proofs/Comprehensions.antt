@@ -3,7 +3,7 @@ use Prim.Native.Nat.{ℕ, suc, ◌+◌, ◌*◌, ◌-◌, ◌≤◌, ◌<◌}
 use mathlib.Core.Bool.{Bool}
 use mathlib.Core.List.{List, [], ◌∷◌, ◌++◌, append_assoc}
 use mathlib.Core.Option.{some}
-use mathlib.Core.Path.{◌≡◌, refl, sym, ◌∙◌, ap}
+use mathlib.Core.Path.{◌≡◌, refl, sym, ◌∙◌, ap, subst}
 use native.Mathlib.Omega.{arith}
 use lib.IntN.{ℤ}
 use lib.ListN.{length, drop, length-append}
@@ -26,9 +26,8 @@ use Rattle.sink.specs.declared.state.Walk.{Walk}
 use Rattle.steps.specs.Walking.{walked}
 use Rattle.environment.proofs.Stack.{drop-above, rest-is}
 use Rattle.sink.specs.Sinks.{Sink, opened, closed, feed, told}
-use Rattle.sink.specs.declared.state.Sink as lent
-use Rattle.sink.specs.Sunk.{Sunk}
-use Rattle.steps.specs.Holding.{keeps, place, most_streams}
+use Rattle.sink.specs.Sunk.{Sunk, Tells}
+use Rattle.steps.specs.Holding.{Held, keeps, place, most_streams}
 use Rattle.snesl.specs.Records.{byte_at, variable_at, variables_at}
 use Rattle.records.proofs.Variables.{length-variables}
 use Rattle.steps.proofs.Stores.{kept}
@@ -141,11 +140,11 @@ module _ {t : List ℕ} {β : Body} {sp : ℕ} {env : List ℕ} {buf : List ℤ}
         flags-place =
             sym (ap (λ σ. place σ g.flags) gr.store ∙ place_kept g.over.ready.scene.machine.store gr.streams g.flags (flags g.bits) g.stored)
 
-        pub body-runs : {env₄ : List ℕ} {sink₄ : lent.Sink} {text₄ : List ℕ} → length env₃ ≡ length env₂ → ((j : Sink) → Sunk j text₃ state₃.sink → Sunk (told Close j) text₄ sink₄)
+        pub body-runs : {env₄ : List ℕ} {state₄ : Walk} {text₄ : List ℕ} → length env₃ ≡ length env₂ → ((j : Sink) → Sunk j text₃ state₃.sink → Tells (told Close j) text₄ state₄ state₃)
             → env₄ ≡ written (sp - 3 - tree_size d) (part (β.inner - tree_size d) (tree_size d) env₃) env₃
-            → Comprehends g env₄ buf₃ (record { machine = state₃.machine; sink = sink₄ }) text₄ (reached (d + 1) end)
+            → Comprehends g env₄ buf₃ state₄ text₄ (reached (d + 1) end)
         unfolding tree_words map_tree
-        body-runs {env₄} {sink₄} {text₄} long₃ c w₄ =
+        body-runs {env₄} {state₄} {text₄} long₃ c w₄ =
             let moved : env₄ ≡ written (sp - 3 - tree_size (depth_of g.over.ready.type)) (part (β.inner - tree_size (depth_of g.over.ready.type)) (tree_size (depth_of g.over.ready.type)) env₃) env₃ =
             w₄ ∙ ap (λ c. written (sp - 3 - tree_size c) (part (β.inner - tree_size c) (tree_size c) env₃) env₃) body-depth in
             let below : β.inner ≤ sp - 3 = omega (arith, g.below) in
@@ -162,8 +161,8 @@ module _ {t : List ℕ} {β : Body} {sp : ℕ} {env : List ℕ} {buf : List ℤ}
             ran-answer (λ j. reached (deeper j) (sym body_end.next-is j))
             (ran-through body_end.after (whole_is ∙ body_end.went_to)
             (record {
-              held = body_end.left.held;
-              sunk = (c _ body_end.left.sunk);
+              held = subst (Held body_end.after buf₃) (sym (c _ body_end.left.sunk).machine) body_end.left.held;
+              sunk = (c _ body_end.left.sunk).sunk;
               kept = keeps_then g.over.ready.scene.machine.store gr.streams body_end.after.store buf buf₂ buf₃ o.kept body_end.left.kept gr.store;
               shapely =
                   shapely-node g.bits body_end.left.shapely

@@ -35,7 +35,7 @@ use Rattle.sink.specs.declared.state.Walk.{Walk}
 use Rattle.sink.specs.Sinks.{feed}
 use Rattle.steps.specs.Holding.{most_streams}
 use Rattle.steps.proofs.Walking.{walked-done}
-use Rattle.leaves.specs.Scenes.{Runs}
+use Rattle.leaves.specs.Scenes.{reached, Runs}
 use Rattle.leaves.specs.Arms.{Named, named-const, named-truth, named-operation, named-negation, named-sum, Sole, Counting}
 use Rattle.bodies.specs.Bodies.{Each}
 use Rattle.leaves.specs.declared.Form.{Form}
@@ -171,15 +171,15 @@ module _ {t : List ℕ} {k sp : ℕ} {env : List ℕ} {buf : List ℤ} {state : 
     g.scene.within,
   )
 
-  pub name_runs : {env' : List ℕ} {v : Walked} {x : Variable} (n : ℕ) → Ok (route.Name x) ≡ routed k (head_of k (head_at t k))
-      → ((s : Sought env sp x) → (v ≡ record { depth = depth_of s.type; next = k + 3 }) × (drop (sp - tree_size (depth_of s.type)) env' ≡ tree_words (lookup s.pointer s.trees) ++ drop sp env))
-      → Runs g.scene g.term n g.next env' buf state text (Ok v)
+  pub name_runs : {env' : List ℕ} {r : Returned Walked Refusal} {x : Variable} (n : ℕ) → Ok (route.Name x) ≡ routed k (head_of k (head_at t k))
+      → ((s : Sought env sp x) → (r ≡ reached (depth_of s.type) (k + 3)) × (drop (sp - tree_size (depth_of s.type)) env' ≡ tree_words (lookup s.pointer s.trees) ++ drop sp env))
+      → Runs g.scene g.term n g.next env' buf state text r
   unfolding code tree feed
-  name_runs {env'} {v} {x} n h w =
-      by-var (λ τ e next. Runs g.scene e n next env' buf state text (Ok v)) g.formed (told t k (head.Var x) (named-head k _ h)).0
+  name_runs {env'} {r} {x} n h w =
+      by-var (λ τ e next. Runs g.scene e n next env' buf state text r) g.formed (told t k (head.Var x) (named-head k _ h)).0
       (λ τ u f.
       let a = w (sought g.scene u f) in
-      ran-answer (ap Ok (sym a.0))
+      ran-answer (sym a.0)
       (ran-through g.scene.machine (walked-done (length buf) n g.scene.machine)
       (record {
         held = g.scene.held;
@@ -360,9 +360,13 @@ module _ {t : List ℕ} {k sp : ℕ} {env : List ℕ} {buf : List ℤ} {state : 
 
   -- ---- no record
 
-  pub no_record : {X : Type 0} {q : Refusal} → Err q ≡ head_of k (head_at t k) → X
-  no_record {X} {q} h = go (untold t k q h)
+  pub no_record : {X : Type 0} {q : Refusal} → Err q ≡ routed k (head_of k (head_at t k)) → X
+  no_record {X} {q} h = go (untold t k q (none (head_of k (head_at t k)) h))
     where
+      none : (a : Returned Head Refusal) → Err q ≡ routed k a → Err q ≡ a
+      none (Err q') e = let same : q ≡ q' = cc in ap Err same
+      none (Ok h') e = never (cc)
+
       go : ((q ≡ NoRecord k) × (head_at t k ≡ absent)) ⊎ ((q ≡ OverLimit k) × (head_at t k ≡ over)) → X
       go (inl e) = not-absent (λ τ e next. X) g.formed e.1
       go (inr e) = not-over (λ τ e next. X) g.formed e.1

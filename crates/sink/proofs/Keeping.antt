@@ -10,6 +10,7 @@ use borrow.Author.Tests.{lt-ltb, le-ltb, eq-eqb, ne_eqb}
 use lib.Dec.{ltb, eqb}
 use lib.ListN.{length, get_or, take, drop, set, length-append, length-take, length-drop, take-append-drop, drop_of_length-le}
 use lib.Seq.{take-suc, drop-cons, take_at, drop_at, drop-drop, take-take, set-append_left, set_split, length-take-le}
+use Rattle.laws.specs.Parts.{part, written}
 use Rattle.snesl.specs.Programs.{insert}
 use Rattle.snesl.proofs.Compiled.Members.{◌∈◌}
 use Rattle.std.specs.Prelude.{Option, Some, None}
@@ -96,8 +97,8 @@ pub ranks-low : {u n p : ℕ} (l : List ℕ) {r : Option ℕ} → Ranks u (take 
 ranks-low {n = n} {p} l k e = let h = (k.new p e).0 in omega (arith, length-take n l)
 
 -- one more among some: those behind it go one up
-module _ (front back rest : List ℕ) (x u : ℕ) (p n : ℕ) (at : length front ≡ p) (many : length back ≡ n) where
-  abbrev whole : List ℕ
+module _ {A : Type 0} (front back rest : List A) (x u : A) (p n : ℕ) (at : length front ≡ p) (many : length back ≡ n) where
+  abbrev whole : List A
   whole = front ++ (back ++ x ∷ rest)
 
   moved : take n (drop p whole) ≡ back
@@ -111,8 +112,8 @@ module _ (front back rest : List ℕ) (x u : ℕ) (p n : ℕ) (at : length front
       ∙ (ap (drop (n + 1)) (drop_at front (back ++ x ∷ rest) p at)
       ∙ (sym (drop-drop 1 n (back ++ x ∷ rest)) ∙ ap (drop 1) (drop_at back (x ∷ rest) n many))))
 
-  pub inserted : set (take (p + 1) whole ++ take n (drop p whole) ++ drop (p + 1 + n) whole) p u ≡ front ++ u ∷ (back ++ rest)
-  inserted =
+  pub put-among : set (take (p + 1) whole ++ take n (drop p whole) ++ drop (p + 1 + n) whole) p u ≡ front ++ u ∷ (back ++ rest)
+  put-among =
       let long : p + 1 ≤ length whole = omega (arith, length-append front (back ++ x ∷ rest), length-append back (x ∷ rest)) in
       let head : length (take (p + 1) whole) ≡ p + 1 = length-take-le (p + 1) whole long in
       let first : take p (take (p + 1) whole) ≡ front = take-take p (p + 1) whole (omega arith) ∙ take_at front (back ++ x ∷ rest) p at in
@@ -124,6 +125,11 @@ module _ (front back rest : List ℕ) (x u : ℕ) (p n : ℕ) (at : length front
       ∙ (ap (λ l. l ++ (back ++ rest)) (set_split (take (p + 1) whole) p u (omega (arith, head)))
       ∙ (ap (λ l. (l ++ u ∷ drop (suc p) (take (p + 1) whole)) ++ (back ++ rest)) first
       ∙ (ap (λ l. (front ++ u ∷ l) ++ (back ++ rest)) last ∙ append_assoc front (u ∷ []) (back ++ rest)))))))
+
+  -- the same of a part that is written one place up
+  pub inserted : set (written (p + 1) (part p n whole) whole) p u ≡ front ++ u ∷ (back ++ rest)
+  unfolding written part
+  inserted = ap (λ k. set (take (p + 1) whole ++ take n (drop p whole) ++ drop (p + 1 + k) whole) p u) (ap length moved ∙ many) ∙ put-among
 
 -- where an id stands among the ids that a slice shows
 pub ranked : {u : ℕ} {shown us : List ℕ} {r : Option ℕ} → shown ≡ us → Ranks u shown r → Ranks u us r
@@ -156,44 +162,54 @@ module _ {taken : List ℕ} {most : ℕ} {s : Kept} (m : Marks taken most s) whe
         kept-mark : mark own most u taken ≡ insert u taken
         kept-mark = open-mark ∙ ap (λ b. elim b [ true ↦ insert u taken | false ↦ taken ]) (lt-ltb (length taken) most (omega (arith, m.whole, m.count-is)))
 
-        pub mark-held : {r : Option ℕ} → Ranks u (take s.count s.ids.now) r → r ≡ None → Marks (mark own most u taken) most s
-        mark-held k e = kept-as (mark own most u taken) (kept-mark ∙ subst (λ l. insert u l ≡ l) kept-ids (k.held e))
+        pub mark-held : insert u taken ≡ taken → Marks (mark own most u taken) most s
+        mark-held e = kept-as (mark own most u taken) (kept-mark ∙ e)
 
         -- the ids from p on go one up, and u comes before them
-        pub mark-new : {r : Option ℕ} → Ranks u (take s.count s.ids.now) r → {p : ℕ} → r ≡ Some p
-            → {new : List ℕ} → new ≡ take (p + 1) s.ids.now ++ take (s.count - p) (drop p s.ids.now) ++ drop (p + 1 + (s.count - p)) s.ids.now
-            → (s' : Kept) → s'.count ≡ s.count + 1 → s'.ids.now ≡ set new p u → Marks (mark own most u taken) most s'
-        mark-new k {p} e {new} w s' next put = go m.rest refl
-          where
-            placed : (p ≤ length taken) × (insert u taken ≡ take p taken ++ u ∷ drop p taken)
-            placed = subst (λ l. (p ≤ length l) × (insert u l ≡ take p l ++ u ∷ drop p l)) kept-ids (k.new p e)
+        module _ {p : ℕ} (le : p ≤ length taken) (e : insert u taken ≡ take p taken ++ u ∷ drop p taken) where
+          pub mark-new : {new : List ℕ} → new ≡ take (p + 1) s.ids.now ++ take (s.count - p) (drop p s.ids.now) ++ drop (p + 1 + (s.count - p)) s.ids.now
+              → (s' : Kept) → s'.count ≡ s.count + 1 → s'.ids.now ≡ set new p u → Marks (mark own most u taken) most s'
+          mark-new {new} w s' next put = go m.rest refl
+            where
+              go : (rest : List ℕ) → m.rest ≡ rest → Marks (mark own most u taken) most s'
+              go [] q = let r = rest-long in let z = ap length q in absurd (omega (arith, m.whole, m.count-is))
+              go (x ∷ rest) q =
+                  let a : List ℕ = take p taken in
+                  let b : List ℕ = drop p taken in
+                  let la : length a ≡ p = length-take-le p taken le in
+                  let lb : length b ≡ s.count - p = length-drop p taken ∙ omega (arith, m.count-is) in
+                  let shape : s.ids.now ≡ a ++ (b ++ x ∷ rest) =
+                  m.ids-are ∙ (ap (λ l. taken ++ l) q ∙ (ap (λ l. l ++ x ∷ rest) (sym (take-append-drop p taken)) ∙ append_assoc a b (x ∷ rest))) in
+                  let done : set new p u ≡ a ++ u ∷ (b ++ rest) =
+                  ap (λ l. set l p u) w
+                  ∙ (ap (λ l. set (take (p + 1) l ++ take (s.count - p) (drop p l) ++ drop (p + 1 + (s.count - p)) l) p u) shape
+                  ∙ put-among a b rest x u p (s.count - p) la lb) in
+                  let marked : mark own most u taken ≡ a ++ u ∷ b = kept-mark ∙ e in
+                  let more : length (mark own most u taken) ≡ length taken + 1 =
+                  ap length marked ∙ (length-append a (u ∷ b) ∙ omega (arith, la, lb, m.count-is, le)) in
+                  record {
+                    rest = rest;
+                    ids-are = put ∙ (done ∙ (sym (append_assoc a (u ∷ b) rest) ∙ ap (λ l. l ++ rest) (sym marked)));
+                    count-is = omega (arith, next, more, m.count-is);
+                    whole =
+                        let q1 = rest-long in let q2 = ap length q in
+                        ap length put ∙ (ap length done ∙ (length-append a (u ∷ (b ++ rest)) ∙ omega (arith, length-append b rest, la, lb, m.whole, m.count-is, le)));
+                    kept = omega (arith, more, m.whole, m.count-is);
+                    small = m.small;
+                  }
 
-            go : (rest : List ℕ) → m.rest ≡ rest → Marks (mark own most u taken) most s'
-            go [] q = let r = rest-long in let z = ap length q in absurd (omega (arith, m.whole, m.count-is))
-            go (x ∷ rest) q =
-                let a : List ℕ = take p taken in
-                let b : List ℕ = drop p taken in
-                let la : length a ≡ p = length-take-le p taken placed.0 in
-                let lb : length b ≡ s.count - p = length-drop p taken ∙ omega (arith, m.count-is) in
-                let shape : s.ids.now ≡ a ++ (b ++ x ∷ rest) =
-                m.ids-are ∙ (ap (λ l. taken ++ l) q ∙ (ap (λ l. l ++ x ∷ rest) (sym (take-append-drop p taken)) ∙ append_assoc a b (x ∷ rest))) in
-                let done : set new p u ≡ a ++ u ∷ (b ++ rest) =
-                ap (λ l. set l p u) w
-                ∙ (ap (λ l. set (take (p + 1) l ++ take (s.count - p) (drop p l) ++ drop (p + 1 + (s.count - p)) l) p u) shape
-                ∙ inserted a b rest x u p (s.count - p) la lb) in
-                let marked : mark own most u taken ≡ a ++ u ∷ b = kept-mark ∙ placed.1 in
-                let more : length (mark own most u taken) ≡ length taken + 1 =
-                ap length marked ∙ (length-append a (u ∷ b) ∙ omega (arith, la, lb, m.count-is, placed.0)) in
-                record {
-                  rest = rest;
-                  ids-are = put ∙ (done ∙ (sym (append_assoc a (u ∷ b) rest) ∙ ap (λ l. l ++ rest) (sym marked)));
-                  count-is = omega (arith, next, more, m.count-is);
-                  whole =
-                      let q1 = rest-long in let q2 = ap length q in
-                      ap length put ∙ (ap length done ∙ (length-append a (u ∷ (b ++ rest)) ∙ omega (arith, length-append b rest, la, lb, m.whole, m.count-is, placed.0)));
-                  kept = omega (arith, more, m.whole, m.count-is);
-                  small = m.small;
-                }
+        -- where a search found it, or its place
+        module _ {r : Option ℕ} (k : Ranks u (take s.count s.ids.now) r) where
+          pub ranked-held : r ≡ None → Marks (mark own most u taken) most s
+          ranked-held e = mark-held (subst (λ l. insert u l ≡ l) kept-ids (k.held e))
+
+          pub ranked-new : {p : ℕ} → r ≡ Some p
+              → {new : List ℕ} → new ≡ take (p + 1) s.ids.now ++ take (s.count - p) (drop p s.ids.now) ++ drop (p + 1 + (s.count - p)) s.ids.now
+              → (s' : Kept) → s'.count ≡ s.count + 1 → s'.ids.now ≡ set new p u → Marks (mark own most u taken) most s'
+          ranked-new {p} e =
+              let placed : (p ≤ length taken) × (insert u taken ≡ take p taken ++ u ∷ drop p taken) =
+              subst (λ l. (p ≤ length l) × (insert u l ≡ take p l ++ u ∷ drop p l)) kept-ids (k.new p e) in
+              mark-new placed.0 placed.1
 
 -- what holds of each id by its place
 pub each-below : (us : List ℕ) (bound : ℕ) → ((i : ℕ) → get_or us i 0 < bound) → (u : ℕ) → u ∈ us → u < bound

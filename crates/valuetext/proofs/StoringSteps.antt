@@ -12,6 +12,7 @@ use lib.IntN.{ℤ}
 use lib.ListN.{length, get_or, take, drop, replicate, length-take}
 use lib.Seq.{sets, sets-eq, take-take, take_at}
 use Rattle.snesl.specs.declared.code.Base.{Base}
+use Rattle.snesl.specs.declared.refusal.Refusal.{Refusal}
 use Rattle.snesl.specs.Values.{Val, type_of}
 use Rattle.snesl.specs.Streams.{Store, len, contents, room}
 use Rattle.snesl.specs.Machine.{sum_of}
@@ -21,14 +22,16 @@ use Rattle.decimals.specs.Numbers.{pick}
 use Rattle.valuetext.specs.Laying.{lay}
 use Rattle.levels.specs.Counts.{total_of}
 use Rattle.valuetext.specs.Reading.{Ready, measuring, filling, Laid, ReadAs, read_no, read-bytes}
-use Rattle.valuetext.specs.Storing.{value_store, value_store_if, text_elements, measured_if, measured, counts_if, counts_after, Fillable, to_streams}
+use Rattle.valuetext.specs.Storing.{value_store, value_store_if, text_elements, measured_if, measured, counts_if, counts_after, Fillable, Conversion, accepted, to_streams}
 use Rattle.std.specs.Option.{ok_or}
 use Rattle.valuetext.specs.declared.storing.Unmeasured.{Unmeasured}
 use Rattle.valuetext.specs.declared.storing.Unmeasured.TheVariants.{Over}
 use Rattle.std.specs.Prelude.{Option as RustOption, Some, None, Result, Ok, Err}
 use Rattle.laws.proofs.Options.{some_pair}
 use Rattle.levels.proofs.Counting.{sum_less}
-use Rattle.valuetext.proofs.Represented.{counted, lens-total, lens-length, placed, Placed, lay-placed, apart-placed}
+use Rattle.snesl.specs.Representation.{represent}
+use Rattle.snesl.proofs.Types.{depth-of-type}
+use Rattle.valuetext.proofs.Represented.{order-length, counted, lens-total, lens-length, placed, Placed, lay-placed, apart-placed}
 
 -- ---- a text and its value
 
@@ -113,8 +116,8 @@ module _ {β : Base} {d : ℕ} {t counts : List ℕ} {start lent : ℕ} (f : Fil
   pub front-length : d + 1 ≡ length (take (d + 1) counts)
   front-length = omega (arith, counted-length, length-take (d + 1) counts)
 
-  pub fill-starts : lent < 2 ^ 61 → start + sum_of (take (d + 1) counts) < 2 ^ 64
-  fill-starts h = omega (arith, sum_room, f.room_for)
+  pub fill-starts : lent < 2 ^ 61 → ((d + 1 ≤ length counts) × (d + 1 ≤ 9)) × (start + sum_of (take (d + 1) counts) < 2 ^ 64)
+  fill-starts h = ((omega (arith, counted-length), omega (arith, f.shallow)), omega (arith, sum_room, f.room_for))
 
   module _ (cs : List ℕ) (starts : (i : ℕ) → i < length (take (d + 1) counts) → get_or cs i 0 ≡ start + sum_of (take i (take (d + 1) counts))) where
     p : (i : ℕ) → i < d + 1 → get_or cs i 0 ≡ start + sum_of (take i counts)
@@ -175,29 +178,63 @@ pub counts_of_lem : (β : Base) (d : ℕ) (t : List ℕ) {n : ℕ} (e : Ok n ≡
     → counts_after β d t c₀ ≡ map len (value_store (type_of β d) (sized β d t n e).value) ++ drop (suc d) c₀
 counts_of_lem β d t {n} e c₀ = ap (λ (o : Option (Val (type_of β d))). counts_if β d o c₀) (sized β d t n e).reads
 
-module _ (t : List ℕ) (β : Base) (d : ℕ) (es : List ℤ) (ls : List ℕ) where
-  -- so its streams have room
-  pub fillable : d ≤ most_depth → {n : ℕ} → Ok n ≡ measured (type_of β d) t → {counts : List ℕ} (c₀ : List ℕ) → counts ≡ counts_after β d t c₀
-      → n ≤ length es → Fillable β d t counts 0 (length es)
-  fillable h {n} e {counts} c₀ q l =
-      let known : Sized β d t n = sized β d t n e in
-      record {
-        value = known.value;
-        reads = known.reads;
-        shallow = h;
-        counted =
-            ap (take (suc d)) (q ∙ counts_of_lem β d t e c₀)
-            ∙ take_at (map len (value_store (type_of β d) known.value)) (drop (suc d) c₀) (suc d) (lens-length β d (known.value ∷ []));
-        room_for = omega (arith, known.size);
-      }
+-- what a conversion answers and leaves is what the definition says
+pub record Outcome (t : List ℕ) (β : Base) (d : ℕ) (es : List ℤ) (ls : List ℕ) (r : Result ℕ Refusal) (es' : List ℤ) (ls' : List ℕ) : Type 0 where
+  pub meets : (r ≡ (to_streams t β d es ls).answer) × ((es' ≡ (to_streams t β d es ls).elements) × (ls' ≡ (to_streams t β d es ls).lengths))
 
-  pub stored : {n : ℕ} → d ≤ most_depth → Ok n ≡ measured (type_of β d) t → n ≤ length es → d + 1 ≤ length ls
-      → sets es 0 (text_elements (type_of β d) t) ≡ (to_streams t β d es ls).elements
-  stored {n} h e l k =
-      let a : Sized β d t n = sized β d t n e in
-      let σ : Store = value_store (type_of β d) a.value in
-      let fits : leb (room σ) (min (length es) most_elements) ≡ true = le-leb (room σ) (min (length es) most_elements) (omega (arith, a.size, a.few)) in
-      let places : leb (suc d) (length ls) ≡ true = le-leb (suc d) (length ls) (omega arith) in
-      let z : 0 + room σ ≡ room σ = omega arith in
-      rw (a.reads, le-ltb most_depth d h, fits, places)
-      (sets-eq (contents σ) es 0 (omega (arith, a.size)) ∙ ap (λ (m : ℕ). contents σ ++ drop m es) z)
+module _ (t : List ℕ) (β : Base) (d : ℕ) (es : List ℤ) (ls : List ℕ) where
+  module _ (h : d ≤ most_depth) {n : ℕ} (e : Ok n ≡ measured (type_of β d) t) where
+    abbrev known : Sized β d t n
+    known = sized β d t n e
+
+    abbrev σ : Store
+    σ = value_store (type_of β d) known.value
+
+    front : {counts : List ℕ} (c₀ : List ℕ) → counts ≡ counts_after β d t c₀ → take (suc d) counts ≡ map len σ
+    front c₀ q = ap (take (suc d)) (q ∙ counts_of_lem β d t e c₀) ∙ take_at (map len σ) (drop (suc d) c₀) (suc d) (lens-length β d (known.value ∷ []))
+
+    -- so its streams have room
+    pub fillable : {counts : List ℕ} (c₀ : List ℕ) → counts ≡ counts_after β d t c₀ → n ≤ length es → Fillable β d t counts 0 (length es)
+    fillable c₀ q l =
+        record {
+          value = known.value;
+          reads = known.reads;
+          shallow = h;
+          counted = front c₀ q;
+          room_for = omega (arith, known.size);
+        }
+
+    module _ (l : n ≤ length es) (k : d + 1 ≤ length ls) where
+      taken : to_streams t β d es ls ≡ accepted σ es ls
+      taken =
+          let fits : leb (room σ) (min (length es) most_elements) ≡ true = le-leb (room σ) (min (length es) most_elements) (omega (arith, known.size, known.few)) in
+          let places : leb (suc d) (length ls) ≡ true = le-leb (suc d) (length ls) (omega arith) in
+          rw (known.reads, le-ltb most_depth d h, fits, places) refl
+
+      pub elements-stored : sets es 0 (text_elements (type_of β d) t) ≡ (to_streams t β d es ls).elements
+      elements-stored =
+          let z : 0 + room σ ≡ room σ = omega arith in
+          ap (λ (o : Option (Val (type_of β d))). sets es 0 (contents (value_store_if (type_of β d) o))) known.reads
+          ∙ sets-eq (contents σ) es 0 (omega (arith, known.size))
+          ∙ ap (λ (m : ℕ). contents σ ++ drop m es) z
+          ∙ sym (ap (λ (c : Conversion). c.elements) taken)
+
+    -- the number, the streams and their lengths
+    pub stored : {es' : List ℤ} {ls' counts : List ℕ} (c₀ : List ℕ) → counts ≡ counts_after β d t c₀ → n ≤ length es → d + 1 ≤ length ls
+        → es' ≡ sets es 0 (text_elements (type_of β d) t)
+        → ls' ≡ take (d + 1) counts ++ drop (d + 1) ls
+        → Outcome t β d es ls (Ok n) es' ls'
+    stored {es'} {ls'} {counts} c₀ q l k w r =
+        let deep : suc d ≡ length σ = sym (order-length (represent (type_of β d) (known.value ∷ [])) ∙ ap suc (depth-of-type β d)) in
+        record {
+          meets = (
+            ap Ok known.size ∙ sym (ap (λ (c : Conversion). c.answer) (taken l k)),
+            (
+              w ∙ elements-stored l k,
+              r
+                  ∙ ap (λ (m : ℕ). take m counts ++ drop m ls) (add-one d)
+                  ∙ ap₂ (λ (x : List ℕ) (m : ℕ). x ++ drop m ls) (front c₀ q) deep
+                  ∙ sym (ap (λ (c : Conversion). c.lengths) (taken l k)),
+            ),
+          );
+        }

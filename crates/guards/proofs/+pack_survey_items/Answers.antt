@@ -49,7 +49,7 @@ pub pack-tell-requires : goal.pack-tell-requires
 pack-tell-requires t c = close-ready c.pack_level.ensures c.if-p-eq0.false c.in_ok-units.was c.survey_items.ensures c.survey_items.auto.env c.pack.ensures (c.survey_items.auto.buf ∙ c.pack_level.auto.buf) c.requires c.in_ok-pack.was
 
 pub pack-returns : goal.pack-returns
-pack-returns t c = node-whole c.pack_level.ensures c.if-p-eq0.false c.in_ok-units.was c.survey_items.ensures c.survey_items.auto.env c.pack.ensures (c.survey_items.auto.buf ∙ c.pack_level.auto.buf) c.in_ok-pack.was c.tell.ensures
+pack-returns t c = node-whole c.pack_level.ensures c.if-p-eq0.false c.in_ok-units.was c.survey_items.ensures c.survey_items.auto.env c.pack.ensures (c.survey_items.auto.buf ∙ c.pack_level.auto.buf) c.in_ok-pack.was (λ j u. record { sunk = c.tell.ensures j u; machine = refl })
 
 pub pack-returns-in_err-pack : goal.pack-returns-in_err-pack
 pack-returns-in_err-pack t c =

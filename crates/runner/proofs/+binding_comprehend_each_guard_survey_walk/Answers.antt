@@ -1,6 +1,7 @@
 -- The walk and its arms that call it again: the bytes left are the measure. proofs/Dispatch.antt has the arms, proofs/Lets.antt, proofs/Surveys.antt,
 -- proofs/Comprehensions.antt and proofs/Guards.antt what comes of the expressions behind a LT, an EA and a GU.
-use mathlib.Core.Path.{sym, ◌∙◌}
+use mathlib.Core.Path.{refl, sym, ap, ◌∙◌}
+use Rattle.std.proofs.Common.{Ok}
 use Rattle.runner.proofs.Lets as lets
 use Rattle.runner.proofs.Lets.{bound-ready, second-ready}
 use Rattle.runner.proofs.Surveys.{no_line, survey-ready, never-stops, shallow, tree-fits, open-ready, line-told}
@@ -76,7 +77,7 @@ comprehend-overflow_add-result t c = omega (
 )
 
 pub comprehend-returns : goal.comprehend-returns
-comprehend-returns t c = λ g. comprehensions.body-runs g (c.survey.ensures g.over) c.survey.auto.env c.survey.auto.buf (c.walk.ensures (told-ready g (c.survey.ensures g.over) c.survey.auto.env c.survey.auto.buf)) c.in_ok-walked.was c.walk.auto.env c.tell.ensures c.lift_tree.ensures
+comprehend-returns t c = λ g. comprehensions.body-runs g (c.survey.ensures g.over) c.survey.auto.env c.survey.auto.buf (c.walk.ensures (told-ready g (c.survey.ensures g.over) c.survey.auto.env c.survey.auto.buf)) c.in_ok-walked.was c.walk.auto.env (λ j u. record { sunk = c.tell.ensures j u; machine = refl }) c.lift_tree.ensures
 
 pub comprehend-returns-in_err-walked : goal.comprehend-returns-in_err-walked
 comprehend-returns-in_err-walked t c = λ g.
@@ -174,7 +175,7 @@ pub walk-guard-requires : goal.walk-guard-requires
 walk-guard-requires t c = (omega (arith, c.decreases), (guards.guard-at c.requires (dispatch.routing c.args.bytes.now c.args.k c.in-Guard.is c.route_of.ensures c.in_ok-head.was c.head_at.ensures)).guard)
 
 pub walk-returns-in-Name : goal.walk-returns-in-Name
-walk-returns-in-Name t c = λ g. dispatch.name_runs g _ (dispatch.routing c.args.bytes.now c.args.k c.in-Name.is c.route_of.ensures c.in_ok-head.was c.head_at.ensures) c.variable.ensures
+walk-returns-in-Name t c = λ g. dispatch.name_runs g _ (dispatch.routing c.args.bytes.now c.args.k c.in-Name.is c.route_of.ensures c.in_ok-head.was c.head_at.ensures) (λ s. (ap Ok (c.variable.ensures s).0, (c.variable.ensures s).1))
 
 pub walk-returns-in-Single : goal.walk-returns-in-Single
 walk-returns-in-Single t c = λ g. (dispatch.sole-at g (dispatch.routing c.args.bytes.now c.args.k c.in-Single.is c.route_of.ensures c.in_ok-head.was c.head_at.ensures)).runs _ (c.single.ensures (dispatch.sole-at g (dispatch.routing c.args.bytes.now c.args.k c.in-Single.is c.route_of.ensures c.in_ok-head.was c.head_at.ensures)).sole)
@@ -195,4 +196,4 @@ walk-returns-in-Guard t c = λ g. (guards.guard-at g (dispatch.routing c.args.by
     ).guard)
 
 pub walk-returns-in_err-head : goal.walk-returns-in_err-head
-walk-returns-in_err-head t c = λ g. dispatch.no_record g (sym c.in_err-head.was ∙ c.head_at.ensures)
+walk-returns-in_err-head t c = λ g. dispatch.no_record g (ap (dispatch.routed c.args.k) (sym c.in_err-head.was ∙ c.head_at.ensures))

@@ -7,10 +7,10 @@ use Rattle.formula.proofs.read.declare.Goals as goal
 
 pub returns-in_err-entry_at : goal.returns-in_err-entry_at
 returns-in_err-entry_at c = let p = err_from_is_err_and c.from_residual.result c.from_residual.ensures.1 in
-    rw (p.1, p.2) (stopped _ c.loop-inputs.invariant c.entry_at.ensures c.loop-inputs-test.true c.in_err-entry_at.was)
+    rw (p.1, p.2) (stopped _ c.loop-inputs.invariant c.entry_at.ensures c.in_err-entry_at.was)
 
 pub returns-then-not-branch : goal.returns-then-not-branch
-returns-then-not-branch c = last _ c.loop-inputs.invariant c.entry_at.ensures c.loop-inputs-test.true (c.in_ok-entry_at.was ∙ ap Ok c.if-not-branch.true)
+returns-then-not-branch c = last _ c.loop-inputs.invariant c.entry_at.ensures (c.in_ok-entry_at.was ∙ ap Ok c.if-not-branch.true)
 
 pub loop-inputs-preserved : goal.loop-inputs-preserved
 loop-inputs-preserved c =

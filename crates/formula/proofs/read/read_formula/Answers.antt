@@ -1,6 +1,6 @@
 -- The formula's end is the bytes', or what follows is refused.
 use Rattle.std.proofs.lemmas.Result.{err_from_is_err_and}
-use Rattle.formula.proofs.Fronts.{unread, left_over, all_read}
+use Rattle.formula.proofs.Fronts.{unread, formula-left, formula-whole}
 use Rattle.formula.proofs.read.read_formula.Goals as goal
 
 pub returns-in_err-found : goal.returns-in_err-found
@@ -9,7 +9,7 @@ returns-in_err-found c = let p = err_from_is_err_and c.from_residual.result c.fr
 
 pub returns-in_err-ended : goal.returns-in_err-ended
 returns-in_err-ended c = let p = err_from_is_err_and c.from_residual-in_err-ended.result c.from_residual-in_err-ended.ensures.1 in
-    rw (p.1, p.2) (left_over c.args.bytes.now c.front.ensures c.in_ok-found.was c.ended.ensures c.in_err-ended.was)
+    rw (p.1, p.2) (formula-left c.args.bytes.now c.front.ensures c.in_ok-found.was c.ended.ensures c.in_err-ended.was)
 
 pub returns : goal.returns
-returns c = all_read c.args.bytes.now c.front.ensures c.in_ok-found.was c.ended.ensures c.in_ok-ended.was
+returns c = formula-whole c.args.bytes.now c.front.ensures c.in_ok-found.was c.ended.ensures c.in_ok-ended.was

@@ -1,6 +1,6 @@
 -- The texts follow the formula, and their end is the bytes', or what follows is refused.
 use Rattle.std.proofs.lemmas.Result.{err_from_is_err_and}
-use Rattle.formula.proofs.Fronts.{no-formula, no-texts, more_bytes, all-texts}
+use Rattle.formula.proofs.Fronts.{no-formula, no-texts, job-left, job-whole}
 use Rattle.formula.proofs.read.read_job.Goals as goal
 
 pub returns-in_err-formula : goal.returns-in_err-formula
@@ -13,7 +13,7 @@ returns-in_err-end c = let p = err_from_is_err_and c.from_residual-in_err-end.re
 
 pub returns-in_err-ended : goal.returns-in_err-ended
 returns-in_err-ended c = let p = err_from_is_err_and c.from_residual-in_err-ended.result c.from_residual-in_err-ended.ensures.1 in
-    rw (p.1, p.2) (more_bytes c.args.bytes.now c.front.ensures c.in_ok-formula.was c.texts_from.ensures c.in_ok-end.was c.ended.ensures c.in_err-ended.was)
+    rw (p.1, p.2) (job-left c.args.bytes.now c.front.ensures c.in_ok-formula.was c.texts_from.ensures c.in_ok-end.was c.ended.ensures c.in_err-ended.was)
 
 pub returns : goal.returns
-returns c = all-texts c.args.bytes.now c.front.ensures c.in_ok-formula.was c.texts_from.ensures c.in_ok-end.was c.ended.ensures c.in_ok-ended.was
+returns c = job-whole c.args.bytes.now c.front.ensures c.in_ok-formula.was c.texts_from.ensures c.in_ok-end.was c.ended.ensures c.in_ok-ended.was

@@ -13,7 +13,7 @@ use Rattle.streams.specs.Answers.{answered}
 use Rattle.streams.specs.Walks.{told_negative}
 use Rattle.streams.specs.declared.output.Failure.{Failure}
 use Rattle.streams.specs.declared.output.Failure.TheVariants.{Negative, NoRoom}
-use Rattle.itemwise.proofs.Lengths.{negative-here, negative-not, negative-over, unary-at, unary-over}
+use Rattle.itemwise.proofs.Lengths.{negative-at, not-negative-at, negative-over, unary-at, unary-over}
 use Rattle.itemwise.proofs.unary.measure.Goals as goal
 
 -- what is answered, by the first negative
@@ -55,7 +55,7 @@ Holds zs room i free =
 module _ (zs : List ℤ) (room i free : ℕ) (a : Holds zs room i free) where
   module _ (lt : i < length zs) where
     stop : lt_z (get_or zs i (pos 0)) (pos 0) ≡ true → Err (Negative i) ≡ answer room zs (first_negative 0 zs)
-    stop e = sym (ap (answer room zs) (a.1 ∙ negative-here zs i lt e))
+    stop e = sym (ap (answer room zs) (a.1 ∙ negative-at zs i lt e))
 
     module _ (m : ℕ) (n : (pos m ≡ get_or zs i (pos 0)) × (lt_z (get_or zs i (pos 0)) (pos 0) ≡ false)) where
       full : free ≤ m → {f : Failure} → f ≡ told_negative (first_negative i (drop i zs)) → Err f ≡ answer room zs (first_negative 0 zs)
@@ -68,7 +68,7 @@ module _ (zs : List ℤ) (room i free : ℕ) (a : Holds zs room i free) where
               ap (λ (x : Failure). Err x) (p ∙ ap told_negative q) ∙ sym (over-long room zs more) ∙ sym (ap (answer room zs) (a.1 ∙ q))
 
       turn : m < free → Holds zs room (i + 1) (free - (m + 1))
-      turn h = (omega (arith, a.0), a.1 ∙ negative-not zs i lt n.1, omega (arith, a.2, (unary-at zs i m lt n.0).1))
+      turn h = (omega (arith, a.0), a.1 ∙ not-negative-at zs i lt n.1, omega (arith, a.2, (unary-at zs i m lt n.0).1))
 
   over : length zs ≤ i → Ok (room - free) ≡ answer room zs (first_negative 0 zs)
   over end =

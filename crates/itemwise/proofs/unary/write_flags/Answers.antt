@@ -12,7 +12,7 @@ use mir.Val.{Fits, SFits, to_z, of_z}
 use Rattle.laws.proofs.Parts.{sets-append}
 use Rattle.snesl.specs.Streams.{bit}
 use Rattle.snesl.specs.Transducers.{first_negative, unary}
-use Rattle.itemwise.proofs.Lengths.{natural, natural-here, negative-not, unary-at, unary-over}
+use Rattle.itemwise.proofs.Lengths.{natural, natural-here, not-negative-at, unary-at, unary-over}
 use Rattle.itemwise.proofs.unary.write_flags.Goals as goal
 
 -- what holds before a turn at i
@@ -49,7 +49,7 @@ module _ (zs out whole : List ℤ) (i to : ℕ) (a : Holds zs out whole i to) (l
               ∙ sym (ap (sets out to) at.0)
               ∙ a.0,
           omega (arith, a.1, at.1, l),
-          sym (negative-not zs i lt (natural-here zs i lt a.2)) ∙ a.2,
+          sym (not-negative-at zs i lt (natural-here zs i lt a.2)) ∙ a.2,
         )
 
 pub overflow_cast-m : goal.overflow_cast-m

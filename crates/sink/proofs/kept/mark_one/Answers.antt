@@ -25,5 +25,5 @@ returns-then-count-kept c = λ t n m. keeping.mark-full m c.args.own c.args.u c.
 
 pub returns-in-Some : goal.returns-in-Some
 returns-in-Some c = λ t n m.
-    keeping.mark-new m c.args.own c.args.u c.if-u-own.false c.if-count-kept.false (keeping.ranked c.taken.ensures c.seek.ensures) c.in-Some.is
+    keeping.ranked-new m c.args.own c.args.u c.if-u-own.false c.if-count-kept.false (keeping.ranked c.taken.ensures c.seek.ensures) c.in-Some.is
     c.copy_within.ensures.after _ refl refl
