@@ -142,15 +142,15 @@ module _ {t : List ℕ} {a : Task} {env env₁ : List ℕ} (g : Admitted t a (le
           (ap (executed (length buf) (length ans) g.accepted.inputs g.accepted.term g.accepted.given) passed ∙ ap refusal (sym is))
 
   module _ {r₀ : Returned ℕ Refusal} (sp : ℕ) (at : r₀ ≡ Ok sp) (l : Loads (valued-of g) env env₁ buf buf₁ w₁.machine (input_over (length buf) 0 0 g.accepted.given) r₀)
-      (same : length env₁ ≡ length env) {text : List ℕ} (begun : Sunk (starting 0 Running text) text w₁.sink) where
+      (same : length env₁ ≡ length env) {text : List ℕ} {most : ℕ} (begun : Sunk (starting most Running text) text w₁.sink) where
     pub here : Laid (valued-of g) env env₁ buf buf₁ w₁.machine (input_over (length buf) 0 0 g.accepted.given) sp
     here =
         laid
         (subst (λ (x : Returned ℕ Refusal). Loads (valued-of g) env env₁ buf buf₁ w₁.machine (input_over (length buf) 0 0 g.accepted.given) x) at l)
 
-    -- a sink that only runs
+    -- a sink that only runs, whatever a survey could keep
     abbrev pub runs : Sink
-    runs = starting 0 Running text
+    runs = starting most Running text
 
     abbrev pub scene : Scene env₁ sp buf₁ w₁ text
     scene =
